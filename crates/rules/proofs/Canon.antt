@@ -1,0 +1,264 @@
+-- The canonical file of a reading: it is accepted, it has that reading, it is the only one; and a file's rewrite is that of its turned file.
+-- Assumes nothing.
+use mathlib.Core.Path.{_≡_, refl, sym, ap, _∙_}
+use mathlib.Core.Bool.{Bool, true, false, _&&_, _||_}
+use mathlib.Core.List.{List, [], _∷_, _++_, map, append-assoc, append-nil}
+use mathlib.Core.Option.{Option, none, some}
+use Prim.Native.Nat.{ℕ, zero, suc, _+_, _*_, _-_, _/_, _%_, _^_, _≤_, _<_, max}
+use native.Mathlib.Omega.{arith}
+use lib.Dec.{leb, ltb, eqb}
+use borrow.Author.Tests.{leb-true, ltb-true, ltb-false, eqb-true, le-leb, lt-ltb, le-ltb, eq-eqb}
+use lib.ListN.{length, getD, replicate, length-map}
+use Rattle.words.specs.Numbers.{Bytes}
+use Rattle.words.specs.declared.Order.{Order}
+use Rattle.walk.specs.Plays.{Plays, gives, checks, reads}
+use Rattle.walk.specs.Walk.{Event, size, passed, render, _>>=_, _>>_}
+use Rattle.walk.proofs.Laws.{plays-bind, plays-give, size-append, length-render, zeros-length, by-split, by-check, by-read, plays-gave}
+use Rattle.rules.specs.Canonical.{sizeFor, multiplierFor, most, zeroes, recordOf, framesBytes, content, recordingHead, recordingEvents, digits, headerEvents, anew, rewritten, Canonical}
+use Rattle.rules.specs.Rules.{between, padding, padded, makerCode, sameBytes, identifier, version, form, allSpaces, decimal, countOf, countFits, countIs, isScript, FileHeader, fileHeader, span, lengthOf, Recording, Held, contentLimit, Placed, recording, recordings, File, Reading, reading, file, orderOf, judge, channels}
+use Rattle.rules.specs.Turned.{turned}
+use Rattle.rules.proofs.Renew.{and-true, and-both, record-size}
+use Rattle.rules.proofs.Renewed.{RecordingOk, recording-ok, Anew, recording-from}
+use Rattle.rules.proofs.Sized.{sized, Sized}
+use Rattle.rules.proofs.Turn.{judge-render, accepted, is-render, turn-judge, order-of-render, bytes-render}
+
+-- A recording
+
+close-at : (T x : ℕ) → T ≤ contentLimit + x → x ≤ 128 → T ≤ 128 * most
+close-at T x h k = omega arith
+
+max-low : (m : ℕ) → m ≤ 128 → max 1 m ≤ 128
+max-low m h = omega arith
+
+pad-low : (n : ℕ) → n ≤ 128 * most → lengthOf (sizeFor n) (multiplierFor n) - n ≤ 128
+pad-low n h = omega (arith, sized n .close, max-low (multiplierFor n) (sized n .low h))
+
+total-low : (held : Option Held) (r : Recording) → RecordingOk held r → 16 + size (content r) ≤ 128 * most
+total-low held r k = close-at (16 + size (content r)) _ (k .limited) (pad-low (framesBytes (r .seconds) (r .channels) (r .frames)) (k .frames .total))
+
+pub recording-plays : (held : Option Held) (r : Recording) → RecordingOk held r → (i room : ℕ) → i < 256 ^ 4 → span (recordingHead i r) ≤ room →
+    Anew held room i (recordOf (recordingHead i r) (content r ++ (zeroes (span (recordingHead i r) - (16 + size (content r))) ∷ []))) r (span (recordingHead i r))
+recording-plays held r k i room b s =
+    let T : ℕ = 16 + size (content r) in
+    let z : Sized T = sized T in
+    let l : multiplierFor T ≤ 128 = z .low (total-low held r k) in
+    recording-from held r k (recordingHead i r) (span (recordingHead i r) - T) (omega (arith, z .serves)) (z .close) i room
+    (record { size = omega (arith, z .small); code = omega arith; serial = b; multiplier = omega arith }) refl
+    (record { low = l; small = omega (arith, z .small); fits = le-leb 16 (span (recordingHead i r)) (omega (arith, z .serves)); room = s; serial = eq-eqb i i refl })
+
+recording-size : (i : ℕ) (r : Recording) → size (recordOf (recordingHead i r) (content r ++ (zeroes (span (recordingHead i r) - (16 + size (content r))) ∷ []))) ≡ span (recordingHead i r)
+unfolding size
+recording-size i r = rw (record-size, size-append, zeros-length) (omega (arith, sized (16 + size (content r)) .serves))
+
+-- The recordings
+
+abbrev pub RecordingsOk : Option Held → List Recording → Type 0
+RecordingsOk held [] = Unit {0}
+RecordingsOk held (r ∷ rs) = RecordingOk held r × RecordingsOk (some (record { channels = r .channels; patient = r .patient })) rs
+
+abbrev pub readings : List Placed → List Recording
+readings ps = map (λ p. p .recording) ps
+
+pub recordings-ok : (n : ℕ) (held : Option Held) (room i : ℕ) {t : List Event} {ps : List Placed} → Plays t (recordings n held room i) ps → (length ps ≡ n) × RecordingsOk held (readings ps)
+unfolding recordings
+recordings-ok zero held room i p = rw (plays-gave p) (refl, tt)
+recordings-ok (suc n) held room i p =
+    by-split (recording held room i) _ p λ r _ _ r₀ p.
+    by-split (recordings n _ _ (suc i)) _ p λ ps _ _ q₀ p.
+    let j = recordings-ok n _ _ (suc i) q₀ in
+    rw (plays-gave p) (ap suc (j .0), (recording-ok held room i r₀, j .1))
+
+pub record AnewAll (held : Option Held) (room i : ℕ) (t : List Event) (rs : List Recording) : Type 0 where
+  pub placed : List Placed
+  pub same : readings placed ≡ rs
+  pub plays : Plays t (recordings (length rs) held room i) placed
+
+recordings-play : (rs : List Recording) (held : Option Held) → RecordingsOk held rs → (i room : ℕ) → i + length rs ≤ 256 ^ 4 → size (recordingEvents i rs) ≤ room → AnewAll held room i (recordingEvents i rs) rs
+unfolding recordings recordingEvents
+recordings-play [] held k i room b s = record { placed = []; same = refl; plays = gives }
+recordings-play (r ∷ rs) held k i room b s =
+    let e = size-append (recordOf (recordingHead i r) (content r ++ (zeroes (span (recordingHead i r) - (16 + size (content r))) ∷ []))) (recordingEvents (suc i) rs) in
+    let f = recording-size i r in
+    let a = recording-plays held r (k .0) i room (omega arith) (omega arith) in
+    let c = recordings-play rs _ (k .1) (suc i) (room - a .layout .bytes) (omega arith) (rw (a .bytes) (omega arith)) in
+    record { placed = record { recording = r; layout = a .layout } ∷ c .placed; same = ap (λ (x : List Recording). r ∷ x) (c .same); plays = plays-bind _ (a .plays) (plays-give _ (c .plays)) }
+
+-- The file header
+
+byte-of : (s : List ℕ) → length s ≡ 1 → Bytes s → getD s 0 0 < 256
+byte-of [] l b = omega arith
+byte-of (x ∷ s) l b = b .0
+
+count-fits : (x : Option ℕ) → countFits x ≡ true → between 1 64 (countIs x) ≡ true
+unfolding between padding padded makerCode
+count-fits none h = h
+count-fits (some k) h = h
+
+pub record HeaderOk (script k : ℕ) : Type 0 where
+  pub byte : script < 256
+  pub letter : isScript script ≡ true
+  pub count : between 1 64 k ≡ true
+
+pub header-ok : (n : ℕ) {t : List Event} {f : FileHeader} → Plays t (fileHeader n) f → HeaderOk (f .script) (f .count)
+unfolding fileHeader _>>=_ _>>_
+header-ok n p =
+    by-check p λ _ p. by-read p λ _ _ _ _ p. by-check p λ _ p. by-read p λ _ _ _ _ p. by-check p λ _ p. by-read p λ _ _ _ _ p. by-check p λ _ p. by-read p λ _ _ _ _ p. by-check p λ _ p.
+    by-read p λ script _ l b p. by-check p λ s p. by-read p λ digits _ _ _ p. by-check p λ c p. by-read p λ _ _ _ _ p. by-check p λ _ p.
+    rw (plays-gave p) (record { byte = byte-of script l b; letter = s; count = count-fits (countOf digits) c })
+
+digit : (v b : ℕ) (bs : List ℕ) → 48 ≤ b → b ≤ 57 → decimal v (b ∷ bs) ≡ decimal (10 * v + (b - 48)) bs
+unfolding decimal between padding padded makerCode
+digit v b bs h k = rw (decimal, and-both (leb 48 b) (leb b 57) (le-leb 48 b h) (le-leb b 57 k))
+
+first : (b : ℕ) (bs : List ℕ) → 48 ≤ b → b ≤ 57 → countOf (b ∷ bs) ≡ decimal 0 (b ∷ bs)
+unfolding countOf between padding padded makerCode
+first b bs h k = rw (countOf, and-both (leb 48 b) (leb b 57) (le-leb 48 b h) (le-leb b 57 k))
+
+one-digit : (k : ℕ) → k < 10 → digits k ≡ (48 + k) ∷ 32 ∷ 32 ∷ 32 ∷ []
+unfolding digits
+one-digit k h = rw (digits, lt-ltb k 10 h)
+
+two-digits : (k : ℕ) → 10 ≤ k → digits k ≡ (48 + k / 10) ∷ (48 + k % 10) ∷ 32 ∷ 32 ∷ []
+unfolding digits
+two-digits k h = rw (digits, le-ltb k 10 h)
+
+spaces-two : (v : ℕ) → decimal v (32 ∷ 32 ∷ []) ≡ some v
+unfolding decimal allSpaces between padding padded makerCode
+spaces-two v = refl
+
+spaces-three : (v : ℕ) → decimal v (32 ∷ 32 ∷ 32 ∷ []) ≡ some v
+unfolding decimal allSpaces between padding padded makerCode
+spaces-three v = refl
+
+record Digits (k : ℕ) (s : List ℕ) : Type 0 where
+  count : countOf s ≡ some k
+  long : length s ≡ 4
+  bytes : Bytes s
+
+digits-ok : (k : ℕ) → k ≤ 64 → Digits k (digits k)
+digits-ok k h = go (ltb k 10) refl
+  where
+    go : (x : Bool) → ltb k 10 ≡ x → Digits k (digits k)
+    go true e =
+        let l : k < 10 = ltb-true k 10 e in
+        let v : 10 * 0 + (48 + k - 48) ≡ k = omega arith in
+        rw (one-digit k l) (record {
+          count = first (48 + k) (32 ∷ 32 ∷ 32 ∷ []) (omega arith) (omega arith) ∙ digit 0 (48 + k) (32 ∷ 32 ∷ 32 ∷ []) (omega arith) (omega arith) ∙ spaces-three (10 * 0 + (48 + k - 48)) ∙ ap {B = Option ℕ} some v;
+          long = refl;
+          bytes = omega arith;
+        })
+    go false e =
+        let l : 10 ≤ k = ltb-false k 10 e in
+        let v : 10 * (10 * 0 + (48 + k / 10 - 48)) + (48 + k % 10 - 48) ≡ k = omega arith in
+        let b : List ℕ = (48 + k % 10) ∷ 32 ∷ 32 ∷ [] in
+        rw (two-digits k l) (record {
+          count = first (48 + k / 10) b (omega arith) (omega arith) ∙ digit 0 (48 + k / 10) b (omega arith) (omega arith) ∙
+              digit (10 * 0 + (48 + k / 10 - 48)) (48 + k % 10) (32 ∷ 32 ∷ []) (omega arith) (omega arith) ∙ spaces-two (10 * (10 * 0 + (48 + k / 10 - 48)) + (48 + k % 10 - 48)) ∙ ap {B = Option ℕ} some v;
+          long = refl;
+          bytes = omega arith;
+        })
+
+header-read : (script k n : ℕ) → HeaderOk script k → Digits k (digits k) → 32 ≤ n → Plays (headerEvents script k) (fileHeader n) (record { script = script; count = countIs (countOf (digits k)) })
+unfolding headerEvents fileHeader identifier version form sameBytes allSpaces _>>=_ _>>_ between padding padded makerCode
+header-read script k n o d l =
+    let c : countFits (countOf (digits k)) ≡ true = rw (d .count) (o .count) in
+    let b₁ : Bytes identifier = omega arith in
+    let b₂ : Bytes version = omega arith in
+    let b₃ : Bytes form = omega arith in
+    let b₄ : Bytes (76 ∷ []) = omega arith in
+    let b₅ : Bytes (replicate 10 32) = omega arith in
+    let b₆ : Bytes (script ∷ []) = (o .byte, tt) in
+    checks (le-leb 32 n l) (reads refl b₁ (checks refl (reads refl b₂ (checks refl (reads refl b₃ (checks refl (reads refl b₄ (checks refl
+    (reads refl b₆ (checks (o .letter) (reads (d .long) (d .bytes) (checks c (reads refl b₅ (checks refl gives))))))))))))))
+
+pub header-plays : (script k n : ℕ) → HeaderOk script k → 32 ≤ n → Plays (headerEvents script k) (fileHeader n) (record { script = script; count = k })
+unfolding between padding padded makerCode
+header-plays script k n o l =
+    let d = digits-ok k (leb-true k 64 (and-true (leb 1 k) _ (o .count) .1)) in
+    let m : countIs (countOf (digits k)) ≡ k = ap countIs (d .count) in
+    rw m at (header-read script k n o d l)
+
+header-size : (script k : ℕ) → HeaderOk script k → size (headerEvents script k) ≡ 32
+unfolding headerEvents identifier version form size between padding padded makerCode
+header-size script k o = omega (arith, digits-ok k (leb-true k 64 (and-true (leb 1 k) _ (o .count) .1)) .long)
+
+-- The file
+
+pub record ReadingOk (v : Reading) : Type 0 where
+  pub header : HeaderOk (v .script) (length (v .recordings))
+  pub recordings : RecordingsOk none (v .recordings)
+
+pub file-ok : (n : ℕ) {t : List Event} {v : File} → Plays t (file n) v → ReadingOk (reading v)
+unfolding file
+file-ok n p =
+    by-split (fileHeader n) _ p λ f _ _ f₀ p.
+    by-split (recordings (f .count) none (n - 32) 1) _ p λ ps _ _ r₀ p.
+    let j = recordings-ok (f .count) none (n - 32) 1 r₀ in
+    let c : length (readings ps) ≡ f .count = length-map ps (λ q. q .recording) ∙ j .0 in
+    rw (plays-gave p) (record { header = rw c (header-ok n f₀); recordings = j .1 })
+
+pub record AnewFile (v : Reading) : Type 0 where
+  pub file : File
+  pub same : reading file ≡ v
+  pub plays : Plays (anew v) (Rattle.rules.specs.Rules.file (size (anew v))) file
+
+pub file-plays : (v : Reading) → ReadingOk v → AnewFile v
+unfolding file anew between padding padded makerCode
+file-plays v k =
+    let e = size-append (headerEvents (v .script) (length (v .recordings))) (recordingEvents 1 (v .recordings)) in
+    let f = header-size (v .script) (length (v .recordings)) (k .header) in
+    let n = leb-true (length (v .recordings)) 64 (and-true (leb 1 (length (v .recordings))) _ (k .header .count) .1) in
+    let c = recordings-play (v .recordings) none (k .recordings) 1 (size (headerEvents (v .script) (length (v .recordings)) ++ recordingEvents 1 (v .recordings)) - 32) (omega arith) (omega arith) in
+    record {
+      file = record { script = v .script; recordings = c .placed };
+      same = λ i. record { script = v .script; recordings = c .same i };
+      plays = plays-bind _ (header-plays (v .script) (length (v .recordings)) _ (k .header) (omega arith)) (plays-give _ (c .plays));
+    }
+
+-- D2
+
+pub rewritten-of : (o : Order) (s : List ℕ) {v : File} {r : List ℕ} {t : List Event} → judge s ≡ passed v r t → rewritten o s ≡ render o (anew (reading v))
+unfolding rewritten
+rewritten-of o s h = rw (rewritten, h)
+
+-- the canonical file of a reading that passes
+pub canonical : (v : Reading) → ReadingOk v → (o : Order) → Canonical v (render o (anew v))
+canonical v k o = let a = file-plays v k in record { file = a .file; judged = judge-render (a .plays) o; same = a .same }
+
+module _ (s : List ℕ) (b : Bytes s) {v : File} {r : List ℕ} {t : List Event} (h : judge s ≡ passed v r t) where
+  -- an accepted file's reading passes
+  pub reading-ok : ReadingOk (reading v)
+  reading-ok = file-ok (length s) (accepted s b h .plays)
+
+  -- (a) and (b): the rewrite is accepted, its reading is the file's, and it is canonical; in the order asked for
+  pub rewrite-canonical : (o : Order) → Canonical (reading v) (rewritten o s)
+  rewrite-canonical o = rw (rewritten-of o s h) (canonical (reading v) reading-ok o)
+
+  pub rewrite-order : (o : Order) → orderOf (rewritten o s) ≡ o
+  rewrite-order o = ap orderOf (rewritten-of o s h) ∙ order-of-render (size (anew (reading v))) (file-plays (reading v) reading-ok .plays) o
+
+  pub rewrite-bytes : (o : Order) → Bytes (rewritten o s)
+  rewrite-bytes o = rw (rewritten-of o s h) (bytes-render (file-plays (reading v) reading-ok .plays) o)
+
+  pub rewrite-length : (o : Order) → length (rewritten o s) ≡ size (anew (reading v))
+  rewrite-length o = ap length (rewritten-of o s h) ∙ length-render o (anew (reading v))
+
+  -- (c): the rewrite of the turned file, and of a rewrite, is the file's
+  pub rewrite-turned : (o : Order) → rewritten o (turned s) ≡ rewritten o s
+  rewrite-turned o = rewritten-of o (turned s) (turn-judge s b h) ∙ sym (rewritten-of o s h)
+
+  pub rewrite-rewritten : (o o′ : Order) → rewritten o (rewritten o′ s) ≡ rewritten o s
+  rewrite-rewritten o o′ =
+      let c = rewrite-canonical o′ in
+      rewritten-of o (rewritten o′ s) (c .judged) ∙ ap (λ (x : Reading). render o (anew x)) (c .same) ∙ sym (rewritten-of o s h)
+
+-- (c): files with one reading have one rewrite
+pub rewrite-same : (o : Order) (s s′ : List ℕ) {v v′ : File} {r r′ : List ℕ} {t t′ : List Event} → judge s ≡ passed v r t → judge s′ ≡ passed v′ r′ t′ → reading v ≡ reading v′ → rewritten o s ≡ rewritten o s′
+rewrite-same o s s′ h k e = rewritten-of o s h ∙ ap (λ (x : Reading). render o (anew x)) e ∙ sym (rewritten-of o s′ k)
+
+-- (d): in one order a reading has one canonical file; a canonical file is its own rewrite
+pub unique : (v : Reading) (s s′ : List ℕ) → Bytes s → Bytes s′ → Canonical v s → Canonical v s′ → orderOf s ≡ orderOf s′ → s ≡ s′
+unique v s s′ b b′ c d e = is-render s b (c .judged) ∙ rw e (sym (is-render s′ b′ (d .judged)))
+
+pub rewrite-itself : (v : Reading) (s : List ℕ) → Bytes s → Canonical v s → rewritten (orderOf s) s ≡ s
+rewrite-itself v s b c = rewritten-of (orderOf s) s (c .judged) ∙ ap (λ (x : Reading). render (orderOf s) (anew x)) (c .same) ∙ sym (is-render s b (c .judged))

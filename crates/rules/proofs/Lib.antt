@@ -1,0 +1,9 @@
+pub mod Room
+pub mod Turn
+pub mod Flip
+pub mod Sized
+pub mod Renew
+pub mod Renewed
+pub mod Canon
+pub mod Places
+pub mod Asked

@@ -1,0 +1,439 @@
+-- A recording, the recordings and the file: the canonical file of a reading is accepted and has that reading.
+-- Assumes nothing.
+use mathlib.Core.Path.{_≡_, refl, sym, ap, _∙_}
+use mathlib.Core.Bool.{Bool, true, false, _&&_, _||_}
+use mathlib.Core.List.{List, [], _∷_, _++_, append-assoc, append-nil}
+use mathlib.Core.Option.{Option, none, some}
+use Prim.Native.Nat.{ℕ, zero, suc, _+_, _*_, _-_, _/_, _%_, _^_, _≤_, _<_, max}
+use native.Mathlib.Nat.{zero-add}
+use native.Mathlib.Omega.{arith}
+use lib.Dec.{leb, ltb, eqb}
+use borrow.Author.Tests.{leb-true, ltb-true, eqb-true, le-leb, lt-ltb, eq-eqb}
+use lib.ListN.{length, replicate}
+use Rattle.walk.specs.Plays.{Plays, gives, checks, lists}
+use Rattle.walk.specs.Walk.{Event, row, size, Walk, give, refuse, _>>=_, _>>_}
+use Rattle.walk.proofs.Laws.{plays-bind, plays-split, plays-give, traced, size-append, by-split, by-check, by-read, plays-gave}
+use Rattle.rules.specs.Canonical.{zeroes, numerals, rowOf, plainHead, recordOf, basicFields, channelsHead, channelsWritten, itemsHead, itemsWritten, frameSize, framesBytes, framesHead, framesWritten, makerEvents, optional, delimiterHead, delimiterEvents, content}
+use Rattle.rules.specs.Rules.{between, padding, padded, makerCode, zeros, Head, head, lengthOf, span, admit, padOk, Basic, basicBody, basic, Channel, channels, Item, items, patientCode, eventCode, frames, Maker, Next, next, Part, part, Recording, heldChannels, heldPatient, contentLimit, delimiter, Layout, Placed, recording, frame}
+use Rattle.rules.proofs.Renew.{HeadOk, head-plays, Admitted, admit-plays, fixed-plays, basic-ok, basic-size, All, record-size, ChannelsOk, few-channels, channels-size, channels-ok, channels-plays, ItemsOk, items-ok, items-size, items-plays, padding-plays, FramesOk, frames-ok, frames-size, frames-plays, if-true, if-false, if-case, MakerOk, next-ok, next-plays, makers-count}
+use Rattle.rules.proofs.Sized.{sized}
+use Rattle.rules.specs.Rules.{between, padding, padded, makerCode, zeros, limit, Head, head, lengthOf, span, admit, padOk, Basic, basicBody, basic, Channel, channels, Item, items, itemBytes, patientCode, eventCode, Frame, Frames, frames, Maker, Held as Inherited, Next, next, Part, part, Recording, heldChannels, heldPatient, contentLimit, delimiter, Layout, Placed, recording}
+
+abbrev pub pick : Bool → Head → Head → Head
+pick true h k = h
+pick false h k = k
+
+-- a part is there, and well; or it is taken over, and no maker's records stand behind it
+abbrev pub PartOk : {A : Type 0} → (A → Type 0) → Option A → Bool → A → List Maker → Type 0
+PartOk P held true a ms = P a × All MakerOk ms
+PartOk P held false a ms = (held ≡ some a) × (ms ≡ [])
+
+module _ {A : Type 0} (P : A → Type 0) (events : A → List Event) (code : ℕ) (body : ℕ → Head → Walk A) where
+  pub record PartIs (held : Option A) (n : Next) (x : Part A) : Type 0 where
+    pub good : PartOk P held (x .own) (x .value) (x .next .makers)
+    pub left : size (optional (x .own) (events (x .value) ++ makerEvents (x .next .makers))) + x .next .room ≡ n .room
+    pub enough : 16 ≤ x .next .room
+
+  part-held : (held : Option A) (n : Next) → 16 ≤ n .room → {t : List Event} {x : Part A} →
+      Plays t (elim held [ none ↦ refuse 9 12 | some a ↦ give (record { own = false; value = a; next = record { makers = []; head = n .head; room = n .room } }) ]) x → PartIs held n x
+  unfolding optional size
+  part-held none n r p = absurd (traced p .trace)
+  part-held (some a) n r p = rw (traced p .value) (record { good = (refl, refl); left = zero-add (n .room); enough = r })
+
+  part-sum : (e m r s room : ℕ) → e ≡ s → m + r ≡ room - s → s ≤ room → e + m + r ≡ room
+  part-sum e m r s room h k l = omega arith
+
+  pub part-ok : ((room : ℕ) (h : Head) (u : List Event) (a : A) → Plays u (body room h) a → P a × (size (events a) ≡ span h) × (span h ≤ room)) →
+      (fuel : ℕ) (held : Option A) (n : Next) → 16 ≤ n .room → {t : List Event} {x : Part A} → Plays t (part fuel code body held n) x → PartIs held n x
+  unfolding part optional
+  part-ok f fuel held n r p =
+      if-case (eqb (n .head .code) code) _ _ p
+      (λ e q.
+      let a = plays-split (body (n .room) (n .head)) _ q in
+      let g = f (n .room) (n .head) (a .first) (a .value) (a .before) in
+      let m = plays-split (next fuel (n .room - span (n .head))) _ (a .behind) in
+      let j = next-ok fuel (n .room - span (n .head)) (m .before) in
+      rw (traced (m .behind) .value)
+      (record {
+        good = (g .0, j .each);
+        left = ap (λ (y : ℕ). y + m .value .room) (size-append (events (a .value)) (makerEvents (m .value .makers))) ∙
+            part-sum (size (events (a .value))) (size (makerEvents (m .value .makers))) (m .value .room) (span (n .head)) (n .room) (g .1) (j .left) (g .2);
+        enough = j .enough;
+      }))
+      (λ e q. part-held held n r q)
+
+  pub part-plays : (own : Bool) (held : Option A) (a : A) (ms m₀ : List Maker) (h k : Head) (inside : List Event) (fuel left : ℕ) → PartOk P held own a ms →
+      events a ≡ recordOf h inside → eqb (h .code) code ≡ true → eqb (k .code) code ≡ false → HeadOk k → makerCode (k .code) ≡ false →
+      (P a → (room : ℕ) → span h ≤ room → Plays (rowOf h ∷ inside) (body room h) a) → (P a → size (events a) ≡ span h) →
+      16 ≤ left → size (optional own (events a ++ makerEvents ms)) + left ≤ fuel →
+      Plays (optional own ((rowOf h ∷ inside) ++ (makerEvents ms ++ numerals k)))
+      (part fuel code body held (record { makers = m₀; head = pick own h k; room = size (optional own (events a ++ makerEvents ms)) + left }))
+      (record { own = own; value = a; next = record { makers = ms; head = k; room = left } })
+  unfolding part optional size _>>=_
+  part-plays true held a ms m₀ h k inside fuel left g e c d o m f s l r =
+      let q : size (events a ++ makerEvents ms) ≡ span h + size (makerEvents ms) = size-append (events a) (makerEvents ms) ∙ ap (λ (y : ℕ). y + size (makerEvents ms)) (s (g .0)) in
+      if-true (eqb (h .code) code) _ _ c
+      (plays-bind _ (f (g .0) _ (omega arith))
+      (plays-give _ (next-plays ms (g .1) k o m fuel _ left (omega (arith, makers-count ms (g .1))) (omega arith) l)))
+  part-plays false held a ms m₀ h k inside fuel left g e c d o m f s l r =
+      rw (g .0, g .1, zero-add left) (if-false (eqb (k .code) code) _ _ d gives)
+
+-- A recording
+
+channelsRecord : List Channel → List Event
+channelsRecord cs = recordOf (channelsHead cs) (channelsWritten cs)
+
+itemsRecord : ℕ → List Item → List Event
+itemsRecord code is = recordOf (itemsHead code is) (itemsWritten is)
+
+pub record RecordingOk (held : Option Inherited) (r : Recording) : Type 0 where
+  pub basic : Plays (basicFields (r .basic)) basicBody (r .basic)
+  pub makers₁ : All MakerOk (r .makers₁)
+  pub channels : PartOk (ChannelsOk (r .basic)) (heldChannels held) (r .ownChannels) (r .channels) (r .makers₂)
+  pub patient : PartOk (ItemsOk patientCode) (heldPatient held) (r .ownPatient) (r .patient) (r .makers₃)
+  pub events : PartOk (ItemsOk eventCode) (some []) (r .ownEvents) (r .events) (r .makers₄)
+  pub frames : FramesOk (r .basic) (r .ownChannels) (r .channels) (r .seconds) (r .frames)
+  pub makers₅ : All MakerOk (r .makers₅)
+  pub limited : 16 + size (content r) ≤ contentLimit + (span (framesHead (r .seconds) (r .channels) (r .frames)) - framesBytes (r .seconds) (r .channels) (r .frames))
+
+-- the lengths of the parts
+partC : Recording → ℕ
+partC r = size (optional (r .ownChannels) (channelsRecord (r .channels) ++ makerEvents (r .makers₂)))
+
+partP : Recording → ℕ
+partP r = size (optional (r .ownPatient) (itemsRecord 130 (r .patient) ++ makerEvents (r .makers₃)))
+
+partE : Recording → ℕ
+partE r = size (optional (r .ownEvents) (itemsRecord 200 (r .events) ++ makerEvents (r .makers₄)))
+
+spanF : Recording → ℕ
+spanF r = span (framesHead (r .seconds) (r .channels) (r .frames))
+
+usedF : Recording → ℕ
+usedF r = framesBytes (r .seconds) (r .channels) (r .frames)
+
+content-size : (r : Recording) → Plays (basicFields (r .basic)) basicBody (r .basic) → FramesOk (r .basic) (r .ownChannels) (r .channels) (r .seconds) (r .frames) →
+    size (content r) ≡ 128 + (size (makerEvents (r .makers₁)) + (partC r + (partP r + (partE r + (spanF r + (size (makerEvents (r .makers₅)) + 16))))))
+unfolding content partC partP partE spanF channelsRecord itemsRecord delimiterEvents size
+content-size r b f =
+    rw (
+      size-append (recordOf (plainHead 128 100 0) (basicFields (r .basic))),
+      record-size,
+      basic-size b,
+      size-append (makerEvents (r .makers₁)),
+      size-append (optional (r .ownChannels) (recordOf (channelsHead (r .channels)) (channelsWritten (r .channels)) ++ makerEvents (r .makers₂))),
+      size-append (optional (r .ownPatient) (recordOf (itemsHead 130 (r .patient)) (itemsWritten (r .patient)) ++ makerEvents (r .makers₃))),
+      size-append (optional (r .ownEvents) (recordOf (itemsHead 200 (r .events)) (itemsWritten (r .events)) ++ makerEvents (r .makers₄))),
+      size-append (recordOf (framesHead (r .seconds) (r .channels) (r .frames)) (framesWritten (r .seconds) (r .channels) (r .frames))),
+      frames-size (r .basic) (r .ownChannels) (r .channels) (r .seconds) (r .frames) f,
+      size-append (makerEvents (r .makers₅)),
+    )
+
+limited-sum : (B m₁ n C c P p E e sp fb pd m₅ d sp′ L all : ℕ) → m₁ + n ≡ B - 144 → C + c ≡ n → P + p ≡ c → E + e ≡ p → fb + pd ≡ sp → sp ≤ e → m₅ + d ≡ e - sp → 16 ≤ d →
+    B - (d - 16) - pd ≤ L → all ≡ 128 + (m₁ + (C + (P + (E + (sp′ + (m₅ + 16)))))) → fb ≤ sp′ → 16 + all ≤ L + (sp′ - fb)
+limited-sum B m₁ n C c P p E e sp fb pd m₅ d sp′ L all h₁ h₂ h₃ h₄ h₅ h₆ h₇ h₈ h₉ h₁₀ h₁₁ =
+    let k₁ : e ≡ sp + (m₅ + d) = omega (arith, h₆, h₇) in
+    let k₂ : B ≡ 144 + (m₁ + (C + (P + (E + (sp + (m₅ + d)))))) = omega (arith, h₁, h₂, h₃, h₄, h₈, k₁) in
+    let k₃ : B - (d - 16) - pd ≡ 160 + (m₁ + (C + (P + (E + (fb + m₅))))) = omega (arith, k₂, h₅, h₈) in
+    let k₄ : 160 + (m₁ + (C + (P + (E + (fb + m₅))))) ≤ L = rw k₃ at h₉ in
+    final m₁ C P E fb m₅ sp′ L all k₄ h₁₀ h₁₁
+  where
+    final : (m₁ C P E fb m₅ sp′ L all : ℕ) → 160 + (m₁ + (C + (P + (E + (fb + m₅))))) ≤ L → all ≡ 128 + (m₁ + (C + (P + (E + (sp′ + (m₅ + 16)))))) → fb ≤ sp′ → 16 + all ≤ L + (sp′ - fb)
+    final m₁ C P E fb m₅ sp′ L all k h g = omega arith
+
+channels-good : (b : Basic) (room : ℕ) (h : Head) (u : List Event) (cs : List Channel) → Plays u (channels b room h) cs → ChannelsOk b cs × (size (channelsRecord cs) ≡ span h) × (span h ≤ room)
+unfolding channelsRecord
+channels-good b room h u cs p = let g = channels-ok b room h p in (g .0, channels-size b cs (g .0) ∙ g .1, g .2)
+
+items-good : (ok : ℕ → Bool) (code room : ℕ) (h : Head) (u : List Event) (is : List Item) → Plays u (items ok room h) is → ItemsOk ok is × (size (itemsRecord code is) ≡ span h) × (span h ≤ room)
+unfolding itemsRecord
+items-good ok code room h u is p = let g = items-ok ok room h p in (g .0, items-size code is ∙ g .1, g .2)
+
+pub recording-ok : (held : Option Inherited) (room i : ℕ) {t : List Event} {x : Placed} → Plays t (recording held room i) x → RecordingOk held (x .recording)
+unfolding recording partC partP partE spanF _>>=_ _>>_ between padding padded makerCode
+recording-ok held room i p =
+    by-split (head room) _ p λ h _ _ _ p. by-check p λ _ p.
+    by-split (admit room 128 (leb 16) (eqb i) h) _ p λ _ _ _ _ p.
+    by-split (basic (span h - 16)) _ p λ b _ _ b₀ p.
+    by-split (next (span h) (span h - 144)) _ p λ n _ _ n₀ p.
+    by-split (part (span h) 120 (channels b) (heldChannels held) n) _ p λ c _ _ c₀ p.
+    by-split (part (span h) 130 (items patientCode) (heldPatient held) (c .next)) _ p λ q _ _ q₀ p.
+    by-split (part (span h) 200 (items eventCode) (some []) (q .next)) _ p λ e _ _ e₀ p. by-check p λ _ p.
+    by-split (frames b (c .own) (c .value) (span h - e .next .room - 20) (e .next .room) (e .next .head)) _ p λ f _ _ f₀ p.
+    by-split (next (span h) (e .next .room - span (e .next .head))) _ p λ d _ _ d₀ p.
+    by-split (delimiter (d .head)) _ p λ _ _ _ _ p. by-check p λ l p. by-check p λ _ p. by-read p λ bs _ _ _ p.
+    by-split (zeros bs) _ p λ _ _ _ _ p.
+    let b₁ = basic-ok (span h - 16) b₀ in
+    let n₁ = next-ok (span h) (span h - 144) n₀ in
+    let c₁ = part-ok (ChannelsOk b) channelsRecord 120 (channels b) (channels-good b) (span h) (heldChannels held) n (n₁ .enough) c₀ in
+    let q₁ = part-ok (ItemsOk patientCode) (itemsRecord 130) 130 (items patientCode) (items-good patientCode 130) (span h) (heldPatient held) (c .next) (c₁ .enough) q₀ in
+    let e₁ = part-ok (ItemsOk eventCode) (itemsRecord 200) 200 (items eventCode) (items-good eventCode 200) (span h) (some []) (q .next) (q₁ .enough) e₀ in
+    let f₁ = frames-ok b (c .own) (c .value) (span h - e .next .room - 20) (e .next .room) (e .next .head) f₀ in
+    let d₁ = next-ok (span h) (e .next .room - span (e .next .head)) d₀ in
+    rw (plays-gave p)
+    (record {
+      basic = b₁;
+      makers₁ = n₁ .each;
+      channels = c₁ .good;
+      patient = q₁ .good;
+      events = e₁ .good;
+      frames = f₁ .0;
+      makers₅ = d₁ .each;
+      limited = limited-sum (span h) _ _ _ _ _ _ _ _ _ _ _ _ _ _ contentLimit _ (n₁ .left) (c₁ .left) (q₁ .left) (e₁ .left) (f₁ .1) (f₁ .2) (d₁ .left) (d₁ .enough) (leb-true _ contentLimit l) (content-size _ b₁ (f₁ .0)) (sized _ .serves);
+    })
+
+-- the events of a recording in the order in which the walk has them: each head is read with what stands before it
+
+shift : (own : Bool) (h k : Head) (inside mk t : List Event) →
+    optional own (recordOf h inside ++ mk) ++ (numerals k ++ t) ≡ numerals (pick own h k) ++ (optional own ((rowOf h ∷ inside) ++ (mk ++ numerals k)) ++ t)
+unfolding optional recordOf
+shift true h k inside mk t = simp append-assoc
+shift false h k inside mk t = refl
+
+assoc : (b m c p e f g d z : List Event) → (b ++ (m ++ (c ++ (p ++ (e ++ (f ++ (g ++ d))))))) ++ z ≡ b ++ (m ++ (c ++ (p ++ (e ++ (f ++ (g ++ (d ++ z)))))))
+assoc b m c p e f g d z = simp append-assoc
+
+module _ (r : Recording) where
+  h140 : Head
+  h140 = framesHead (r .seconds) (r .channels) (r .frames)
+
+  h200 : Head
+  h200 = pick (r .ownEvents) (itemsHead 200 (r .events)) h140
+
+  h130 : Head
+  h130 = pick (r .ownPatient) (itemsHead 130 (r .patient)) h200
+
+  h120 : Head
+  h120 = pick (r .ownChannels) (channelsHead (r .channels)) h130
+
+  eventsC : List Event
+  eventsC = optional (r .ownChannels) ((rowOf (channelsHead (r .channels)) ∷ channelsWritten (r .channels)) ++ (makerEvents (r .makers₂) ++ numerals h130))
+
+  eventsP : List Event
+  eventsP = optional (r .ownPatient) ((rowOf (itemsHead 130 (r .patient)) ∷ itemsWritten (r .patient)) ++ (makerEvents (r .makers₃) ++ numerals h200))
+
+  eventsE : List Event
+  eventsE = optional (r .ownEvents) ((rowOf (itemsHead 200 (r .events)) ∷ itemsWritten (r .events)) ++ (makerEvents (r .makers₄) ++ numerals h140))
+
+  eventsF : List Event
+  eventsF = rowOf h140 ∷ framesWritten (r .seconds) (r .channels) (r .frames)
+
+  arranged : (z : List Event) → content r ++ z ≡
+      recordOf (plainHead 128 100 0) (basicFields (r .basic)) ++ ((makerEvents (r .makers₁) ++ numerals h120) ++ (eventsC ++ (eventsP ++ (eventsE ++ (eventsF ++
+      ((makerEvents (r .makers₅) ++ numerals delimiterHead) ++ (row 16 16 0 0 ∷ z)))))))
+  unfolding content h140 h200 h130 h120 eventsC eventsP eventsE eventsF delimiterEvents recordOf
+  arranged z =
+      let b : List Event = recordOf (plainHead 128 100 0) (basicFields (r .basic)) in
+      let m : List Event = makerEvents (r .makers₁) in
+      let c : List Event = optional (r .ownChannels) (recordOf (channelsHead (r .channels)) (channelsWritten (r .channels)) ++ makerEvents (r .makers₂)) in
+      let p : List Event = optional (r .ownPatient) (recordOf (itemsHead 130 (r .patient)) (itemsWritten (r .patient)) ++ makerEvents (r .makers₃)) in
+      let e : List Event = optional (r .ownEvents) (recordOf (itemsHead 200 (r .events)) (itemsWritten (r .events)) ++ makerEvents (r .makers₄)) in
+      let f : List Event = recordOf h140 (framesWritten (r .seconds) (r .channels) (r .frames)) in
+      let y : List Event = (makerEvents (r .makers₅) ++ numerals delimiterHead) ++ (row 16 16 0 0 ∷ z) in
+      assoc b m c p e f (makerEvents (r .makers₅)) delimiterEvents z ∙
+      ap (λ (x : List Event). b ++ (m ++ (c ++ (p ++ (e ++ (f ++ x)))))) (sym (append-assoc (makerEvents (r .makers₅)) (numerals delimiterHead) (row 16 16 0 0 ∷ z))) ∙
+      ap (λ (x : List Event). b ++ (m ++ (c ++ (p ++ x)))) (shift (r .ownEvents) (itemsHead 200 (r .events)) h140 (itemsWritten (r .events)) (makerEvents (r .makers₄)) (eventsF ++ y)) ∙
+      ap (λ (x : List Event). b ++ (m ++ (c ++ x))) (shift (r .ownPatient) (itemsHead 130 (r .patient)) h200 (itemsWritten (r .patient)) (makerEvents (r .makers₃)) (eventsE ++ (eventsF ++ y))) ∙
+      ap (λ (x : List Event). b ++ (m ++ x)) (shift (r .ownChannels) (channelsHead (r .channels)) h130 (channelsWritten (r .channels)) (makerEvents (r .makers₂)) (eventsP ++ (eventsE ++ (eventsF ++ y)))) ∙
+      ap (λ (x : List Event). b ++ x) (sym (append-assoc m (numerals h120) (eventsC ++ (eventsP ++ (eventsE ++ (eventsF ++ y))))))
+
+pick-is : (Q : Head → Type 0) (own : Bool) (h k : Head) → (own ≡ true → Q h) → Q k → Q (pick own h k)
+pick-is Q true h k f q = f refl
+pick-is Q false h k f q = q
+
+part-own : {A : Type 0} (P : A → Type 0) (held : Option A) (own : Bool) (a : A) (ms : List Maker) → own ≡ true → PartOk P held own a ms → P a
+part-own P held true a ms e g = g .0
+part-own P held false a ms e g = absurd (let z : _≡_ {A = ℕ} 0 1 = cc in omega arith)
+
+record Plain (h : Head) : Type 0 where
+  ok : HeadOk h
+  code : makerCode (h .code) ≡ false
+
+delimiter-plays : Plays (row 16 16 0 0 ∷ []) (delimiter delimiterHead) tt
+unfolding delimiter _>>=_ _>>_
+delimiter-plays = checks refl (checks refl (checks refl (checks refl (lists gives))))
+
+no-padding : (n l x : ℕ) → n * (l - l) + x ≡ x
+no-padding n l x =
+    let e : l - l ≡ 0 = omega arith in
+    rw e (omega arith)
+
+content-fits : (B all pad n l x : ℕ) → B ≡ 16 + all + pad → 16 + all ≤ contentLimit + x → B - (16 + pad - 16) - (n * (l - l) + x) ≤ contentLimit
+content-fits B all pad n l x h k = rw no-padding (omega arith)
+
+-- a recording that is played, wherever it has its parts
+pub record Anew (held : Option Inherited) (room i : ℕ) (t : List Event) (r : Recording) (n : ℕ) : Type 0 where
+  pub layout : Layout
+  pub bytes : layout .bytes ≡ n
+  pub plays : Plays t (recording held room i) (record { recording = r; layout = layout })
+
+module _ (held : Option Inherited) (r : Recording) (k : RecordingOk held r) (h : Head) (pad : ℕ) (total : span h ≡ 16 + size (content r) + pad) (short : pad < max 1 (h .multiplier)) where
+  roomD : ℕ
+  roomD = 16 + pad
+
+  roomF : ℕ
+  roomF = spanF r + (size (makerEvents (r .makers₅)) + roomD)
+
+  roomE : ℕ
+  roomE = partE r + roomF
+
+  roomP : ℕ
+  roomP = partP r + roomE
+
+  roomC : ℕ
+  roomC = partC r + roomP
+
+  rooms : span h ≡ 144 + (size (makerEvents (r .makers₁)) + roomC)
+  unfolding roomC roomP roomE roomF roomD
+  rooms = omega (arith, total, content-size r (k .basic) (k .frames))
+
+  plain140 : Plain (h140 r)
+  unfolding h140 between padding padded makerCode
+  plain140 =
+      let z = sized (framesBytes (r .seconds) (r .channels) (r .frames)) in
+      let t = k .frames .total in
+      record { ok = record { size = omega (arith, z .small); code = omega arith; serial = omega arith; multiplier = omega (arith, z .low t) }; code = refl }
+
+  plain-items : (ok : ℕ → Bool) (code : ℕ) (is : List Item) → ItemsOk ok is → code < 1000 → makerCode code ≡ false → Plain (itemsHead code is)
+  plain-items ok code is g c m = record { ok = record { size = omega (arith, g .small); code = omega arith; serial = omega arith; multiplier = omega arith }; code = m }
+
+  plain200 : Plain (h200 r)
+  unfolding h200 between padding padded makerCode
+  plain200 = pick-is Plain (r .ownEvents) (itemsHead 200 (r .events)) (h140 r) (λ e. plain-items eventCode 200 (r .events) (part-own (ItemsOk eventCode) (some []) (r .ownEvents) (r .events) (r .makers₄) e (k .events)) (omega arith) refl) plain140
+
+  plain130 : Plain (h130 r)
+  unfolding h130 between padding padded makerCode
+  plain130 = pick-is Plain (r .ownPatient) (itemsHead 130 (r .patient)) (h200 r) (λ e. plain-items patientCode 130 (r .patient) (part-own (ItemsOk patientCode) (heldPatient held) (r .ownPatient) (r .patient) (r .makers₃) e (k .patient)) (omega arith) refl) plain200
+
+  plain-channels : ChannelsOk (r .basic) (r .channels) → Plain (channelsHead (r .channels))
+  unfolding between padding padded makerCode
+  plain-channels g =
+      let n = few-channels (r .basic) (r .channels) g in
+      record { ok = record { size = omega arith; code = omega arith; serial = omega arith; multiplier = omega arith }; code = refl }
+
+  plain120 : Plain (h120 r)
+  unfolding h120
+  plain120 = pick-is Plain (r .ownChannels) (channelsHead (r .channels)) (h130 r) (λ e. plain-channels (part-own (ChannelsOk (r .basic)) (heldChannels held) (r .ownChannels) (r .channels) (r .makers₂) e (k .channels))) plain130
+
+  other140 : (c : ℕ) → eqb 140 c ≡ false → eqb (h140 r .code) c ≡ false
+  unfolding h140
+  other140 c e = e
+
+  other200 : (c : ℕ) → eqb 140 c ≡ false → eqb 200 c ≡ false → eqb (h200 r .code) c ≡ false
+  unfolding h200
+  other200 c e f = pick-is (λ x. eqb (x .code) c ≡ false) (r .ownEvents) (itemsHead 200 (r .events)) (h140 r) (λ _. f) (other140 c e)
+
+  other130 : (c : ℕ) → eqb 140 c ≡ false → eqb 200 c ≡ false → eqb 130 c ≡ false → eqb (h130 r .code) c ≡ false
+  unfolding h130
+  other130 c e f g = pick-is (λ x. eqb (x .code) c ≡ false) (r .ownPatient) (itemsHead 130 (r .patient)) (h200 r) (λ _. g) (other200 c e f)
+
+  largeF : 16 ≤ roomF
+  unfolding roomF roomD
+  largeF = omega arith
+
+  largeE : 16 ≤ roomE
+  unfolding roomE
+  largeE = omega (arith, largeF)
+
+  largeP : 16 ≤ roomP
+  unfolding roomP
+  largeP = omega (arith, largeE)
+
+  largeC : 16 ≤ roomC
+  unfolding roomC
+  largeC = omega (arith, largeP)
+
+  lessP : partP r + roomE ≤ span h
+  unfolding roomC roomP
+  lessP = omega (arith, rooms)
+
+  lessE : partE r + roomF ≤ span h
+  unfolding roomE
+  lessE = omega (arith, lessP)
+
+  -- the parts
+  plays-c : Plays (eventsC r) (part (span h) 120 (channels (r .basic)) (heldChannels held) (record { makers = r .makers₁; head = h120 r; room = roomC }))
+      (record { own = r .ownChannels; value = r .channels; next = record { makers = r .makers₂; head = h130 r; room = roomP } })
+  unfolding eventsC h120 roomC partC channelsRecord lengthOf
+  plays-c = part-plays (ChannelsOk (r .basic)) channelsRecord 120 (channels (r .basic)) (r .ownChannels) (heldChannels held) (r .channels) (r .makers₂) (r .makers₁) (channelsHead (r .channels)) (h130 r)
+      (channelsWritten (r .channels)) (span h) roomP (k .channels) refl refl (other130 120 refl refl refl) (plain130 .ok) (plain130 .code)
+      (channels-plays (r .basic) (r .channels)) (channels-size (r .basic) (r .channels)) largeP (omega (arith, rooms))
+
+  plays-p : Plays (eventsP r) (part (span h) 130 (items patientCode) (heldPatient held) (record { makers = r .makers₂; head = h130 r; room = roomP }))
+      (record { own = r .ownPatient; value = r .patient; next = record { makers = r .makers₃; head = h200 r; room = roomE } })
+  unfolding eventsP h130 roomP partP itemsRecord lengthOf
+  plays-p = part-plays (ItemsOk patientCode) (itemsRecord 130) 130 (items patientCode) (r .ownPatient) (heldPatient held) (r .patient) (r .makers₃) (r .makers₂) (itemsHead 130 (r .patient)) (h200 r)
+      (itemsWritten (r .patient)) (span h) roomE (k .patient) refl refl (other200 130 refl refl) (plain200 .ok) (plain200 .code)
+      (items-plays patientCode 130 (r .patient)) (λ _. items-size 130 (r .patient)) largeE lessP
+
+  plays-e : Plays (eventsE r) (part (span h) 200 (items eventCode) (some []) (record { makers = r .makers₃; head = h200 r; room = roomE }))
+      (record { own = r .ownEvents; value = r .events; next = record { makers = r .makers₄; head = h140 r; room = roomF } })
+  unfolding eventsE h200 roomE partE itemsRecord lengthOf
+  plays-e = part-plays (ItemsOk eventCode) (itemsRecord 200) 200 (items eventCode) (r .ownEvents) (some []) (r .events) (r .makers₄) (r .makers₃) (itemsHead 200 (r .events)) (h140 r)
+      (itemsWritten (r .events)) (span h) roomF (k .events) refl refl (other140 200 refl) (plain140 .ok) (plain140 .code)
+      (items-plays eventCode 200 (r .events)) (λ _. items-size 200 (r .events)) largeF lessE
+
+  padF : ℕ
+  padF = length (r .frames) * (frameSize (r .seconds) (r .channels) - frameSize (r .seconds) (r .channels)) + (span (h140 r) - framesBytes (r .seconds) (r .channels) (r .frames))
+
+  plays-f : (back : ℕ) → Plays (eventsF r) (frames (r .basic) (r .ownChannels) (r .channels) back roomF (h140 r)) (record { seconds = r .seconds; frames = r .frames; size = frameSize (r .seconds) (r .channels); padded = padF })
+  unfolding eventsF h140 roomF spanF padF
+  plays-f back = frames-plays (r .basic) (r .ownChannels) (r .channels) (r .seconds) (r .frames) (k .frames) back roomF (omega arith)
+
+  plays-n : Plays (makerEvents (r .makers₁) ++ numerals (h120 r)) (next (span h) (span h - 144)) (record { makers = r .makers₁; head = h120 r; room = roomC })
+  plays-n = next-plays (r .makers₁) (k .makers₁) (h120 r) (plain120 .ok) (plain120 .code) (span h) (span h - 144) roomC
+      (omega (arith, rooms, makers-count (r .makers₁) (k .makers₁))) (omega (arith, rooms)) largeC
+
+  plays-d : Plays (makerEvents (r .makers₅) ++ numerals delimiterHead) (next (span h) (roomF - span (h140 r))) (record { makers = r .makers₅; head = delimiterHead; room = roomD })
+  unfolding roomF spanF h140 roomD between padding padded makerCode
+  plays-d = next-plays (r .makers₅) (k .makers₅) delimiterHead (record { size = omega arith; code = omega arith; serial = omega arith; multiplier = omega arith }) refl (span h) (roomF - span (h140 r)) roomD
+      (omega (arith, lessE, makers-count (r .makers₅) (k .makers₅))) (omega arith) (omega arith)
+
+  code140 : eqb (h140 r .code) 140 ≡ true
+  unfolding h140
+  code140 = refl
+
+  fits-limit : leb (span h - (roomD - 16) - padF) contentLimit ≡ true
+  unfolding roomD padF h140
+  fits-limit = le-leb _ contentLimit (content-fits (span h) (size (content r)) pad (length (r .frames)) (frameSize (r .seconds) (r .channels))
+      (span (framesHead (r .seconds) (r .channels) (r .frames)) - framesBytes (r .seconds) (r .channels) (r .frames)) total (k .limited))
+
+  fits-pad : padOk h (roomD - 16) ≡ true
+  unfolding roomD between padding padded makerCode
+  fits-pad = lt-ltb (16 + pad - 16) (max 1 (h .multiplier)) (rw drop16 short)
+    where
+      drop16 : 16 + pad - 16 ≡ pad
+      drop16 = omega arith
+
+  left-pad : pad ≡ roomD - 16
+  unfolding roomD
+  left-pad = omega arith
+
+  layoutOf : Layout
+  layoutOf = record { bytes = span h; at120 = span h - roomC; at130 = span h - roomP; at200 = span h - roomE; at140 = span h - roomF; frame = frameSize (r .seconds) (r .channels) }
+
+  played-at : (i room : ℕ) → HeadOk h → eqb (h .code) 10 ≡ true → Admitted room 128 (leb 16) (eqb i) h →
+      Plays (recordOf h (content r ++ (zeroes pad ∷ []))) (recording held room i) (record { recording = r; layout = layoutOf })
+  unfolding recording recordOf layoutOf _>>=_ _>>_
+  played-at i room o c a =
+      rw (arranged r (zeroes pad ∷ []))
+      (plays-bind _ (head-plays h o room (omega (arith, rooms, a .room)))
+      (checks c
+      (plays-bind _ (admit-plays room 128 (leb 16) (eqb i) h a)
+      (plays-bind _ (fixed-plays 128 100 0 basicBody (span h - 16) (k .basic) (omega arith) (omega arith) (omega arith) (omega arith) (omega (arith, rooms)))
+      (plays-bind _ plays-n
+      (plays-bind _ plays-c
+      (plays-bind _ plays-p
+      (plays-bind _ plays-e
+      (checks code140
+      (plays-bind _ (plays-f (span h - roomF - 20))
+      (plays-bind _ plays-d
+      (plays-bind _ delimiter-plays
+      (checks fits-limit
+      (checks fits-pad
+      (padding-plays pad (roomD - 16) left-pad _)))))))))))))))
+
+  pub recording-from : (i room : ℕ) → HeadOk h → eqb (h .code) 10 ≡ true → Admitted room 128 (leb 16) (eqb i) h →
+      Anew held room i (recordOf h (content r ++ (zeroes pad ∷ []))) r (span h)
+  unfolding layoutOf
+  recording-from i room o c a = record { layout = layoutOf; bytes = refl; plays = played-at i room o c a }

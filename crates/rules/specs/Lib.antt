@@ -1,0 +1,3 @@
+pub mod Rules
+pub mod Turned
+pub mod Canonical

@@ -1,0 +1,623 @@
+-- The rules of the JSSR PSG common format 3.00, as document 01 fixes them: one walk over a file, front to back. It refuses with a number and a
+-- place, or gives the file's reading. A walk knows no positions: the place of a refusal is said by how many bytes back it lies from where the walk stands.
+-- Every number is read as an unsigned word; a field that document 01 judges lies in 0 to 2^31 - 1, so a negative one fails its test.
+-- Assumes nothing.
+use mathlib.Core.Bool.{Bool, true, false, _&&_, _||_, not}
+use mathlib.Core.List.{List, [], _∷_, _++_, map}
+use mathlib.Core.Option.{Option, none, some}
+use Prim.Native.Nat.{ℕ, zero, suc, _+_, _*_, _-_, _/_, _%_, _^_, max}
+use lib.Dec.{leb, ltb, eqb}
+use lib.ListN.{length, getD}
+use Rattle.words.specs.declared.Order.{Order}
+use Rattle.words.specs.declared.Order.the-variants.{Little, Big}
+use Rattle.walk.specs.Walk.{pick, Letter, Padding, Walk, give, refuse, check, number, read, list, _>>=_, _>>_, Outcome, refused, passed, run, require, num, text, reserve}
+
+-- one step each
+
+-- a number of 4 bytes, or of w, that has to pass a test
+abbrev pub fieldOf : ℕ → (ℕ → Bool) → Walk ℕ
+fieldOf w ok = number w (λ v. check (ok v) 13 w (give v))
+
+abbrev pub field : (ℕ → Bool) → Walk ℕ
+field = fieldOf 4
+
+-- every byte is zero; the first that is not is refused at its place
+unfoldable pub zeros : List ℕ → Walk (Unit {0})
+zeros [] = give tt
+zeros (b ∷ bs) = check (eqb b 0) 15 (suc (length bs)) (zeros bs)
+
+unfoldable pub padding : ℕ → Walk (Unit {0})
+padding n = read Padding n zeros
+
+-- n walks, numbered from i, each with room for itself and the later ones: every one takes `step` bytes of the room
+unfoldable pub series : {A : Type 0} → ℕ → ℕ → ℕ → ℕ → (ℕ → ℕ → Walk A) → Walk (List A)
+unfolding _>>=_
+series zero i step room w = give []
+series (suc n) i step room w = do
+  a ← w room i
+  rest ← series n (suc i) step (room - step) w
+  give (a ∷ rest)
+
+unfoldable pub between : ℕ → ℕ → ℕ → Bool
+between low high n = leb low n && leb n high
+
+abbrev pub limit : ℕ
+limit = 2 ^ 31
+
+-- The file header
+
+unfoldable pub sameBytes : List ℕ → List ℕ → Bool
+sameBytes [] [] = true
+sameBytes [] (y ∷ ys) = false
+sameBytes (x ∷ xs) [] = false
+sameBytes (x ∷ xs) (y ∷ ys) = eqb x y && sameBytes xs ys
+
+-- JSSR-SPG, 000300, 00
+unfoldable pub identifier : List ℕ
+identifier = 74 ∷ 83 ∷ 83 ∷ 82 ∷ 45 ∷ 83 ∷ 80 ∷ 71 ∷ []
+
+unfoldable pub version : List ℕ
+version = 48 ∷ 48 ∷ 48 ∷ 51 ∷ 48 ∷ 48 ∷ []
+
+unfoldable pub form : List ℕ
+form = 48 ∷ 48 ∷ []
+
+unfoldable pub allSpaces : List ℕ → Bool
+allSpaces [] = true
+allSpaces (b ∷ bs) = eqb b 32 && allSpaces bs
+
+abbrev pub isDigit : ℕ → Bool
+isDigit = between 48 57
+
+-- digits, then only spaces; the value so far is v
+unfoldable pub decimal : ℕ → List ℕ → Option ℕ
+decimal v [] = some v
+decimal v (b ∷ bs) = elim (isDigit b) [ true ↦ decimal (10 * v + (b - 48)) bs | false ↦ elim (allSpaces (b ∷ bs)) [ true ↦ some v | false ↦ none ] ]
+
+-- 1 to 4 digits, then only spaces
+unfoldable pub countOf : List ℕ → Option ℕ
+countOf [] = none
+countOf (b ∷ bs) = elim (isDigit b) [ true ↦ decimal 0 (b ∷ bs) | false ↦ none ]
+
+abbrev pub countFits : Option ℕ → Bool
+countFits none = false
+countFits (some k) = between 1 64 k
+
+abbrev pub countIs : Option ℕ → ℕ
+countIs none = 0
+countIs (some k) = k
+
+-- S, J, E or U
+abbrev pub isScript : ℕ → Bool
+isScript b = eqb b 83 || eqb b 74 || eqb b 69 || eqb b 85
+
+pub record FileHeader : Type 0 where
+  pub script : ℕ
+  pub count : ℕ
+
+unfoldable pub fileHeader : ℕ → Walk FileHeader
+fileHeader size = do
+  require (leb 32 size) 1 0
+  id ← text 8
+  require (sameBytes id identifier) 2 8
+  v ← text 6
+  require (sameBytes v version) 3 6
+  f ← text 2
+  require (sameBytes f form) 4 2
+  letter ← read Letter 1 give
+  require (eqb (getD letter 0 0) 76) 5 1
+  script ← text 1
+  require (isScript (getD script 0 0)) 6 1
+  digits ← text 4
+  require (countFits (countOf digits)) 7 4
+  spaces ← text 10
+  require (allSpaces spaces) 8 10
+  give (record { script = getD script 0 0; count = countIs (countOf digits) })
+
+-- A record's first 16 bytes
+
+pub record Head : Type 0 where
+  pub size : ℕ
+  pub code : ℕ
+  pub serial : ℕ
+  pub multiplier : ℕ
+
+unfoldable pub lengthOf : ℕ → ℕ → ℕ
+lengthOf size zero = size
+lengthOf size (suc m) = size * suc m
+
+abbrev pub span : Head → ℕ
+span h = lengthOf (h .size) (h .multiplier)
+
+-- there is room for a record's 16 bytes in what is left of the parent
+unfoldable pub head : ℕ → Walk Head
+head room = do
+  require (leb 16 room) 10 0
+  size ← num 4
+  code ← num 4
+  serial ← num 4
+  multiplier ← num 4
+  give (record { size = size; code = code; serial = serial; multiplier = multiplier })
+
+-- the walk stands behind the head: the code lies 12 bytes back, the multiplier 4, the record's start 16, the serial 8
+abbrev pub coded : Head → ℕ → Walk (Unit {0})
+coded h code = require (eqb (h .code) code) 9 12
+
+-- the multiplier, the length and the serial; the record is then listed. `room` is counted from the record's start
+unfoldable pub admit : ℕ → ℕ → (ℕ → Bool) → (ℕ → Bool) → Head → Walk (Unit {0})
+admit room most fits serial h = do
+  require (leb (h .multiplier) most) 11 4
+  require (ltb (h .size) limit && (fits (span h) && leb (span h) room)) 10 16
+  require (serial (h .serial)) 12 8
+  list 16 (span h) (h .code) (h .serial) (give tt)
+
+-- padding of n bytes is shorter than the multiplier, and none where that is 0
+unfoldable pub padded : ℕ → ℕ → Bool
+padded multiplier n = ltb n (max 1 multiplier)
+
+abbrev pub padOk : Head → ℕ → Bool
+padOk h n = padded (h .multiplier) n
+
+-- a record of a fixed size
+unfoldable pub fixed : {A : Type 0} → ℕ → ℕ → ℕ → Walk A → ℕ → Walk A
+fixed size code serial body room = do
+  h ← head room
+  coded h code
+  admit room 0 (eqb size) (eqb serial) h
+  body
+
+-- 100
+
+unfoldable pub leap : ℕ → Bool
+leap y = eqb (y % 4) 0 && (not (eqb (y % 100) 0) || eqb (y % 400) 0)
+
+unfoldable pub monthDays : List ℕ
+monthDays = 31 ∷ 28 ∷ 31 ∷ 30 ∷ 31 ∷ 30 ∷ 31 ∷ 31 ∷ 30 ∷ 31 ∷ 30 ∷ 31 ∷ []
+
+unfoldable pub daysIn : ℕ → ℕ → ℕ
+daysIn y m = pick (eqb m 2 && leap y) 29 (getD monthDays (m - 1) 0)
+
+-- 0 when the year is 0, else within the range
+unfoldable pub dated : ℕ → ℕ → ℕ → Bool
+dated y high n = pick (eqb y 0) (eqb n 0) (between 1 high n)
+
+unfoldable pub isMains : ℕ → Bool
+isMains n = eqb n 0 || eqb n 50 || eqb n 60
+
+pub record Basic : Type 0 where
+  pub channels : ℕ
+  pub frames : ℕ
+  pub year : ℕ
+  pub month : ℕ
+  pub day : ℕ
+  pub hour : ℕ
+  pub minute : ℕ
+  pub second : ℕ
+  pub time : List ℕ
+  pub mains : ℕ
+  pub comment : List ℕ
+
+unfoldable pub basicBody : Walk Basic
+basicBody = do
+  _ ← field (eqb 1)
+  channels ← field (between 1 128)
+  frames ← field (between 1 1_000_000)
+  reserve 4
+  year ← field (λ y. leb y 9999)
+  month ← field (dated year 12)
+  day ← field (dated year (daysIn year month))
+  hour ← field (λ x. leb x 23)
+  minute ← field (λ x. leb x 59)
+  second ← field (λ x. leb x 59)
+  time ← text 20
+  mains ← field isMains
+  reserve 16
+  comment ← text 32
+  give (record { channels = channels; frames = frames; year = year; month = month; day = day; hour = hour; minute = minute; second = second; time = time; mains = mains; comment = comment })
+
+abbrev pub basic : ℕ → Walk Basic
+basic = fixed 128 100 0 basicBody
+
+-- 120 and 125
+
+pub record Channel : Type 0 where
+  pub channel : ℕ
+  pub flags : ℕ
+  pub type : ℕ
+  pub format : ℕ
+  pub rate : ℕ
+  pub cal : ℕ
+  pub calAD : ℕ
+  pub offsetAD : ℕ
+  pub offsetCal : ℕ
+  pub calFrequency : ℕ
+  pub lowCut : ℕ
+  pub highCut : ℕ
+  pub sensitivity : ℕ
+  pub label : List ℕ
+  pub unit : List ℕ
+  pub comment : List ℕ
+
+unfoldable pub isType : ℕ → Bool
+isType t = leb t 18 || eqb t 20
+
+-- 0 only with type OFF; else Hz, or microseconds when flag bit 0 is 1
+unfoldable pub rateOk : ℕ → ℕ → ℕ → Bool
+rateOk flags type rate =
+    pick (eqb rate 0) (eqb type 0) (pick (eqb (flags % 2) 0) (leb rate 1_000_000) (ltb rate limit))
+
+unfoldable pub channelBody : Walk Channel
+channelBody = do
+  n ← num 4
+  flags ← num 4
+  type ← field isType
+  format ← field (between 1 4)
+  rate ← field (rateOk flags type)
+  cal ← num 4
+  calAD ← num 4
+  offsetAD ← num 4
+  offsetCal ← num 4
+  calFrequency ← num 4
+  lowCut ← num 4
+  highCut ← num 4
+  sensitivity ← num 4
+  reserve 4
+  label ← text 16
+  unit ← text 16
+  reserve 92
+  comment ← text 60
+  give (record { channel = n; flags = flags; type = type; format = format; rate = rate; cal = cal; calAD = calAD; offsetAD = offsetAD; offsetCal = offsetCal; calFrequency = calFrequency; lowCut = lowCut; highCut = highCut; sensitivity = sensitivity; label = label; unit = unit; comment = comment })
+
+abbrev pub channel : ℕ → ℕ → Walk Channel
+channel room i = fixed 256 125 i channelBody room
+
+-- the body of a 120 of this length
+unfoldable pub channelsBody : Basic → ℕ → Walk (List Channel)
+channelsBody b length = do
+  m ← field (between 1 128)
+  require (eqb m (b .channels)) 14 4
+  require (eqb length (32 + 256 * m)) 14 4
+  _ ← field (eqb 256)
+  reserve 8
+  series m 1 256 (length - 32) channel
+
+-- the rest of a 120 whose head is read
+unfoldable pub channels : Basic → ℕ → Head → Walk (List Channel)
+channels b room h = do
+  admit room 0 (leb 32) (eqb 0) h
+  channelsBody b (span h)
+
+-- 130 and 200
+
+pub record Item : Type 0 where
+  pub code : ℕ
+  pub content : List ℕ
+
+unfoldable pub keywords : List ℕ
+keywords = 0 ∷ 1 ∷ 201 ∷ 210 ∷ 220 ∷ []
+
+unfoldable pub isIn : ℕ → List ℕ → Bool
+isIn n [] = false
+isIn n (k ∷ ks) = eqb n k || isIn n ks
+
+unfoldable pub patientCode : ℕ → Bool
+patientCode c = isIn c keywords || between 11 14 c || between 21 26 c || between 101 107 c || between 301 399 c
+
+-- 0, or 4096 to 65535 with bit 12 set
+unfoldable pub eventCode : ℕ → Bool
+eventCode c = eqb c 0 || (between 4096 65535 c && eqb (c / 4096 % 2) 1)
+
+unfoldable pub item : (ℕ → Bool) → ℕ → Walk Item
+item ok room = do
+  require (leb 8 room) 10 0
+  size ← num 4
+  code ← num 4
+  require (leb 8 size && (ltb size limit && leb size room)) 10 8
+  require (ok code) 13 4
+  content ← text (size - 8)
+  give (record { code = code; content = content })
+
+abbrev pub itemSize : Item → ℕ
+itemSize i = 8 + length (i .content)
+
+unfoldable pub itemBytes : List Item → ℕ
+itemBytes [] = 0
+itemBytes (i ∷ is) = itemSize i + itemBytes is
+
+unfoldable pub itemList : (ℕ → Bool) → ℕ → ℕ → Walk (List Item)
+itemList ok zero room = give []
+itemList ok (suc n) room = do
+  i ← item ok room
+  rest ← itemList ok n (room - itemSize i)
+  give (i ∷ rest)
+
+-- the body of a 130 or a 200 of this length
+unfoldable pub itemsBody : (ℕ → Bool) → ℕ → Walk (List Item)
+itemsBody ok length = do
+  n ← field (λ n. leb n 256)
+  reserve 4
+  is ← itemList ok n (length - 24)
+  require (eqb (24 + itemBytes is) length) 14 (8 + itemBytes is)
+  give is
+
+-- the rest of a 130 or a 200 whose head is read
+unfoldable pub items : (ℕ → Bool) → ℕ → Head → Walk (List Item)
+items ok room h = do
+  admit room 0 (leb 24) (eqb 0) h
+  itemsBody ok (span h)
+
+-- 140 and 145
+
+unfoldable pub width : ℕ → ℕ
+width format = pick (eqb format 1) 2 (pick (eqb format 2) 3 4)
+
+-- does a period divide T seconds exactly; samples of a channel in T seconds
+abbrev pub divides : ℕ → Channel → Bool
+divides t c = eqb (c .rate) 0 || eqb (c .flags % 2) 0 || eqb (t * 1_000_000 % c .rate) 0
+
+unfoldable pub samplesOf : ℕ → ℕ → ℕ → ℕ
+samplesOf t flags rate = pick (eqb rate 0) 0 (pick (eqb (flags % 2) 0) (rate * t) (t * 1_000_000 / rate))
+
+abbrev pub samplesIn : ℕ → Channel → ℕ
+samplesIn t c = samplesOf t (c .flags) (c .rate)
+
+unfoldable pub all : {A : Type 0} → (A → Bool) → List A → Bool
+all p [] = true
+all p (a ∷ l) = p a && all p l
+
+unfoldable pub sampleBytes : ℕ → List Channel → ℕ
+sampleBytes t [] = 0
+sampleBytes t (c ∷ cs) = samplesIn t c * width (c .format) + sampleBytes t cs
+
+unfoldable pub numberList : ℕ → ℕ → Walk (List ℕ)
+numberList w zero = give []
+numberList w (suc n) = do
+  v ← num w
+  rest ← numberList w n
+  give (v ∷ rest)
+
+unfoldable pub samples : ℕ → List Channel → Walk (List (List ℕ))
+samples t [] = give []
+samples t (c ∷ cs) = do
+  s ← numberList (width (c .format)) (samplesIn t c)
+  rest ← samples t cs
+  give (s ∷ rest)
+
+pub record Frame : Type 0 where
+  pub hour : ℕ
+  pub minute : ℕ
+  pub second : ℕ
+  pub channels : List (List ℕ)
+
+-- the body of a 145 of this length
+unfoldable pub frameBody : ℕ → ℕ → List Channel → Walk Frame
+frameBody size t cs = do
+  hour ← fieldOf 2 (λ x. leb x 23)
+  minute ← fieldOf 2 (λ x. leb x 59)
+  second ← fieldOf 2 (λ x. leb x 59)
+  reserve 2
+  ss ← samples t cs
+  padding (size - (24 + sampleBytes t cs))
+  give (record { hour = hour; minute = minute; second = second; channels = ss })
+
+unfoldable pub frame : ℕ → ℕ → List Channel → ℕ → ℕ → Walk Frame
+frame size t cs room i = do
+  h ← head room
+  coded h 145
+  admit room 128 (λ n. eqb n size && padOk h (n - (24 + sampleBytes t cs))) (eqb i) h
+  frameBody size t cs
+
+-- T and the frames, their length, and how many bytes of padding stand in the 140
+pub record Frames : Type 0 where
+  pub seconds : ℕ
+  pub frames : List Frame
+  pub size : ℕ
+  pub padded : ℕ
+
+-- the body of a 140 with this head
+unfoldable pub framesBody : Basic → List Channel → Head → Walk Frames
+framesBody b cs h = do
+  t ← field (between 1 3600)
+  require (all (divides t) cs) 14 4
+  let filled = 24 + sampleBytes t cs
+  size ← num 4
+  require (between filled (filled + 127) size && ltb size limit) 14 4
+  n ← num 4
+  require (eqb n (b .frames)) 14 4
+  let used = 32 + n * size
+  require (leb used (span h) && padOk h (span h - used)) 14 4
+  reserve 4
+  fs ← series n 1 size (span h - 32) (frame size t cs)
+  padding (span h - used)
+  give (record { seconds = t; frames = fs; size = size; padded = n * (size - filled) + (span h - used) })
+
+-- the rest of a 140 whose head is read. `own`: the recording has a 120 of its own; else 100's count of channels, so many bytes back, is tested
+unfoldable pub frames : Basic → Bool → List Channel → ℕ → ℕ → Head → Walk Frames
+frames b own cs back room h = do
+  admit room 128 (leb 32) (eqb 0) h
+  require (own || eqb (length cs) (b .channels)) 14 back
+  framesBody b cs h
+
+-- A maker's own records, then the head of the next record and what room is left from its start
+
+pub record Maker : Type 0 where
+  pub head : Head
+  pub body : List ℕ
+
+unfoldable pub makerCode : ℕ → Bool
+makerCode c = leb 1024 c && ltb c limit
+
+pub record Next : Type 0 where
+  pub makers : List Maker
+  pub head : Head
+  pub room : ℕ
+
+abbrev pub more : Maker → Next → Next
+more m n = record { makers = m ∷ n .makers; head = n .head; room = n .room }
+
+unfoldable pub next : ℕ → ℕ → Walk Next
+next zero room = refuse 0 0
+next (suc fuel) room = do
+  h ← head room
+  pick (makerCode (h .code)) (do
+    admit room 128 (leb 16) (λ _. true) h
+    body ← text (span h - 16)
+    n ← next fuel (room - span h)
+    give (more (record { head = h; body = body }) n)) (give (record { makers = []; head = h; room = room }))
+
+-- A recording
+
+pub record Recording : Type 0 where
+  pub basic : Basic
+  pub ownChannels : Bool
+  pub channels : List Channel
+  pub ownPatient : Bool
+  pub patient : List Item
+  pub ownEvents : Bool
+  pub events : List Item
+  pub seconds : ℕ
+  pub frames : List Frame
+  -- behind 100, 120, 130, 200 and 140
+  pub makers₁ : List Maker
+  pub makers₂ : List Maker
+  pub makers₃ : List Maker
+  pub makers₄ : List Maker
+  pub makers₅ : List Maker
+
+-- what a later recording takes over where it has none of its own
+pub record Held : Type 0 where
+  pub channels : List Channel
+  pub patient : List Item
+
+-- a part that may be absent: whether it is there, what holds, and what follows it
+pub record Part (A : Type 0) : Type 0 where
+  pub own : Bool
+  pub value : A
+  pub next : Next
+
+-- a record with this code is read; without it the held value stands, or the record that stands here is refused
+unfoldable pub part : {A : Type 0} → ℕ → ℕ → (ℕ → Head → Walk A) → Option A → Next → Walk (Part A)
+part fuel code body held n =
+    elim (eqb (n .head .code) code) [
+      | true ↦ do
+        a ← body (n .room) (n .head)
+        m ← next fuel (n .room - span (n .head))
+        give (record { own = true; value = a; next = m })
+      | false ↦ elim held [ none ↦ refuse 9 12 | some a ↦ give (record { own = false; value = a; next = record { makers = []; head = n .head; room = n .room } }) ]
+    ]
+
+abbrev pub heldChannels : Option Held → Option (List Channel)
+heldChannels none = none
+heldChannels (some h) = some (h .channels)
+
+abbrev pub heldPatient : Option Held → Option (List Item)
+heldPatient none = none
+heldPatient (some h) = some (h .patient)
+
+abbrev pub contentLimit : ℕ
+contentLimit = 137_438_953_472
+
+-- a delimiter whose head is read
+unfoldable pub delimiter : Head → Walk (Unit {0})
+delimiter h = do
+  coded h 0
+  require (eqb (h .multiplier) 0) 11 4
+  require (eqb (h .size) 0) 10 16
+  require (eqb (h .serial) 0) 12 8
+  list 16 16 0 0 (give tt)
+
+-- where it stands: the recording's length, how far into it 120, 130, 200 and 140 stand (where one is absent: the record that stands in its place), and its frames' length
+pub record Layout : Type 0 where
+  pub bytes : ℕ
+  pub at120 : ℕ
+  pub at130 : ℕ
+  pub at200 : ℕ
+  pub at140 : ℕ
+  pub frame : ℕ
+
+pub record Placed : Type 0 where
+  pub recording : Recording
+  pub layout : Layout
+
+unfoldable pub recording : Option Held → ℕ → ℕ → Walk Placed
+recording held room i = do
+  h ← head room
+  coded h 10
+  admit room 128 (leb 16) (eqb i) h
+  let bytes = span h
+  b ← basic (bytes - 16)
+  n ← next bytes (bytes - 144)
+  c ← part bytes 120 (channels b) (heldChannels held) n
+  p ← part bytes 130 (items patientCode) (heldPatient held) (c .next)
+  e ← part bytes 200 (items eventCode) (some []) (p .next)
+  let last = e .next
+  coded (last .head) 140
+  -- 100's count of channels stands 36 bytes into the recording
+  f ← frames b (c .own) (c .value) (bytes - last .room - 20) (last .room) (last .head)
+  d ← next bytes (last .room - span (last .head))
+  delimiter (d .head)
+  let left = d .room - 16
+  let used = bytes - left
+  require (leb (used - f .padded) contentLimit) 14 used
+  require (padOk h left) 10 0
+  padding left
+  give (record {
+    recording = record {
+      basic = b;
+      ownChannels = c .own;
+      channels = c .value;
+      ownPatient = p .own;
+      patient = p .value;
+      ownEvents = e .own;
+      events = e .value;
+      seconds = f .seconds;
+      frames = f .frames;
+      makers₁ = n .makers;
+      makers₂ = c .next .makers;
+      makers₃ = p .next .makers;
+      makers₄ = e .next .makers;
+      makers₅ = d .makers;
+    };
+    layout = record { bytes = bytes; at120 = bytes - n .room; at130 = bytes - c .next .room; at200 = bytes - p .next .room; at140 = bytes - last .room; frame = f .size };
+  })
+
+unfoldable pub recordings : ℕ → Option Held → ℕ → ℕ → Walk (List Placed)
+recordings zero held room i = give []
+recordings (suc n) held room i = do
+  r ← recording held room i
+  rest ← recordings n (some (record { channels = r .recording .channels; patient = r .recording .patient })) (room - r .layout .bytes) (suc i)
+  give (r ∷ rest)
+
+-- What a file holds, and where
+
+pub record File : Type 0 where
+  pub script : ℕ
+  pub recordings : List Placed
+
+-- A file's reading: the script letter, and of each of the K recordings which records it holds, all fields but size, multiplier, frame length and reserve, all texts, all samples, and each maker's record whole
+
+pub record Reading : Type 0 where
+  pub script : ℕ
+  pub recordings : List Recording
+
+abbrev pub reading : File → Reading
+reading v = record { script = v .script; recordings = map (λ p. p .recording) (v .recordings) }
+
+unfoldable pub file : ℕ → Walk File
+file size = do
+  f ← fileHeader size
+  rs ← recordings (f .count) none (size - 32) 1
+  give (record { script = f .script; recordings = rs })
+
+-- the order that the file's letter names; another letter is refused by the walk
+unfoldable pub orderOf : List ℕ → Order
+orderOf s = elim (eqb (getD s 16 0) 66) [ true ↦ Big | false ↦ Little ]
+
+-- nothing may be left behind recording K
+unfoldable pub whole : ℕ → Outcome File → Outcome File
+whole size (refused n p) = refused n p
+whole size (passed v [] t) = passed v [] t
+whole size (passed v (b ∷ r) t) = refused 16 (size - suc (length r))
+
+unfoldable pub judge : List ℕ → Outcome File
+judge s = whole (length s) (run (orderOf s) 0 s (file (length s)))

@@ -1,0 +1,1 @@
+// Walks over a file: definitions and laws, and no code.
