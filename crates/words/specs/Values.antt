@@ -1,0 +1,26 @@
+-- What a word of w bytes means: a signed whole number, or a float of 32 bits.
+-- Assumes nothing.
+use mathlib.Core.Bool.{Bool, true, false}
+use Prim.Native.Nat.{ℕ, _-_, _/_, _^_}
+use lib.Dec.{ltb}
+use lib.IntN.{ℤ, pos, negsuc}
+
+-- how many words of w bytes there are, and where the negative ones begin
+abbrev pub wordsOf : ℕ → ℕ
+wordsOf w = 256 ^ w
+
+abbrev pub half : ℕ → ℕ
+half w = 256 ^ w / 2
+
+abbrev pickZ : Bool → ℤ → ℤ → ℤ
+pickZ true a b = a
+pickZ false a b = b
+
+-- the signed number whose two's complement at w bytes is n
+unfoldable pub signed : ℕ → ℕ → ℤ
+signed w n = pickZ (ltb n (half w)) (pos n) (negsuc (wordsOf w - 1 - n))
+
+-- and back
+unfoldable pub unsigned : ℕ → ℤ → ℕ
+unsigned w (pos n) = n
+unsigned w (negsuc k) = wordsOf w - 1 - k
