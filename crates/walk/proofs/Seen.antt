@@ -9,12 +9,12 @@ use native.Mathlib.Nat.{add-assoc, add-zero, zero-add, sub-zero, sub-self, add-s
 use native.Mathlib.Numerals.{add-one}
 use native.Mathlib.Omega.{arith}
 use borrow.Author.Tests.{lt-ltb, le-ltb, le-leb, lt-leb, eq-eqb, ne-eqb, leb-true, leb-false, eqb-true, eqb-false}
-use lib.Dec.{leb, eqb}
+use lib.Dec.{leb, eqb, when}
 use lib.ListN.{length, take, drop, length-take, length-drop}
 use lib.Seq.{drop-drop, take-take, length-take-le}
 use Rattle.words.specs.Numbers.{wordIn, bytesAt, numberAt}
 use Rattle.words.specs.declared.Order.{Order}
-use Rattle.walk.specs.See.{Verdict, stops, goes, verdict, gate, see, Goes, over, ends, Stays, Holds, Yields, onward}
+use Rattle.walk.specs.See.{Verdict, stops, goes, verdict, gate, see, Goes, over, ends, Stays, Holds, Yields, onward, numbered}
 use Rattle.walk.specs.Walk.{Kind, laid, Event, numeral, piece, blank, row, size, Walk, give, refuse, check, number, read, skip, list, Outcome, refused, passed, _>>_, logged, run, _>>=_}
 use Rattle.walk.proofs.Laid.{length-laid}
 use Rattle.walk.proofs.Laws.{run-read, run-number}
@@ -192,14 +192,37 @@ pub and-right : (x y : Bool) → x && y ≡ true → y ≡ true
 and-right true y h = h
 and-right false y h = absurd (false-true h)
 
+-- what is said under a test that passes, and what follows from it
+passes : (c : Bool) {X : Type 0} → when c X → X
+passes true x = x
+passes false x = absurd x
+
+when-true : (c : Bool) (X : Type 0) → when c X → c ≡ true
+when-true true X x = refl
+when-true false X x = absurd x
+
+when-then : (c : Bool) {X Y : Type 0} → (X → Y) → when c X → when c Y
+when-then true f x = f x
+when-then false f x = x
+
 module _ {A : Type 0} where
+  -- a refusal by such a number, at a place not behind L
+  stopped-at : (m q L : ℕ) (X : Type 0) {n p : ℕ} → when (numbered m) X → q ≤ L → _≡_ {A = Verdict A} (stops m q) (stops n p) → (1 ≤ n) × (n ≤ 16) × (p ≤ L)
+  stopped-at m q L X {n} {p} h l e =
+      let t : numbered m ≡ true = when-true (numbered m) X h in
+      let x : 1 ≤ m = leb-true 1 m (and-left (leb 1 m) (leb m 16) t) in
+      let y : m ≤ 16 = leb-true m 16 (and-right (leb 1 m) (leb m 16) t) in
+      let i : m ≡ n = cc in
+      let j : q ≡ p = cc in
+      (omega arith, omega arith, omega arith)
+
   -- so what holds of the answer, where there is room
   module _ (o : Order) (b : ℕ) (s : List ℕ) (L : ℕ) (fit : L ≤ b + length s) where
     pub stays-holds : (w : Walk A) (at : ℕ) (Q : A → ℕ → Type 0) → b ≤ at → Stays L at w Q → Holds Q (see o b s at w)
     unfolding see gate bytesAt
     stays-holds (give x) at Q g h = h
     stays-holds (refuse n p) at Q g h = tt
-    stays-holds (check true n p w) at Q g h = stays-holds w at Q g (h refl)
+    stays-holds (check true n p w) at Q g h = stays-holds w at Q g (passes (numbered n) h refl)
     stays-holds (check false n p w) at Q g h = tt
     stays-holds (number n f) at Q g h = stays-holds (f (numberAt o n s (at - b))) (at + n) Q (omega arith) (h .1 _)
     stays-holds (read k n f) at Q g h = stays-holds (f (laid o k (bytesAt n s (at - b)))) (at + n) Q (omega arith) (h .1 _ (length-bytesAt o b s k n at (omega (arith, h .0)) g))
@@ -209,11 +232,23 @@ module _ {A : Type 0} where
     pub stays-goes : (w : Walk A) (at : ℕ) (Q : A → ℕ → Type 0) {a : A} {e : ℕ} → b ≤ at → Stays L at w Q → see o b s at w ≡ goes a e → Q a e
     stays-goes w at Q g h q = rw q at (stays-holds w at Q g h)
 
+    -- and what holds of a refusal
+    pub stays-stops : (w : Walk A) (at : ℕ) (Q : A → ℕ → Type 0) {n p : ℕ} → b ≤ at → at ≤ L → Stays L at w Q → see o b s at w ≡ stops n p → (1 ≤ n) × (n ≤ 16) × (p ≤ L)
+    unfolding see gate bytesAt
+    stays-stops (give x) at Q g l h e = absurd (let z : _≡_ {A = ℕ} 0 1 = cc in omega arith)
+    stays-stops (refuse m q) at Q g l h e = stopped-at m (at - q) L _ h (omega arith) e
+    stays-stops (check true m q w) at Q g l h e = stays-stops w at Q g l (passes (numbered m) h refl) e
+    stays-stops (check false m q w) at Q g l h e = stopped-at m (at - q) L _ h (omega arith) e
+    stays-stops (number m f) at Q g l h e = stays-stops (f (numberAt o m s (at - b))) (at + m) Q (omega arith) (h .0) (h .1 _) e
+    stays-stops (read k m f) at Q g l h e = stays-stops (f (laid o k (bytesAt m s (at - b)))) (at + m) Q (omega arith) (h .0) (h .1 _ (length-bytesAt o b s k m at (omega (arith, h .0)) g)) e
+    stays-stops (skip m w) at Q g l h e = stays-stops w (at + m) Q (omega arith) (h .0) (h .1) e
+    stays-stops (list q r c m w) at Q g l h e = stays-stops w at Q g l h e
+
   -- less may be said of the answer, and of the room
   pub stays-weaken : (w : Walk A) (L M at : ℕ) (Q R : A → ℕ → Type 0) → L ≤ M → ((a : A) (e : ℕ) → Q a e → R a e) → Stays L at w Q → Stays M at w R
   stays-weaken (give x) L M at Q R l i h = i x at h
-  stays-weaken (refuse n p) L M at Q R l i h = tt
-  stays-weaken (check c n p w) L M at Q R l i h = λ e. stays-weaken w L M at Q R l i (h e)
+  stays-weaken (refuse n p) L M at Q R l i h = h
+  stays-weaken (check c n p w) L M at Q R l i h = when-then (numbered n) (λ k e. stays-weaken w L M at Q R l i (k e)) h
   stays-weaken (number n f) L M at Q R l i h = (omega (arith, h .0), λ v. stays-weaken (f v) L M (at + n) Q R l i (h .1 v))
   stays-weaken (read k n f) L M at Q R l i h = (omega (arith, h .0), λ v e. stays-weaken (f v) L M (at + n) Q R l i (h .1 v e))
   stays-weaken (skip n w) L M at Q R l i h = (omega (arith, h .0), stays-weaken w L M (at + n) Q R l i (h .1))
@@ -230,7 +265,7 @@ module _ {A : Type 0} where
     unfolding see run numberAt bytesAt gate size
     seen (give x) at Q g h = ap (λ (y : ℕ). goes x y) (omega arith)
     seen (refuse n p) at Q g h = refl
-    seen (check true n p w) at Q g h = seen w at Q g (h refl)
+    seen (check true n p w) at Q g h = seen w at Q g (passes (numbered n) h refl)
     seen (check false n p w) at Q g h = refl
     seen (number n f) at Q g h =
         let r : n ≤ length (drop (at - b) s) = rw length-drop (omega (arith, h .0)) in
@@ -256,7 +291,7 @@ module _ {A : Type 0} where
     unfolding see numberAt bytesAt gate
     see-part (give x) at Q g h = refl
     see-part (refuse n p) at Q g h = refl
-    see-part (check true n p w) at Q g h = see-part w at Q g (h refl)
+    see-part (check true n p w) at Q g h = see-part w at Q g (passes (numbered n) h refl)
     see-part (check false n p w) at Q g h = refl
     see-part (number n f) at Q g h =
         let d : a + (at - c) ≡ at - b = omega arith in
@@ -283,8 +318,8 @@ module _ {A B : Type 0} where
       Stays L at w Q → ((a : A) (e : ℕ) → Q a e → Stays L e (k a) R) → Stays L at (w >>= k) R
   unfolding _>>=_
   stays-bind (give x) k L at Q R h g = g x at h
-  stays-bind (refuse n p) k L at Q R h g = tt
-  stays-bind (check c n p w) k L at Q R h g = λ e. stays-bind w k L at Q R (h e) g
+  stays-bind (refuse n p) k L at Q R h g = h
+  stays-bind (check c n p w) k L at Q R h g = when-then (numbered n) (λ j e. stays-bind w k L at Q R (j e) g) h
   stays-bind (number n f) k L at Q R h g = (h .0, λ v. stays-bind (f v) k L (at + n) Q R (h .1 v) g)
   stays-bind (read κ n f) k L at Q R h g = (h .0, λ v e. stays-bind (f v) k L (at + n) Q R (h .1 v e) g)
   stays-bind (skip n w) k L at Q R h g = (h .0, stays-bind w k L (at + n) Q R (h .1) g)

@@ -1,9 +1,10 @@
 -- What a walk comes to over a part of the file, for code that reads by position: no events, and no test of room.
 -- Assumes nothing.
 use mathlib.Core.Path.{_≡_}
-use mathlib.Core.Bool.{Bool, true, false}
+use mathlib.Core.Bool.{Bool, true, false, _&&_}
 use mathlib.Core.List.{List}
 use Prim.Native.Nat.{ℕ, _+_, _-_, _≤_}
+use lib.Dec.{leb, when}
 use lib.ListN.{length}
 use Rattle.words.specs.Numbers.{bytesAt, numberAt}
 use Rattle.words.specs.declared.Order.{Order}
@@ -54,12 +55,16 @@ over f (goes a e) = goes (f a) e
 abbrev pub ends : {A : Type 0} → Verdict A → Verdict (Unit {0})
 ends = over (λ _. tt)
 
--- the walk reads no byte at or after L, whatever the bytes are, and Q holds of what it gives and where it ends
+-- the numbers of document 01's refusals of a file. 0 is none of them: it stands where no walk over a file comes
+abbrev pub numbered : ℕ → Bool
+numbered n = leb 1 n && leb n 16
+
+-- the walk reads no byte at or after L, whatever the bytes are, and refuses by these numbers; and Q holds of what it gives and where it ends
 module _ {A : Type 0} where
   abbrev pub Stays : ℕ → ℕ → Walk A → (A → ℕ → Type 0) → Type 0
   Stays L at (give a) Q = Q a at
-  Stays L at (refuse n p) Q = Unit {0}
-  Stays L at (check c n p w) Q = c ≡ true → Stays L at w Q
+  Stays L at (refuse n p) Q = when (numbered n) (Unit {0})
+  Stays L at (check c n p w) Q = when (numbered n) (c ≡ true → Stays L at w Q)
   Stays L at (number n f) Q = (at + n ≤ L) × ((v : ℕ) → Stays L (at + n) (f v) Q)
   Stays L at (read k n f) Q = (at + n ≤ L) × ((bs : List ℕ) → length bs ≡ n → Stays L (at + n) (f bs) Q)
   Stays L at (skip n w) Q = (at + n ≤ L) × Stays L (at + n) w Q
