@@ -3,6 +3,7 @@
 use mathlib.Core.Path.{_≡_, refl, sym, ap, _∙_}
 use mathlib.Core.Bool.{Bool, true, false, _&&_, _||_}
 use mathlib.Core.List.{List, [], _∷_}
+use mathlib.Core.Option.{Option, none, some}
 use Prim.Native.Nat.{ℕ, zero, suc, _+_, _*_, _-_, _≤_, _<_, max}
 use native.Mathlib.Nat.{suc-mul}
 use native.Mathlib.Omega.{arith}
@@ -10,9 +11,9 @@ use lib.ListN.{length}
 use borrow.Author.Tests.{leb-true, ltb-true, eqb-true}
 use lib.Dec.{leb, ltb, eqb}
 use Rattle.walk.specs.See.{Stays}
-use Rattle.walk.specs.Walk.{Walk, give, _>>=_, _>>_}
-use Rattle.walk.proofs.Seen.{stays-bind, stays-then, stays-weaken, and-left, and-right}
-use Rattle.rules.specs.Rules.{itemsBody, channelsBody, frameBody, Head, head, limit, admit, span, coded, fixed, Basic, basicBody, channelBody, channel, item, itemSize, itemBytes, itemList, series, zeros, padding, Channel, width, samplesIn, sampleBytes, numberList, samples}
+use Rattle.walk.specs.Walk.{Walk, give, _>>=_, _>>_, pick, require, text, refuse}
+use Rattle.walk.proofs.Seen.{stays-bind, stays-then, stays-weaken, and-left, and-right, stays-require}
+use Rattle.rules.specs.Rules.{itemsBody, channelsBody, frameBody, Head, head, limit, admit, span, coded, fixed, Basic, basicBody, channelBody, channel, item, itemSize, itemBytes, itemList, series, zeros, padding, Channel, width, samplesIn, sampleBytes, numberList, samples, frame, Next, channels, frames, framesBody, items, next, padOk, makerCode, between, delimiter, part, recording, Held, Part, basic, heldChannels, patientCode, heldPatient, eventCode}
 
 pub stays-head : (at room : ℕ) → Stays (at + room) at (head room) (λ h e. (e ≡ at + 16) × (16 ≤ room))
 unfolding head _>>=_ _>>_
@@ -38,16 +39,23 @@ pub stays-channelBody : (at L : ℕ) → at + 240 ≤ L → Stays L at channelBo
 unfolding channelBody _>>=_ _>>_
 stays-channelBody at L h = (omega arith, λ _. (omega arith, λ _. (omega arith, λ _ _. (omega arith, λ _ _. (omega arith, λ _ _. (omega arith, λ _. (omega arith, λ _. (omega arith, λ _. (omega arith, λ _. (omega arith, λ _. (omega arith, λ _. (omega arith, λ _. (omega arith, λ _. (omega arith, (omega arith, λ _ _. (omega arith, λ _ _. (omega arith, (omega arith, λ _ _. omega arith))))))))))))))))))
 
+-- a record: its head, its code, and that it is admitted; then what stands behind the head
+stays-record : {A : Type 0} (code most : ℕ) (fits : Head → ℕ → Bool) (serial : ℕ → Bool) (body : Head → Walk A) (R : A → ℕ → Type 0) (at room : ℕ) →
+    ((h : Head) → fits h (span h) ≡ true → span h ≤ room → Stays (at + span h) (at + 16) (body h) R) →
+    Stays (at + room) at (head room >>= λ h. coded h code >> (admit room most (fits h) serial h >> body h)) R
+stays-record code most fits serial body R at room k =
+    stays-bind (head room) _ (at + room) at _ R (stays-head at room)
+    (λ h e q. stays-require (eqb (h .code) code) 9 12 _ (at + room) e R refl
+    (λ _. stays-then (admit room most (fits h) serial h) (body h) (at + room) e _ R (stays-admit room most (fits h) serial h (at + room) e)
+    (λ _ x v. rw (v .0 ∙ q .0) (stays-weaken (body h) (at + span h) (at + room) (at + 16) R R (omega (arith, v .2)) (λ _ _ r. r) (k h (v .1) (v .2))))))
+
 -- a record of a fixed size, whose body takes what is behind the head
 pub stays-fixed : {A : Type 0} (size code serial : ℕ) (body : Walk A) → ((at : ℕ) → Stays (at + (size - 16)) at body (λ _ e. e ≡ at + (size - 16))) → 16 ≤ size → (at room : ℕ) → Stays (at + room) at (fixed size code serial body room) (λ _ e. (e ≡ at + size) × (e ≤ at + room))
 unfolding fixed
 stays-fixed size code serial body k z at room =
-    stays-bind (head room) _ (at + room) at _ _ (stays-head at room)
-    (λ h e q. stays-then (coded h code) _ (at + room) e (λ _ x. x ≡ e) _ (λ _. refl)
-    (λ _ x u. stays-then (admit room 0 (eqb size) (eqb serial) h) _ (at + room) x _ _ (stays-admit room 0 (eqb size) (eqb serial) h (at + room) x)
-    (λ _ y v.
-    let n : size ≡ span h = eqb-true size (span h) (v .1) in
-    stays-weaken body (y + (size - 16)) (at + room) y _ _ (omega (arith, q .0, u, v .0, v .2)) (λ a e′ w. (omega (arith, q .0, u, v .0, v .2), omega (arith, q .0, u, v .0, v .2))) (k y))))
+    stays-record code 0 (λ _. eqb size) (eqb serial) (λ _. body) _ at room
+    (λ h f l. let n : size ≡ span h = eqb-true size (span h) f in
+    stays-weaken body (at + 16 + (size - 16)) (at + span h) (at + 16) _ _ (omega arith) (λ a e q. (omega arith, omega arith)) (k (at + 16)))
 
 pub stays-channel : (i at room : ℕ) → Stays (at + room) at (channel room i) (λ _ e. (e ≡ at + 256) × (e ≤ at + room))
 stays-channel i at room = stays-fixed 256 125 i channelBody (λ x. stays-channelBody x (x + 240) (omega arith)) (omega arith) at room
@@ -88,14 +96,22 @@ stays-itemsBody ok n at h = (
   ),
 )
 
-pub stays-channels : (n i room at : ℕ) → n * 256 ≤ room → Stays (at + room) at (series n i 256 room channel) (λ _ e. e ≡ at + n * 256)
+pub stays-basic : (at room L : ℕ) → at + room ≤ L → Stays L at (basic room) (λ _ e. (e ≡ at + 128) × (e ≤ L))
+stays-basic at room L l = stays-weaken (basic room) (at + room) L at _ _ l (λ b e q. (q .0, omega arith)) (stays-fixed 128 100 0 basicBody (λ x. stays-basicBody x (x + 112) (omega arith)) (omega arith) at room)
+
+-- walks of one length, one after the other
+pub stays-series : {A : Type 0} (step : ℕ) (w : ℕ → ℕ → Walk A) → ((i at room : ℕ) → Stays (at + room) at (w room i) (λ _ e. (e ≡ at + step) × (e ≤ at + room))) → (n i room at : ℕ) → n * step ≤ room → Stays (at + room) at (series n i step room w) (λ _ e. e ≡ at + n * step)
 unfolding series
-stays-channels zero i room at h = omega arith
-stays-channels (suc n) i room at h =
-    stays-bind (channel room i) _ (at + room) at _ _ (stays-channel i at room)
-    (λ c e q. stays-bind (series n (suc i) 256 (room - 256) channel) _ (at + room) e (λ _ x. x ≡ e + n * 256) _
-    (stays-weaken (series n (suc i) 256 (room - 256) channel) (e + (room - 256)) (at + room) e _ _ (omega (arith, q .0, q .1)) (λ cs x r. r) (stays-channels n (suc i) (room - 256) e (omega arith)))
+stays-series step w k zero i room at h = omega arith
+stays-series step w k (suc n) i room at h =
+    let d : suc n * step ≡ n * step + step = suc-mul n step in
+    stays-bind (w room i) _ (at + room) at _ _ (k i at room)
+    (λ c e q. stays-bind (series n (suc i) step (room - step) w) _ (at + room) e (λ _ x. x ≡ e + n * step) _
+    (stays-weaken (series n (suc i) step (room - step) w) (e + (room - step)) (at + room) e _ _ (omega (arith, q .0, q .1)) (λ cs x r. r) (stays-series step w k n (suc i) (room - step) e (omega arith)))
     (λ cs x r. omega (arith, q .0, r)))
+
+pub stays-channels : (n i room at : ℕ) → n * 256 ≤ room → Stays (at + room) at (series n i 256 room channel) (λ _ e. e ≡ at + n * 256)
+stays-channels = stays-series 256 channel stays-channel
 
 pub stays-channelsBody : (b : Basic) (n at : ℕ) → 32 ≤ n → Stays (at + (n - 16)) at (channelsBody b n) (λ _ e. e ≡ at + (n - 16))
 unfolding channelsBody _>>=_ _>>_
@@ -152,3 +168,118 @@ stays-frameBody n t cs at h = (
     ),
   ),
 )
+
+pub stays-frame : (size t : ℕ) (cs : List Channel) → 24 + sampleBytes t cs ≤ size → (i at room : ℕ) → Stays (at + room) at (frame size t cs room i) (λ _ e. (e ≡ at + size) × (e ≤ at + room))
+unfolding frame
+stays-frame size t cs z i at room =
+    stays-record 145 128 (λ h n. eqb n size && padOk h (n - (24 + sampleBytes t cs))) (eqb i) (λ _. frameBody size t cs) _ at room
+    (λ h f l. let n : span h ≡ size = eqb-true (span h) size (and-left _ _ f) in
+    stays-weaken (frameBody size t cs) (at + 16 + (size - 16)) (at + span h) (at + 16) _ _ (omega arith) (λ a e q. (omega arith, omega arith)) (stays-frameBody size t cs (at + 16) z))
+
+pub stays-framesBody : (b : Basic) (cs : List Channel) (h : Head) (at : ℕ) → 32 ≤ span h → Stays (at + (span h - 16)) at (framesBody b cs h) (λ _ e. e ≡ at + (span h - 16))
+unfolding framesBody between _>>=_ _>>_
+stays-framesBody b cs h at z = (
+  omega arith,
+  λ t _ _. (
+    omega arith,
+    λ size c. (
+      omega arith,
+      λ n _ d.
+          let s : 24 + sampleBytes t cs ≤ size = leb-true (24 + sampleBytes t cs) size (and-left _ _ (and-left _ (ltb size limit) c)) in
+          let u : 32 + n * size ≤ span h = leb-true (32 + n * size) (span h) (and-left _ _ d) in (
+            omega arith,
+            stays-bind (series n 1 size (span h - 32) (frame size t cs)) _ (at + (span h - 16)) (at + 4 + 4 + 4 + 4) (λ _ e. e ≡ at + 16 + n * size) _
+                (stays-weaken (series n 1 size (span h - 32) (frame size t cs)) (at + 4 + 4 + 4 + 4 + (span h - 32)) (at + (span h - 16)) (at + 4 + 4 + 4 + 4) _ _ (omega arith) (λ fs e q. omega arith) (stays-series size (frame size t cs) (stays-frame size t cs s) n 1 (span h - 32) (at + 4 + 4 + 4 + 4) (omega arith)))
+                (λ fs e q. stays-then (padding (span h - (32 + n * size))) _ (at + (span h - 16)) e _ _ (stays-padding (at + (span h - 16)) e (span h - (32 + n * size)) (omega arith)) (λ _ x r. omega arith)),
+          ),
+    ),
+  ),
+)
+
+-- the rest of a record whose head is read: it stays in the room, counted from the record's start, and ends where the record ends
+abbrev pub Rests : {A : Type 0} → (ℕ → Head → Walk A) → Type 0
+Rests body = (room : ℕ) (h : Head) (L at : ℕ) → at + room ≡ L + 16 → Stays L at (body room h) (λ _ e. (16 ≤ span h) × (span h ≤ room) × (e + (room - span h) ≡ L))
+
+stays-rest : {A : Type 0} (low most : ℕ) (body : Head → Walk A) → 16 ≤ low →
+    ((h : Head) (at : ℕ) → low ≤ span h → Stays (at + (span h - 16)) at (body h) (λ _ e. e ≡ at + (span h - 16))) →
+    Rests (λ room h. admit room most (leb low) (eqb 0) h >> body h)
+stays-rest low most body z k room h L at s =
+    stays-then (admit room most (leb low) (eqb 0) h) (body h) L at _ _ (stays-admit room most (leb low) (eqb 0) h L at)
+    (λ _ x v.
+    let n : low ≤ span h = leb-true low (span h) (v .1) in
+    stays-weaken (body h) (x + (span h - 16)) L x _ _ (omega (arith, v .0, v .2)) (λ a e q. (omega arith, v .2, omega (arith, v .0, v .2))) (k h x n))
+
+pub stays-channelsRest : (b : Basic) → Rests (channels b)
+unfolding channels
+stays-channelsRest b = stays-rest 32 0 (λ h. channelsBody b (span h)) (omega arith) (λ h at. stays-channelsBody b (span h) at)
+
+pub stays-itemsRest : (ok : ℕ → Bool) → Rests (items ok)
+unfolding items
+stays-itemsRest ok = stays-rest 24 0 (λ h. itemsBody ok (span h)) (omega arith) (λ h at. stays-itemsBody ok (span h) at)
+
+pub stays-framesRest : (b : Basic) (own : Bool) (cs : List Channel) (back : ℕ) → Rests (frames b own cs back)
+unfolding frames
+stays-framesRest b own cs back = stays-rest 32 128 _ (omega arith) (λ h at z. stays-require _ 14 back (framesBody b cs h) _ at _ refl (λ _. stays-framesBody b cs h at z))
+
+stays-pick : {A : Type 0} (c : Bool) (x y : Walk A) (L at : ℕ) (Q : A → ℕ → Type 0) → Stays L at x Q → Stays L at y Q → Stays L at (pick c x y) Q
+stays-pick true x y L at Q h k = h
+stays-pick false x y L at Q h k = k
+
+-- the walk stands behind the head of a record, whose room is counted from its start to L and is less than the fuel
+abbrev pub Behind : ℕ → ℕ → Next → ℕ → Type 0
+Behind L fuel n e = (16 ≤ n .room) × (n .room < fuel) × (e + n .room ≡ L + 16)
+
+-- a maker's record takes 16 bytes of the room at least, so the fuel does not end
+pub stays-next : (fuel room most L at : ℕ) → room < fuel → room < most → at + room ≡ L → Stays L at (next fuel room) (Behind L most)
+unfolding next
+stays-next zero room most L at f m l = absurd (omega arith)
+stays-next (suc fuel) room most L at f m l =
+    stays-bind (head room) _ L at _ _ (rw l at (stays-head at room))
+    (λ h e q. stays-pick (makerCode (h .code)) _ _ L e (Behind L most)
+    (stays-then (admit room 128 (leb 16) (λ _. true) h) _ L e _ _ (stays-admit room 128 (leb 16) (λ _. true) h L e)
+    (λ _ x v.
+    let s : 16 ≤ span h = leb-true 16 (span h) (v .1) in
+    stays-bind (text (span h - 16)) _ L x (λ _ y. y ≡ at + span h) _ (omega (arith, q .0, v .0, v .2), λ _ _. omega (arith, q .0, v .0))
+    (λ body y u. stays-bind (next fuel (room - span h)) _ L y _ _ (stays-next fuel (room - span h) most L y (omega (arith, v .2)) (omega arith) (omega (arith, v .2)))
+    (λ n z w. w))))
+    (q .1, m, omega (arith, q .0)))
+
+-- a part that is there, or what is held in its place
+stays-own : {A : Type 0} (own : Bool) (held : Option A) (n : Next) (w : Walk (Part A)) (fuel L at : ℕ) → Stays L at w (λ p. Behind L fuel (p .next)) → Behind L fuel n at →
+    Stays {A = Part A} L at (elim own [ true ↦ w | false ↦ elim held [ none ↦ refuse 9 12 | some a ↦ give (record { own = false; value = a; next = record { makers = []; head = n .head; room = n .room } }) ] ]) (λ p. Behind L fuel (p .next))
+stays-own true held n w fuel L at k h = k
+stays-own false none n w fuel L at k h = tt
+stays-own false (some a) n w fuel L at k h = h
+
+pub stays-part : {A : Type 0} (fuel code : ℕ) (body : ℕ → Head → Walk A) → Rests body → (held : Option A) (n : Next) (L at : ℕ) → Behind L fuel n at → Stays L at (part fuel code body held n) (λ p. Behind L fuel (p .next))
+unfolding part
+stays-part fuel code body k held n L at q =
+    stays-own (eqb (n .head .code) code) held n _ fuel L at
+    (stays-bind (body (n .room) (n .head)) _ L at _ _ (k (n .room) (n .head) L at (q .2))
+    (λ a e u. stays-bind (next fuel (n .room - span (n .head))) _ L e _ _ (stays-next fuel (n .room - span (n .head)) fuel L e (omega (arith, q .1)) (omega (arith, q .1)) (u .2))
+    (λ m x w. w)))
+    q
+
+pub stays-delimiter : (h : Head) (L at : ℕ) → Stays L at (delimiter h) (λ _ e. e ≡ at)
+unfolding delimiter _>>=_ _>>_
+stays-delimiter h L at = λ _ _ _ _. refl
+
+pub stays-recording : (held : Option Held) (i at room : ℕ) → Stays (at + room) at (recording held room i) (λ x e. (e ≡ at + x .layout .bytes) × (x .layout .bytes ≤ room))
+unfolding recording
+stays-recording held i at room =
+    stays-record 10 128 (λ _. leb 16) (eqb i) _ _ at room
+    (λ h f l.
+    let s : 16 ≤ span h = leb-true 16 (span h) f in
+    stays-bind (basic (span h - 16)) _ (at + span h) (at + 16) _ _ (stays-basic (at + 16) (span h - 16) (at + span h) (omega arith))
+    (λ b e₁ q₁. stays-bind (next (span h) (span h - 144)) _ (at + span h) e₁ _ _ (stays-next (span h) (span h - 144) (span h) (at + span h) e₁ (omega (arith, q₁)) (omega (arith, q₁)) (omega (arith, q₁)))
+    (λ n e₂ q₂. stays-bind (part (span h) 120 (channels b) (heldChannels held) n) _ (at + span h) e₂ _ _ (stays-part (span h) 120 (channels b) (stays-channelsRest b) (heldChannels held) n (at + span h) e₂ q₂)
+    (λ c e₃ q₃. stays-bind (part (span h) 130 (items patientCode) (heldPatient held) (c .next)) _ (at + span h) e₃ _ _ (stays-part (span h) 130 (items patientCode) (stays-itemsRest patientCode) (heldPatient held) (c .next) (at + span h) e₃ q₃)
+    (λ p e₄ q₄. stays-bind (part (span h) 200 (items eventCode) (some []) (p .next)) _ (at + span h) e₄ _ _ (stays-part (span h) 200 (items eventCode) (stays-itemsRest eventCode) (some []) (p .next) (at + span h) e₄ q₄)
+    (λ e e₅ q₅. stays-require _ 9 12 _ (at + span h) e₅ _ refl
+    (λ _. stays-bind (frames b (c .own) (c .value) _ (e .next .room) (e .next .head)) _ (at + span h) e₅ _ _ (stays-framesRest b (c .own) (c .value) _ (e .next .room) (e .next .head) (at + span h) e₅ (q₅ .2))
+    (λ f e₆ q₆. stays-bind (next (span h) (e .next .room - span (e .next .head))) _ (at + span h) e₆ _ _ (stays-next (span h) (e .next .room - span (e .next .head)) (span h) (at + span h) e₆ (omega (arith, q₅ .1)) (omega (arith, q₅ .1)) (q₆ .2))
+    (λ d e₇ q₇. stays-then (delimiter (d .head)) _ (at + span h) e₇ _ _ (stays-delimiter (d .head) (at + span h) e₇)
+    (λ _ e₈ q₈. stays-require _ 14 _ _ (at + span h) e₈ _ refl
+    (λ _. stays-require _ 10 0 _ (at + span h) e₈ _ refl
+    (λ _. stays-then (padding (d .room - 16)) _ (at + span h) e₈ _ _ (stays-padding (at + span h) e₈ (d .room - 16) (omega (arith, q₇ .0, q₇ .2, q₈)))
+    (λ _ x r. (omega (arith, q₇ .0, q₇ .2, q₈, r), l))))))))))))))

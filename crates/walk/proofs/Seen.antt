@@ -15,7 +15,7 @@ use lib.Seq.{drop-drop, take-take, length-take-le}
 use Rattle.words.specs.Numbers.{wordIn, bytesAt, numberAt}
 use Rattle.words.specs.declared.Order.{Order}
 use Rattle.walk.specs.See.{Verdict, stops, goes, verdict, gate, see, Goes, over, ends, Stays, Holds, Yields, onward, numbered}
-use Rattle.walk.specs.Walk.{Kind, laid, Event, numeral, piece, blank, row, size, Walk, give, refuse, check, number, read, skip, list, Outcome, refused, passed, _>>_, logged, run, _>>=_}
+use Rattle.walk.specs.Walk.{Kind, laid, Event, numeral, piece, blank, row, size, Walk, give, refuse, check, number, read, skip, list, Outcome, refused, passed, _>>_, logged, run, _>>=_, require}
 use Rattle.walk.proofs.Laid.{length-laid}
 use Rattle.walk.proofs.Laws.{run-read, run-number}
 
@@ -342,6 +342,11 @@ module _ {A B : Type 0} where
       Stays L at w Q → ((a : A) (e : ℕ) → Q a e → Stays L e v R) → Stays L at (w >> v) R
   unfolding _>>_
   stays-then w v L at Q R h g = stays-bind w (λ _. v) L at Q R h g
+
+-- a test stays where it is
+pub stays-require : {A : Type 0} (c : Bool) (n p : ℕ) (w : Walk A) (L at : ℕ) (Q : A → ℕ → Type 0) → numbered n ≡ true → (c ≡ true → Stays L at w Q) → Stays L at (require c n p >> w) Q
+unfolding _>>=_ _>>_
+stays-require c n p w L at Q t k = rw t k
 
 module _ {A : Type 0} (o : Order) (b : ℕ) (s : List ℕ) where
   yields-holds : (w : Walk A) (at : ℕ) (Q : A → ℕ → Type 0) → Yields o b s at w Q → Holds Q (see o b s at w)
