@@ -13,7 +13,7 @@ use lib.Dec.{leb, ltb, eqb}
 use Rattle.walk.specs.See.{Stays}
 use Rattle.walk.specs.Walk.{Walk, give, _>>=_, _>>_, pick, require, text, refuse}
 use Rattle.walk.proofs.Seen.{stays-bind, stays-then, stays-weaken, and-left, and-right, stays-require}
-use Rattle.rules.specs.Rules.{itemsBody, channelsBody, frameBody, Head, head, limit, admit, span, coded, fixed, Basic, basicBody, channelBody, channel, item, itemSize, itemBytes, itemList, series, zeros, padding, Channel, width, samplesIn, sampleBytes, numberList, samples, frame, Next, channels, frames, framesBody, items, next, padOk, makerCode, between, delimiter, part, recording, Held, Part, basic, heldChannels, patientCode, heldPatient, eventCode}
+use Rattle.rules.specs.Rules.{itemsBody, channelsBody, frameBody, Head, head, limit, admit, span, coded, fixed, Basic, basicBody, channelBody, channel, item, itemSize, itemBytes, itemList, series, zeros, padding, Channel, width, samplesIn, sampleBytes, numberList, samples, frame, Next, channels, frames, framesBody, items, next, padOk, makerCode, between, delimiter, part, recording, Held, Part, basic, heldChannels, patientCode, heldPatient, eventCode, file, fileHeader, recordings}
 
 pub stays-head : (at room : ℕ) → Stays (at + room) at (head room) (λ h e. (e ≡ at + 16) × (16 ≤ room))
 unfolding head _>>=_ _>>_
@@ -270,16 +270,37 @@ stays-recording held i at room =
     stays-record 10 128 (λ _. leb 16) (eqb i) _ _ at room
     (λ h f l.
     let s : 16 ≤ span h = leb-true 16 (span h) f in
-    stays-bind (basic (span h - 16)) _ (at + span h) (at + 16) _ _ (stays-basic (at + 16) (span h - 16) (at + span h) (omega arith))
-    (λ b e₁ q₁. stays-bind (next (span h) (span h - 144)) _ (at + span h) e₁ _ _ (stays-next (span h) (span h - 144) (span h) (at + span h) e₁ (omega (arith, q₁)) (omega (arith, q₁)) (omega (arith, q₁)))
-    (λ n e₂ q₂. stays-bind (part (span h) 120 (channels b) (heldChannels held) n) _ (at + span h) e₂ _ _ (stays-part (span h) 120 (channels b) (stays-channelsRest b) (heldChannels held) n (at + span h) e₂ q₂)
-    (λ c e₃ q₃. stays-bind (part (span h) 130 (items patientCode) (heldPatient held) (c .next)) _ (at + span h) e₃ _ _ (stays-part (span h) 130 (items patientCode) (stays-itemsRest patientCode) (heldPatient held) (c .next) (at + span h) e₃ q₃)
-    (λ p e₄ q₄. stays-bind (part (span h) 200 (items eventCode) (some []) (p .next)) _ (at + span h) e₄ _ _ (stays-part (span h) 200 (items eventCode) (stays-itemsRest eventCode) (some []) (p .next) (at + span h) e₄ q₄)
-    (λ e e₅ q₅. stays-require _ 9 12 _ (at + span h) e₅ _ refl
-    (λ _. stays-bind (frames b (c .own) (c .value) _ (e .next .room) (e .next .head)) _ (at + span h) e₅ _ _ (stays-framesRest b (c .own) (c .value) _ (e .next .room) (e .next .head) (at + span h) e₅ (q₅ .2))
-    (λ f e₆ q₆. stays-bind (next (span h) (e .next .room - span (e .next .head))) _ (at + span h) e₆ _ _ (stays-next (span h) (e .next .room - span (e .next .head)) (span h) (at + span h) e₆ (omega (arith, q₅ .1)) (omega (arith, q₅ .1)) (q₆ .2))
-    (λ d e₇ q₇. stays-then (delimiter (d .head)) _ (at + span h) e₇ _ _ (stays-delimiter (d .head) (at + span h) e₇)
-    (λ _ e₈ q₈. stays-require _ 14 _ _ (at + span h) e₈ _ refl
-    (λ _. stays-require _ 10 0 _ (at + span h) e₈ _ refl
-    (λ _. stays-then (padding (d .room - 16)) _ (at + span h) e₈ _ _ (stays-padding (at + span h) e₈ (d .room - 16) (omega (arith, q₇ .0, q₇ .2, q₈)))
+    stays-bind _ _ _ _ _ _ (stays-basic (at + 16) (span h - 16) (at + span h) (omega arith))
+    (λ b e₁ q₁. stays-bind _ _ _ _ _ _ (stays-next (span h) (span h - 144) (span h) (at + span h) e₁ (omega (arith, q₁)) (omega (arith, q₁)) (omega (arith, q₁)))
+    (λ n e₂ q₂. stays-bind _ _ _ _ _ _ (stays-part (span h) 120 (channels b) (stays-channelsRest b) (heldChannels held) n (at + span h) e₂ q₂)
+    (λ c e₃ q₃. stays-bind _ _ _ _ _ _ (stays-part (span h) 130 (items patientCode) (stays-itemsRest patientCode) (heldPatient held) (c .next) (at + span h) e₃ q₃)
+    (λ p e₄ q₄. stays-bind _ _ _ _ _ _ (stays-part (span h) 200 (items eventCode) (stays-itemsRest eventCode) (some []) (p .next) (at + span h) e₄ q₄)
+    (λ e e₅ q₅. stays-require _ 9 12 _ _ _ _ refl
+    (λ _. stays-bind _ _ _ _ _ _ (stays-framesRest b (c .own) (c .value) _ (e .next .room) (e .next .head) (at + span h) e₅ (q₅ .2))
+    (λ f e₆ q₆. stays-bind _ _ _ _ _ _ (stays-next (span h) (e .next .room - span (e .next .head)) (span h) (at + span h) e₆ (omega (arith, q₅ .1)) (omega (arith, q₅ .1)) (q₆ .2))
+    (λ d e₇ q₇. stays-then _ _ _ _ _ _ (stays-delimiter (d .head) (at + span h) e₇)
+    (λ _ e₈ q₈. stays-require _ 14 _ _ _ _ _ refl
+    (λ _. stays-require _ 10 0 _ _ _ _ refl
+    (λ _. stays-then _ _ _ _ _ _ (stays-padding (at + span h) e₈ (d .room - 16) (omega (arith, q₇ .0, q₇ .2, q₈)))
     (λ _ x r. (omega (arith, q₇ .0, q₇ .2, q₈, r), l))))))))))))))
+
+pub stays-recordings : (n : ℕ) (held : Option Held) (room i L at : ℕ) → at + room ≡ L → Stays L at (recordings n held room i) (λ _ e. e ≤ L)
+unfolding recordings
+stays-recordings zero held room i L at l = omega arith
+stays-recordings (suc n) held room i L at l =
+    stays-bind _ _ _ _ _ _ (rw l at (stays-recording held i at room))
+    (λ x e q. stays-bind _ _ _ _ _ _ (stays-recordings n (some (record { channels = x .recording .channels; patient = x .recording .patient })) (room - x .layout .bytes) (suc i) L e (omega (arith, q .0, q .1)))
+    (λ _ _ r. r))
+
+pub stays-fileHeader : (size at : ℕ) → Stays (at + size) at (fileHeader size) (λ _ e. (e ≡ at + 32) × (32 ≤ size))
+unfolding fileHeader _>>=_ _>>_
+stays-fileHeader size at c =
+    let h : 32 ≤ size = leb-true 32 size c in
+    (omega arith, λ _ _ _. (omega arith, λ _ _ _. (omega arith, λ _ _ _. (omega arith, λ _ _ _. (omega arith, λ _ _ _. (omega arith, λ _ _ _. (omega arith, λ _ _ _. (omega arith, h))))))))
+
+pub stays-file : (size at : ℕ) → Stays (at + size) at (file size) (λ _ e. e ≤ at + size)
+unfolding file
+stays-file size at =
+    stays-bind _ _ _ _ _ _ (stays-fileHeader size at)
+    (λ f e q. stays-bind _ _ _ _ _ _ (stays-recordings (f .count) none (size - 32) 1 (at + size) e (omega (arith, q .0, q .1)))
+    (λ _ _ r. r))
