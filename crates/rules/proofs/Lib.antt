@@ -1,4 +1,5 @@
 pub mod Room
+pub mod Refusals
 pub mod Turn
 pub mod Flip
 pub mod Sized

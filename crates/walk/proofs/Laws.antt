@@ -8,7 +8,7 @@ use native.Mathlib.Nat.{add-zero}
 use native.Mathlib.Omega.{arith}
 use lib.Dec.{leb}
 use borrow.Author.Tests.{leb-true, le-leb}
-use lib.ListN.{length, take, drop, replicate, length-append, length-take, take-append-drop, length-replicate}
+use lib.ListN.{length, take, drop, replicate, length-append, length-take, length-drop, take-append-drop, length-replicate}
 use lib.Seq.{take-at, drop-at, drop-drop, length-take-le}
 use Rattle.words.specs.Numbers.{wordIn, bytesIn, Bytes}
 use Rattle.words.specs.declared.Order.{Order}
@@ -32,7 +32,7 @@ length-render o (piece k bs ∷ t) = simp (length-append, length-laid, length-re
 length-render o (blank bs ∷ t) = simp (length-append, length-render o t)
 length-render o (row p l c s ∷ t) = length-render o t
 
-size-cons : (v : Event) (t : List Event) → size (v ∷ t) ≡ size (v ∷ []) + size t
+pub size-cons : (v : Event) (t : List Event) → size (v ∷ t) ≡ size (v ∷ []) + size t
 unfolding size
 size-cons (numeral w v) t = omega arith
 size-cons (piece k bs) t = omega arith
@@ -107,6 +107,11 @@ module _ {A : Type 0} where
   Judged o s w (refused n p) = Unit {0}
   Judged o s w (passed a r t) = Read o s w a r t
 
+  -- where there is room for n bytes, and where there is none
+  where-room : (n : ℕ) (s : List ℕ) (x : Outcome A) (P : Outcome A → Type 0) → (n ≤ length s → P x) → P (refused 0 0) → P (elim (leb n (length s)) [ true ↦ x | false ↦ refused 0 0 ])
+  where-room n s x P h g =
+      (elim (leb n (length s)) as (λ c. leb n (length s) ≡ c → P (elim c [ true ↦ x | false ↦ refused 0 0 ])) [ true ↦ λ e. h (leb-true n (length s) e) | false ↦ λ e. g ]) refl
+
   -- one step of a run that takes n bytes and logs v
   module _ (o : Order) (s : List ℕ) (w : Walk A) (v : Event) (w′ : Walk A) (n : ℕ)
       (step : n ≤ length s → (t : List Event) (a : A) → Plays t w′ a → Plays (v ∷ t) w a) (bytes : n ≤ length s → (t : List Event) → render o (v ∷ t) ≡ take n s ++ render o t) where
@@ -116,9 +121,7 @@ module _ {A : Type 0} where
     judged-logged h (passed a r t) j = record { plays = step h t a (j .plays); file = rw (bytes h t, append-assoc, ← j .file) (sym (take-append-drop n s)) }
 
     judged-take : (x : Outcome A) → Judged o (drop n s) w′ x → Judged o s w (elim (leb n (length s)) [ true ↦ logged (v ∷ []) x | false ↦ refused 0 0 ])
-    judged-take x j =
-        (elim (leb n (length s)) as (λ c. leb n (length s) ≡ c → Judged o s w (elim c [ true ↦ logged (v ∷ []) x | false ↦ refused 0 0 ]))
-        [ true ↦ λ e. judged-logged (leb-true n (length s) e) x j | false ↦ λ e. tt ]) refl
+    judged-take x j = where-room n s (logged (v ∷ []) x) (Judged o s w) (λ h. judged-logged h x j) tt
 
   judged-as : (o : Order) (s : List ℕ) (w w′ : Walk A) → ((t : List Event) (a : A) → Plays t w′ a → Plays t w a) → (x : Outcome A) → Judged o s w′ x → Judged o s w x
   judged-as o s w w′ f (refused n p) j = tt
@@ -150,6 +153,33 @@ module _ {A : Type 0} where
       judged-take o s (skip n w) (blank (take n s)) w n (λ h t a q. skips (length-take-le n s h) (bytes-take n s b) q) (λ h t. refl)
       (run o (at + n) (drop n s) w) (sound w o (at + n) (drop n s) (bytes-drop n s b))
   sound (list p l c m w) o at s b = judged-list o s p l c m w (run o at s w) (sound w o at s b)
+
+  -- what was read and what is left are all the bytes
+  abbrev pub Spent : ℕ → Outcome A → Type 0
+  Spent n (refused m p) = Unit {0}
+  Spent n (passed a r t) = size t + length r ≡ n
+
+  spent-logged : (n m : ℕ) (v : Event) (x : Outcome A) → size (v ∷ []) + n ≡ m → Spent n x → Spent m (logged (v ∷ []) x)
+  unfolding logged
+  spent-logged n m v (refused k p) e h = tt
+  spent-logged n m v (passed a r t) e h = omega (arith, size-cons v t)
+
+  spent-take : (o : Order) (at n : ℕ) (s : List ℕ) (v : Event) (w : Walk A) → (n ≤ length s → size (v ∷ []) ≡ n) → Spent (length (drop n s)) (run o (at + n) (drop n s) w) →
+      Spent (length s) (elim (leb n (length s)) [ true ↦ logged (v ∷ []) (run o (at + n) (drop n s) w) | false ↦ refused 0 0 ])
+  spent-take o at n s v w e h = where-room n s _ (Spent (length s)) (λ l. spent-logged (length (drop n s)) (length s) v (run o (at + n) (drop n s) w) (rw (e l, length-drop) (omega arith)) h) tt
+
+  pub spent : (w : Walk A) (o : Order) (at : ℕ) (s : List ℕ) → Spent (length s) (run o at s w)
+  unfolding run size
+  spent (give a) o at s = omega arith
+  spent (refuse n p) o at s = tt
+  spent (check true n p w) o at s = spent w o at s
+  spent (check false n p w) o at s = tt
+  spent (number n f) o at s = let v : ℕ = wordIn o (take n s) in spent-take o at n s (numeral n v) (f v) (λ h. omega arith) (spent (f v) o (at + n) (drop n s))
+  spent (read k n f) o at s =
+      let bs : List ℕ = laid o k (take n s) in
+      spent-take o at n s (piece k bs) (f bs) (λ h. omega (arith, length-laid o k (take n s), length-take-le n s h)) (spent (f bs) o (at + n) (drop n s))
+  spent (skip n w) o at s = spent-take o at n s (blank (take n s)) w (λ h. omega (arith, length-take-le n s h)) (spent w o (at + n) (drop n s))
+  spent (list p l c m w) o at s = spent-logged (length s) (length s) (row p l c m) (run o at s w) (omega arith) (spent w o at s)
 
   -- G1
   pub read-of : (w : Walk A) (o : Order) (at : ℕ) (s : List ℕ) {a : A} {r : List ℕ} {t : List Event} → Bytes s → run o at s w ≡ passed a r t → Read o s w a r t

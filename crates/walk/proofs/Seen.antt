@@ -17,7 +17,7 @@ use Rattle.words.specs.declared.Order.{Order}
 use Rattle.walk.specs.See.{Verdict, stops, goes, verdict, gate, see, Goes, over, ends, Stays, Holds, Yields, onward, numbered}
 use Rattle.walk.specs.Walk.{Kind, laid, Event, numeral, piece, blank, row, size, Walk, give, refuse, check, number, read, skip, list, Outcome, refused, passed, _>>_, logged, run, _>>=_, require}
 use Rattle.walk.proofs.Laid.{length-laid}
-use Rattle.walk.proofs.Laws.{run-read, run-number}
+use Rattle.walk.proofs.Laws.{run-read, run-number, size-cons}
 
 module _ {A B : Type 0} where
   pub over-stops : (f : A → B) (n p : ℕ) → over f (stops n p) ≡ stops n p
@@ -172,13 +172,6 @@ part-bytes s a m k n h = rw (take-drop-take k m n (drop a s) h, drop-drop k a s)
 -- what is read where there is room has its length
 pub length-bytesAt : (o : Order) (b : ℕ) (s : List ℕ) (k : Kind) (n at : ℕ) → at + n ≤ b + length s → b ≤ at → length (laid o k (take n (drop (at - b) s))) ≡ n
 length-bytesAt o b s k n at h g = length-laid o k (take n (drop (at - b) s)) ∙ length-take-le n (drop (at - b) s) (rw length-drop (omega arith))
-
-size-cons : (v : Event) (t : List Event) → size (v ∷ t) ≡ size (v ∷ []) + size t
-unfolding size
-size-cons (numeral w v) t = omega arith
-size-cons (piece k bs) t = omega arith
-size-cons (blank bs) t = omega arith
-size-cons (row p l c s) t = omega arith
 
 false-true : false ≡ true → ⊥
 false-true h = let z : _≡_ {A = ℕ} 0 1 = cc in omega arith
