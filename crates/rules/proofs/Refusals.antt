@@ -2,37 +2,41 @@
 -- Assumes nothing.
 use mathlib.Core.Path.{_≡_, refl, sym, ap, _∙_}
 use mathlib.Core.List.{List, [], _∷_}
-use Prim.Native.Nat.{ℕ, zero, suc, _+_, _-_, _≤_, _<_}
+use Prim.Native.Nat.{ℕ, suc, _-_, _≤_, _<_}
 use native.Mathlib.Nat.{zero-add}
 use native.Mathlib.Omega.{arith}
 use lib.ListN.{length}
 use Rattle.walk.specs.See.{Verdict, stops, goes, verdict, see, Stays}
-use Rattle.walk.specs.Walk.{Event, size, Outcome, refused, passed, run}
+use Rattle.walk.specs.Walk.{Event, Outcome, refused, passed, run}
 use Rattle.walk.proofs.Laws.{Spent, spent}
 use Rattle.walk.proofs.Seen.{seen, stays-stops}
 use Rattle.rules.specs.Rules.{File, file, orderOf, whole, judge}
 use Rattle.rules.proofs.Room.{stays-file}
 
+-- the whole file is the room
 room : (n : ℕ) → Stays n 0 (file n) (λ _ e. e ≤ n)
 room n = rw zero-add at (stays-file n 0)
 
--- no file meets `run`'s refusal of too few bytes
+-- what `run` gives over a file is what the walk comes to, where no test of room stands
 pub judge-seen : (s : List ℕ) → verdict 0 (run (orderOf s) 0 s (file (length s))) ≡ see (orderOf s) 0 s 0 (file (length s))
 judge-seen s = seen (orderOf s) 0 s (length s) (omega arith) (file (length s)) 0 _ (omega arith) (room (length s))
 
 -- a refusal is the walk's, or that of the first byte that is left
-whole-refused : (n : ℕ) (x : Outcome File) {m p : ℕ} → (verdict 0 x ≡ stops m p → (1 ≤ m) × (m ≤ 16) × (p ≤ n)) → whole n x ≡ refused m p → (1 ≤ m) × (m ≤ 16) × (p ≤ n)
+whole-refused : {X : Type 0} (n : ℕ) (x : Outcome File) {m p : ℕ} → whole n x ≡ refused m p → (verdict 0 x ≡ stops m p → X) → (m ≡ 16 → p ≤ n → X) → X
 unfolding whole
-whole-refused n (refused i q) k h = k cc
-whole-refused n (passed v [] t) k h = absurd (let z : _≡_ {A = ℕ} 0 1 = cc in omega arith)
-whole-refused n (passed v (b ∷ r) t) {m} {p} k h =
-    let i : 16 ≡ m = cc in
-    let j : n - suc (length r) ≡ p = cc in
-    (omega arith, omega arith, omega arith)
+whole-refused n (refused i q) h walks left = walks cc
+whole-refused n (passed v [] t) h walks left = absurd (let z : _≡_ {A = ℕ} 0 1 = cc in omega arith)
+whole-refused n (passed v (b ∷ r) t) {m} {p} h walks left =
+    let i : n - suc (length r) ≡ p = cc in
+    left (cc) (omega arith)
 
+-- so 0 is never met: neither too few bytes nor the end of `next`'s fuel
 pub refusals : (s : List ℕ) {n p : ℕ} → judge s ≡ refused n p → (1 ≤ n) × (n ≤ 16) × (p ≤ length s)
 unfolding judge
-refusals s h = whole-refused (length s) (run (orderOf s) 0 s (file (length s))) (λ e. stays-stops (orderOf s) 0 s (length s) (omega arith) (file (length s)) 0 _ (omega arith) (omega arith) (room (length s)) (sym (judge-seen s) ∙ e)) h
+refusals s h =
+    whole-refused (length s) (run (orderOf s) 0 s (file (length s))) h
+    (λ e. stays-stops (orderOf s) 0 s (length s) (omega arith) (file (length s)) 0 _ (omega arith) (omega arith) (room (length s)) (sym (judge-seen s) ∙ e))
+    (λ i l. (omega arith, omega arith, l))
 
 -- what is said of a file of n bytes over which the walk comes to this
 abbrev pub Told : ℕ → Outcome File → Verdict File → Type 0

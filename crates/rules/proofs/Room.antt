@@ -1,17 +1,16 @@
--- The rules read no byte outside the room that they are given: shown once for each walk.
+-- The rules read no byte outside the room that they are given, and refuse by document 01's numbers: shown once for each walk.
 -- Assumes nothing.
-use mathlib.Core.Path.{_≡_, refl, sym, ap, _∙_}
-use mathlib.Core.Bool.{Bool, true, false, _&&_, _||_}
+use mathlib.Core.Path.{_≡_, refl, _∙_}
+use mathlib.Core.Bool.{Bool, true, false, _&&_}
 use mathlib.Core.List.{List, [], _∷_}
 use mathlib.Core.Option.{Option, none, some}
-use Prim.Native.Nat.{ℕ, zero, suc, _+_, _*_, _-_, _≤_, _<_, max}
+use Prim.Native.Nat.{ℕ, zero, suc, _+_, _*_, _-_, _≤_, _<_}
 use native.Mathlib.Nat.{suc-mul}
 use native.Mathlib.Omega.{arith}
-use lib.ListN.{length}
-use borrow.Author.Tests.{leb-true, ltb-true, eqb-true}
+use borrow.Author.Tests.{leb-true, eqb-true}
 use lib.Dec.{leb, ltb, eqb}
 use Rattle.walk.specs.See.{Stays}
-use Rattle.walk.specs.Walk.{Walk, give, _>>=_, _>>_, pick, require, text, refuse}
+use Rattle.walk.specs.Walk.{Walk, give, _>>=_, _>>_, pick, text, refuse}
 use Rattle.walk.proofs.Seen.{stays-bind, stays-then, stays-weaken, and-left, and-right, stays-require}
 use Rattle.rules.specs.Rules.{itemsBody, channelsBody, frameBody, Head, head, limit, admit, span, coded, fixed, Basic, basicBody, channelBody, channel, item, itemSize, itemBytes, itemList, series, zeros, padding, Channel, width, samplesIn, sampleBytes, numberList, samples, frame, Next, channels, frames, framesBody, items, next, padOk, makerCode, between, delimiter, part, recording, Held, Part, basic, heldChannels, patientCode, heldPatient, eventCode, file, fileHeader, recordings}
 
@@ -44,9 +43,9 @@ stays-record : {A : Type 0} (code most : ℕ) (fits : Head → ℕ → Bool) (se
     ((h : Head) → fits h (span h) ≡ true → span h ≤ room → Stays (at + span h) (at + 16) (body h) R) →
     Stays (at + room) at (head room >>= λ h. coded h code >> (admit room most (fits h) serial h >> body h)) R
 stays-record code most fits serial body R at room k =
-    stays-bind (head room) _ (at + room) at _ R (stays-head at room)
-    (λ h e q. stays-require (eqb (h .code) code) 9 12 _ (at + room) e R refl
-    (λ _. stays-then (admit room most (fits h) serial h) (body h) (at + room) e _ R (stays-admit room most (fits h) serial h (at + room) e)
+    stays-bind _ _ _ _ _ _ (stays-head at room)
+    (λ h e q. stays-require _ 9 12 _ _ _ _ refl
+    (λ _. stays-then _ _ _ _ _ _ (stays-admit room most (fits h) serial h (at + room) e)
     (λ _ x v. rw (v .0 ∙ q .0) (stays-weaken (body h) (at + span h) (at + room) (at + 16) R R (omega (arith, v .2)) (λ _ _ r. r) (k h (v .1) (v .2))))))
 
 -- a record of a fixed size, whose body takes what is behind the head
@@ -57,8 +56,11 @@ stays-fixed size code serial body k z at room =
     (λ h f l. let n : size ≡ span h = eqb-true size (span h) f in
     stays-weaken body (at + 16 + (size - 16)) (at + span h) (at + 16) _ _ (omega arith) (λ a e q. (omega arith, omega arith)) (k (at + 16)))
 
+pub stays-basic : (at room : ℕ) → Stays (at + room) at (basic room) (λ _ e. (e ≡ at + 128) × (e ≤ at + room))
+stays-basic = stays-fixed 128 100 0 basicBody (λ x. stays-basicBody x (x + 112) (omega arith)) (omega arith)
+
 pub stays-channel : (i at room : ℕ) → Stays (at + room) at (channel room i) (λ _ e. (e ≡ at + 256) × (e ≤ at + room))
-stays-channel i at room = stays-fixed 256 125 i channelBody (λ x. stays-channelBody x (x + 240) (omega arith)) (omega arith) at room
+stays-channel i = stays-fixed 256 125 i channelBody (λ x. stays-channelBody x (x + 240) (omega arith)) (omega arith)
 
 pub stays-item : (ok : ℕ → Bool) (room at : ℕ) → Stays (at + room) at (item ok room) (λ i e. (e ≡ at + itemSize i) × (e ≤ at + room))
 unfolding item _>>=_ _>>_
@@ -79,8 +81,8 @@ pub stays-itemList : (ok : ℕ → Bool) (n room at : ℕ) → Stays (at + room)
 unfolding itemList itemBytes
 stays-itemList ok zero room at = (omega arith, omega arith)
 stays-itemList ok (suc n) room at =
-    stays-bind (item ok room) _ (at + room) at _ _ (stays-item ok room at)
-    (λ i e q. stays-bind (itemList ok n (room - itemSize i)) _ (at + room) e _ _
+    stays-bind _ _ _ _ _ _ (stays-item ok room at)
+    (λ i e q. stays-bind _ _ _ _ _ _
     (stays-weaken (itemList ok n (room - itemSize i)) (e + (room - itemSize i)) (at + room) e _ (λ is x. (x ≡ e + itemBytes is) × (x ≤ at + room)) (omega (arith, q .0, q .1)) (λ is x r. (r .0, omega (arith, q .0, q .1, r .1))) (stays-itemList ok n (room - itemSize i) e))
     (λ is x r. (omega (arith, q .0, r .0), r .1)))
 
@@ -96,22 +98,18 @@ stays-itemsBody ok n at h = (
   ),
 )
 
-pub stays-basic : (at room L : ℕ) → at + room ≤ L → Stays L at (basic room) (λ _ e. (e ≡ at + 128) × (e ≤ L))
-stays-basic at room L l = stays-weaken (basic room) (at + room) L at _ _ l (λ b e q. (q .0, omega arith)) (stays-fixed 128 100 0 basicBody (λ x. stays-basicBody x (x + 112) (omega arith)) (omega arith) at room)
-
 -- walks of one length, one after the other
-pub stays-series : {A : Type 0} (step : ℕ) (w : ℕ → ℕ → Walk A) → ((i at room : ℕ) → Stays (at + room) at (w room i) (λ _ e. (e ≡ at + step) × (e ≤ at + room))) → (n i room at : ℕ) → n * step ≤ room → Stays (at + room) at (series n i step room w) (λ _ e. e ≡ at + n * step)
+pub stays-series : {A : Type 0} (step : ℕ) (w : ℕ → ℕ → Walk A) → ((i at room : ℕ) → Stays (at + room) at (w room i) (λ _ e. (e ≡ at + step) × (e ≤ at + room))) → (n i room L at : ℕ) → n * step ≤ room → at + room ≡ L → Stays L at (series n i step room w) (λ _ e. e ≡ at + n * step)
 unfolding series
-stays-series step w k zero i room at h = omega arith
-stays-series step w k (suc n) i room at h =
+stays-series step w k zero i room L at h l = omega arith
+stays-series step w k (suc n) i room L at h l =
     let d : suc n * step ≡ n * step + step = suc-mul n step in
-    stays-bind (w room i) _ (at + room) at _ _ (k i at room)
-    (λ c e q. stays-bind (series n (suc i) step (room - step) w) _ (at + room) e (λ _ x. x ≡ e + n * step) _
-    (stays-weaken (series n (suc i) step (room - step) w) (e + (room - step)) (at + room) e _ _ (omega (arith, q .0, q .1)) (λ cs x r. r) (stays-series step w k n (suc i) (room - step) e (omega arith)))
+    stays-bind (w room i) _ L at (λ _ e. (e ≡ at + step) × (e ≤ L)) _ (rw l at (k i at room))
+    (λ c e q. stays-bind (series n (suc i) step (room - step) w) _ L e _ _ (stays-series step w k n (suc i) (room - step) L e (omega arith) (omega (arith, q .0)))
     (λ cs x r. omega (arith, q .0, r)))
 
 pub stays-channels : (n i room at : ℕ) → n * 256 ≤ room → Stays (at + room) at (series n i 256 room channel) (λ _ e. e ≡ at + n * 256)
-stays-channels = stays-series 256 channel stays-channel
+stays-channels n i room at h = stays-series 256 channel stays-channel n i room (at + room) at h refl
 
 pub stays-channelsBody : (b : Basic) (n at : ℕ) → 32 ≤ n → Stays (at + (n - 16)) at (channelsBody b n) (λ _ e. e ≡ at + (n - 16))
 unfolding channelsBody _>>=_ _>>_
@@ -149,8 +147,7 @@ stays-samples L t [] at h = omega arith
 stays-samples L t (c ∷ cs) at h =
     let w : ℕ = width (c .format) in
     let n : ℕ = samplesIn t c in
-    stays-bind (numberList w n) _ L at (λ _ e. e ≡ at + n * w) _ (stays-numbers L w n at (omega arith))
-    (λ l e q. stays-bind (samples t cs) _ L e (λ _ x. x ≡ e + sampleBytes t cs) _ (stays-samples L t cs e (omega arith)) (λ r x p. omega arith))
+    stays-bind _ _ _ _ _ _ (stays-numbers L w n at (omega arith)) (λ l e q. stays-bind _ _ _ _ _ _ (stays-samples L t cs e (omega arith)) (λ r x p. omega arith))
 
 pub stays-frameBody : (n t : ℕ) (cs : List Channel) (at : ℕ) → 24 + sampleBytes t cs ≤ n → Stays (at + (n - 16)) at (frameBody n t cs) (λ _ e. e ≡ at + (n - 16))
 unfolding frameBody _>>=_ _>>_
@@ -162,8 +159,8 @@ stays-frameBody n t cs at h = (
       omega arith,
       λ _ _. (
         omega arith,
-        stays-bind (samples t cs) _ (at + (n - 16)) _ (λ _ e. e ≡ at + 8 + sampleBytes t cs) _ (stays-weaken (samples t cs) (at + (n - 16)) (at + (n - 16)) _ _ _ (omega arith) (λ a e q. omega arith) (stays-samples (at + (n - 16)) t cs _ (omega arith)))
-            (λ ss e q. stays-bind (padding (n - (24 + sampleBytes t cs))) _ (at + (n - 16)) e (λ _ x. x ≡ e + (n - (24 + sampleBytes t cs))) _ (stays-padding (at + (n - 16)) e (n - (24 + sampleBytes t cs)) (omega arith)) (λ _ x r. omega arith)),
+        stays-bind (samples t cs) _ _ _ _ _ (stays-samples (at + (n - 16)) t cs (at + 2 + 2 + 2 + 2) (omega arith))
+            (λ ss e q. stays-bind (padding (n - (24 + sampleBytes t cs))) _ _ _ _ _ (stays-padding (at + (n - 16)) e (n - (24 + sampleBytes t cs)) (omega arith)) (λ _ x r. omega arith)),
       ),
     ),
   ),
@@ -188,9 +185,8 @@ stays-framesBody b cs h at z = (
           let s : 24 + sampleBytes t cs ≤ size = leb-true (24 + sampleBytes t cs) size (and-left _ _ (and-left _ (ltb size limit) c)) in
           let u : 32 + n * size ≤ span h = leb-true (32 + n * size) (span h) (and-left _ _ d) in (
             omega arith,
-            stays-bind (series n 1 size (span h - 32) (frame size t cs)) _ (at + (span h - 16)) (at + 4 + 4 + 4 + 4) (λ _ e. e ≡ at + 16 + n * size) _
-                (stays-weaken (series n 1 size (span h - 32) (frame size t cs)) (at + 4 + 4 + 4 + 4 + (span h - 32)) (at + (span h - 16)) (at + 4 + 4 + 4 + 4) _ _ (omega arith) (λ fs e q. omega arith) (stays-series size (frame size t cs) (stays-frame size t cs s) n 1 (span h - 32) (at + 4 + 4 + 4 + 4) (omega arith)))
-                (λ fs e q. stays-then (padding (span h - (32 + n * size))) _ (at + (span h - 16)) e _ _ (stays-padding (at + (span h - 16)) e (span h - (32 + n * size)) (omega arith)) (λ _ x r. omega arith)),
+            stays-bind (series n 1 size (span h - 32) (frame size t cs)) _ _ _ _ _ (stays-series size (frame size t cs) (stays-frame size t cs s) n 1 (span h - 32) (at + (span h - 16)) (at + 4 + 4 + 4 + 4) (omega arith) (omega arith))
+                (λ fs e q. stays-then (padding (span h - (32 + n * size))) _ _ _ _ _ (stays-padding (at + (span h - 16)) e (span h - (32 + n * size)) (omega arith)) (λ _ x r. omega arith)),
           ),
     ),
   ),
@@ -204,7 +200,7 @@ stays-rest : {A : Type 0} (low most : ℕ) (body : Head → Walk A) → 16 ≤ l
     ((h : Head) (at : ℕ) → low ≤ span h → Stays (at + (span h - 16)) at (body h) (λ _ e. e ≡ at + (span h - 16))) →
     Rests (λ room h. admit room most (leb low) (eqb 0) h >> body h)
 stays-rest low most body z k room h L at s =
-    stays-then (admit room most (leb low) (eqb 0) h) (body h) L at _ _ (stays-admit room most (leb low) (eqb 0) h L at)
+    stays-then _ _ _ _ _ _ (stays-admit room most (leb low) (eqb 0) h L at)
     (λ _ x v.
     let n : low ≤ span h = leb-true low (span h) (v .1) in
     stays-weaken (body h) (x + (span h - 16)) L x _ _ (omega (arith, v .0, v .2)) (λ a e q. (omega arith, v .2, omega (arith, v .0, v .2))) (k h x n))
@@ -234,13 +230,13 @@ pub stays-next : (fuel room most L at : ℕ) → room < fuel → room < most →
 unfolding next
 stays-next zero room most L at f m l = absurd (omega arith)
 stays-next (suc fuel) room most L at f m l =
-    stays-bind (head room) _ L at _ _ (rw l at (stays-head at room))
-    (λ h e q. stays-pick (makerCode (h .code)) _ _ L e (Behind L most)
-    (stays-then (admit room 128 (leb 16) (λ _. true) h) _ L e _ _ (stays-admit room 128 (leb 16) (λ _. true) h L e)
+    stays-bind _ _ _ _ _ _ (rw l at (stays-head at room))
+    (λ h e q. stays-pick (makerCode (h .code)) _ _ _ _ _
+    (stays-then _ _ _ _ _ _ (stays-admit room 128 (leb 16) (λ _. true) h L e)
     (λ _ x v.
     let s : 16 ≤ span h = leb-true 16 (span h) (v .1) in
-    stays-bind (text (span h - 16)) _ L x (λ _ y. y ≡ at + span h) _ (omega (arith, q .0, v .0, v .2), λ _ _. omega (arith, q .0, v .0))
-    (λ body y u. stays-bind (next fuel (room - span h)) _ L y _ _ (stays-next fuel (room - span h) most L y (omega (arith, v .2)) (omega arith) (omega (arith, v .2)))
+    stays-bind (text (span h - 16)) _ _ _ (λ _ y. y ≡ at + span h) _ (omega (arith, q .0, v .0, v .2), λ _ _. omega (arith, q .0, v .0))
+    (λ body y u. stays-bind _ _ _ _ _ _ (stays-next fuel (room - span h) most L y (omega (arith, v .2)) (omega arith) (omega (arith, v .2)))
     (λ n z w. w))))
     (q .1, m, omega (arith, q .0)))
 
@@ -255,8 +251,8 @@ pub stays-part : {A : Type 0} (fuel code : ℕ) (body : ℕ → Head → Walk A)
 unfolding part
 stays-part fuel code body k held n L at q =
     stays-own (eqb (n .head .code) code) held n _ fuel L at
-    (stays-bind (body (n .room) (n .head)) _ L at _ _ (k (n .room) (n .head) L at (q .2))
-    (λ a e u. stays-bind (next fuel (n .room - span (n .head))) _ L e _ _ (stays-next fuel (n .room - span (n .head)) fuel L e (omega (arith, q .1)) (omega (arith, q .1)) (u .2))
+    (stays-bind _ _ _ _ _ _ (k (n .room) (n .head) L at (q .2))
+    (λ a e u. stays-bind _ _ _ _ _ _ (stays-next fuel (n .room - span (n .head)) fuel L e (omega (arith, q .1)) (omega (arith, q .1)) (u .2))
     (λ m x w. w)))
     q
 
@@ -270,7 +266,8 @@ stays-recording held i at room =
     stays-record 10 128 (λ _. leb 16) (eqb i) _ _ at room
     (λ h f l.
     let s : 16 ≤ span h = leb-true 16 (span h) f in
-    stays-bind _ _ _ _ _ _ (stays-basic (at + 16) (span h - 16) (at + span h) (omega arith))
+    let z : at + 16 + (span h - 16) ≡ at + span h = omega arith in
+    stays-bind _ _ _ _ _ _ (rw z at (stays-basic (at + 16) (span h - 16)))
     (λ b e₁ q₁. stays-bind _ _ _ _ _ _ (stays-next (span h) (span h - 144) (span h) (at + span h) e₁ (omega (arith, q₁)) (omega (arith, q₁)) (omega (arith, q₁)))
     (λ n e₂ q₂. stays-bind _ _ _ _ _ _ (stays-part (span h) 120 (channels b) (stays-channelsRest b) (heldChannels held) n (at + span h) e₂ q₂)
     (λ c e₃ q₃. stays-bind _ _ _ _ _ _ (stays-part (span h) 130 (items patientCode) (stays-itemsRest patientCode) (heldPatient held) (c .next) (at + span h) e₃ q₃)
