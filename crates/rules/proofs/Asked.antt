@@ -15,7 +15,7 @@ use Rattle.words.specs.Numbers.{Bytes}
 use Rattle.walk.specs.Plays.{Plays}
 use Rattle.walk.specs.Walk.{Event, numeral, piece, blank, row, Row, rows, size, render, run, Walk, passed, give, refuse, _>>=_, _>>_}
 use Rattle.walk.proofs.Laws.{by-parts, by-split, by-check, checked, taken, plays-gave, traced}
-use Rattle.rules.specs.Rules.{between, padding, padded, makerCode, zeros, delimiter, basicBody, Head, head, span, admit, Basic, basic, Channel, channel, channels, Item, item, itemBytes, items, patientCode, eventCode, Frame, frame, frames, numberList, width, samplesIn, sampleBytes, FileHeader, Next, next, Part, part, Held, heldChannels, heldPatient, Placed, recording, recordings, File, fileHeader, file, orderOf, judge}
+use Rattle.rules.specs.Rules.{between, padding, padded, makerCode, zeros, delimiter, basicBody, Head, head, span, admit, Basic, basic, Channel, channel, channels, Item, item, itemBytes, items, patientCode, eventCode, Frame, frame, frames, numberList, width, samplesIn, sampleBytes, FileHeader, Next, next, Part, part, Held, heldChannels, heldPatient, Placed, recording, recordings, File, fileHeader, file, orderOf, judge, recordingBody}
 use Rattle.rules.proofs.Canon.{recordings-ok}
 use Rattle.rules.proofs.Places.{Found, found-run, found-whole, found-first, found-second, found-at, head-size, admit-size, join, gave-nothing, fixed-size, channels-bytes, items-bytes, channel-found, frames-found, frame-found, samples-found, items-in, zeros-none}
 use Rattle.rules.proofs.Renew.{if-case, pick-case, admit-ok, basic-size, next-ok, channels-ok, items-ok, frames-ok}
@@ -144,7 +144,7 @@ step₁ : (u₁ u₂ u₃ u₄ n bytes m : ℕ) → u₁ ≡ 16 → u₂ ≡ 0 �
 step₁ u₁ u₂ u₃ u₄ n bytes m h₁ h₂ h₃ h₄ h₅ h₆ = omega arith
 
 pub recording-found : (held : Option Held) (room i : ℕ) {t : List Event} {x : Placed} → Plays t (recording held room i) x → InRecording t x
-unfolding recording size _>>=_ _>>_ between padding padded makerCode
+unfolding recording recordingBody size _>>=_ _>>_ between padding padded makerCode
 recording-found held room i p =
     by-parts (head room) _ p λ h u₁ _ e₁ h₀ p.
     by-parts (admit room 128 (leb 16) (eqb i) h) _ (checked p .then) λ _ u₂ _ e₂ a₀ p.

@@ -14,7 +14,7 @@ use Rattle.walk.specs.Plays.{Plays, gives, checks, lists}
 use Rattle.walk.specs.Walk.{Event, row, size, Walk, give, refuse, _>>=_, _>>_}
 use Rattle.walk.proofs.Laws.{plays-bind, plays-split, plays-give, traced, size-append, by-split, by-check, by-read, plays-gave}
 use Rattle.rules.specs.Canonical.{zeroes, numerals, rowOf, plainHead, recordOf, basicFields, channelsHead, channelsWritten, itemsHead, itemsWritten, frameSize, framesBytes, framesHead, framesWritten, makerEvents, optional, delimiterHead, delimiterEvents, content}
-use Rattle.rules.specs.Rules.{between, padding, padded, makerCode, zeros, Head, head, lengthOf, span, admit, padOk, Basic, basicBody, basic, Channel, channels, Item, items, patientCode, eventCode, frames, Maker, Next, next, Part, part, Recording, heldChannels, heldPatient, contentLimit, delimiter, Layout, Placed, recording, frame}
+use Rattle.rules.specs.Rules.{between, padding, padded, makerCode, zeros, Head, head, lengthOf, span, admit, padOk, Basic, basicBody, basic, Channel, channels, Item, items, patientCode, eventCode, frames, Maker, Next, next, Part, part, Recording, heldChannels, heldPatient, contentLimit, delimiter, Layout, Placed, recording, frame, recordingBody}
 use Rattle.rules.proofs.Renew.{HeadOk, head-plays, Admitted, admit-plays, fixed-plays, basic-ok, basic-size, All, record-size, ChannelsOk, few-channels, channels-size, channels-ok, channels-plays, ItemsOk, items-ok, items-size, items-plays, padding-plays, FramesOk, frames-ok, frames-size, frames-plays, if-true, if-false, if-case, MakerOk, next-ok, next-plays, makers-count}
 use Rattle.rules.proofs.Sized.{sized}
 use Rattle.rules.specs.Rules.{between, padding, padded, makerCode, zeros, limit, Head, head, lengthOf, span, admit, padOk, Basic, basicBody, basic, Channel, channels, Item, items, itemBytes, patientCode, eventCode, Frame, Frames, frames, Maker, Held as Inherited, Next, next, Part, part, Recording, heldChannels, heldPatient, contentLimit, delimiter, Layout, Placed, recording}
@@ -150,7 +150,7 @@ unfolding itemsRecord
 items-good ok code room h u is p = let g = items-ok ok room h p in (g .0, items-size code is ∙ g .1, g .2)
 
 pub recording-ok : (held : Option Inherited) (room i : ℕ) {t : List Event} {x : Placed} → Plays t (recording held room i) x → RecordingOk held (x .recording)
-unfolding recording partC partP partE spanF _>>=_ _>>_ between padding padded makerCode
+unfolding recording recordingBody partC partP partE spanF _>>=_ _>>_ between padding padded makerCode
 recording-ok held room i p =
     by-split (head room) _ p λ h _ _ _ p. by-check p λ _ p.
     by-split (admit room 128 (leb 16) (eqb i) h) _ p λ _ _ _ _ p.
@@ -414,7 +414,7 @@ module _ (held : Option Inherited) (r : Recording) (k : RecordingOk held r) (h :
 
   played-at : (i room : ℕ) → HeadOk h → eqb (h .code) 10 ≡ true → Admitted room 128 (leb 16) (eqb i) h →
       Plays (recordOf h (content r ++ (zeroes pad ∷ []))) (recording held room i) (record { recording = r; layout = layoutOf })
-  unfolding recording recordOf layoutOf _>>=_ _>>_
+  unfolding recording recordingBody recordOf layoutOf _>>=_ _>>_
   played-at i room o c a =
       rw (arranged r (zeroes pad ∷ []))
       (plays-bind _ (head-plays h o room (omega (arith, rooms, a .room)))

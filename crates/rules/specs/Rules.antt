@@ -539,11 +539,9 @@ pub record Placed : Type 0 where
   pub recording : Recording
   pub layout : Layout
 
-unfoldable pub recording : Option Held → ℕ → ℕ → Walk Placed
-recording held room i = do
-  h ← head room
-  coded h 10
-  admit room 128 (leb 16) (eqb i) h
+-- the body of a recording with this head
+unfoldable pub recordingBody : Option Held → Head → Walk Placed
+recordingBody held h = do
   let bytes = span h
   b ← basic (bytes - 16)
   n ← next bytes (bytes - 144)
@@ -580,6 +578,13 @@ recording held room i = do
     };
     layout = record { bytes = bytes; at120 = bytes - n .room; at130 = bytes - c .next .room; at200 = bytes - p .next .room; at140 = bytes - last .room; frame = f .size };
   })
+
+unfoldable pub recording : Option Held → ℕ → ℕ → Walk Placed
+recording held room i = do
+  h ← head room
+  coded h 10
+  admit room 128 (leb 16) (eqb i) h
+  recordingBody held h
 
 unfoldable pub recordings : ℕ → Option Held → ℕ → ℕ → Walk (List Placed)
 recordings zero held room i = give []

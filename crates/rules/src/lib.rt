@@ -1,1 +1,249 @@
-// The rules.
+// Document 01's record kinds: what the code keeps of each, its code, its length and the offsets of its fields.
+use words::Order;
+
+// A refusal: document 01's number, and the position in the file.
+pub struct Refusal(pub u32, pub usize);
+
+// The file header, 32 bytes of ASCII.
+pub struct FileHeader {
+    pub order: Order,
+    pub script: u32,
+    pub count: u32,
+}
+
+impl FileHeader {
+    pub const LENGTH: usize = 32;
+
+    pub const IDENTIFIER: usize = 0;
+
+    pub const VERSION: usize = 8;
+
+    pub const FORM: usize = 14;
+
+    pub const ORDER: usize = 16;
+
+    pub const SCRIPT: usize = 17;
+
+    pub const COUNT: usize = 18;
+
+    pub const SPACES: usize = 22;
+}
+
+// A record's first 16 bytes, and the byte where they stand in the part of the file that holds them.
+pub struct Head {
+    pub at: usize,
+    pub size: u32,
+    pub code: u32,
+    pub serial: u32,
+    pub multiplier: u32,
+}
+
+impl Head {
+    pub const LENGTH: usize = 16;
+
+    pub const CODE: usize = 4;
+
+    pub const SERIAL: usize = 8;
+
+    pub const MULTIPLIER: usize = 12;
+
+    pub const MOST: u32 = 128;
+}
+
+// Record 10: a recording.
+pub struct Recording;
+
+impl Recording {
+    pub const CODE: u32 = 10;
+
+    pub const LEAST: usize = 16;
+
+    pub const CONTENT_LIMIT: usize = 137438953472;
+}
+
+// Record 100, of which the others need the counts.
+pub struct Basic {
+    pub channels: u32,
+    pub frames: u32,
+}
+
+impl Basic {
+    pub const CODE: u32 = 100;
+
+    pub const LENGTH: usize = 128;
+
+    pub const FORM: usize = 16;
+
+    pub const CHANNELS: usize = 20;
+
+    pub const FRAMES: usize = 24;
+
+    pub const YEAR: usize = 32;
+
+    pub const MONTH: usize = 36;
+
+    pub const DAY: usize = 40;
+
+    pub const HOUR: usize = 44;
+
+    pub const MINUTE: usize = 48;
+
+    pub const SECOND: usize = 52;
+
+    pub const TIME: usize = 56;
+
+    pub const MAINS: usize = 76;
+
+    pub const COMMENT: usize = 96;
+}
+
+// Record 120: where its records 125 start in the file, and how many there are.
+pub struct Channels {
+    pub subs: usize,
+    pub count: u32,
+}
+
+impl Channels {
+    pub const CODE: u32 = 120;
+
+    pub const LEAST: usize = 32;
+
+    pub const COUNT: usize = 16;
+
+    pub const SUB_SIZE: usize = 20;
+
+    pub const SUBS: usize = 32;
+}
+
+// Record 125: a channel.
+pub struct Channel;
+
+impl Channel {
+    pub const CODE: u32 = 125;
+
+    pub const LENGTH: usize = 256;
+
+    pub const NUMBER: usize = 16;
+
+    pub const FLAGS: usize = 20;
+
+    pub const TYPE: usize = 24;
+
+    pub const FORMAT: usize = 28;
+
+    pub const RATE: usize = 32;
+
+    pub const CAL: usize = 36;
+
+    pub const CAL_AD: usize = 40;
+
+    pub const OFFSET_AD: usize = 44;
+
+    pub const OFFSET_CAL: usize = 48;
+
+    pub const CAL_FREQUENCY: usize = 52;
+
+    pub const LOW_CUT: usize = 56;
+
+    pub const HIGH_CUT: usize = 60;
+
+    pub const SENSITIVITY: usize = 64;
+
+    pub const LABEL: usize = 72;
+
+    pub const UNIT: usize = 88;
+
+    pub const COMMENT: usize = 196;
+}
+
+// Record 130: the patient's items.
+pub struct Patient;
+
+impl Patient {
+    pub const CODE: u32 = 130;
+}
+
+// Record 200: the event items.
+pub struct Events;
+
+impl Events {
+    pub const CODE: u32 = 200;
+}
+
+// What 130 and 200 share.
+pub struct Items;
+
+impl Items {
+    pub const LEAST: usize = 24;
+
+    pub const COUNT: usize = 16;
+
+    pub const MOST: u32 = 256;
+
+    pub const FIRST: usize = 24;
+}
+
+// An item of 130 or 200.
+pub struct Item;
+
+impl Item {
+    pub const LEAST: usize = 8;
+
+    pub const CODE: usize = 4;
+
+    pub const TEXT: usize = 8;
+}
+
+// Record 140: T, the frame length, and how many bytes of padding it has.
+pub struct Frames {
+    pub seconds: u32,
+    pub size: usize,
+    pub padded: usize,
+}
+
+impl Frames {
+    pub const CODE: u32 = 140;
+
+    pub const LEAST: usize = 32;
+
+    pub const SECONDS: usize = 16;
+
+    pub const FRAME_LENGTH: usize = 20;
+
+    pub const COUNT: usize = 24;
+
+    pub const FIRST: usize = 32;
+}
+
+// Record 145: a frame.
+pub struct Frame;
+
+impl Frame {
+    pub const CODE: u32 = 145;
+
+    pub const HOUR: usize = 16;
+
+    pub const MINUTE: usize = 18;
+
+    pub const SECOND: usize = 20;
+
+    pub const SAMPLES: usize = 24;
+}
+
+// The delimiter behind a recording's records.
+pub struct Delimiter;
+
+impl Delimiter {
+    pub const CODE: u32 = 0;
+
+    pub const LENGTH: usize = 16;
+}
+
+// A maker's own record.
+pub struct Maker;
+
+impl Maker {
+    pub const FIRST_CODE: u32 = 1024;
+
+    pub const LEAST: usize = 16;
+}
