@@ -1,4 +1,4 @@
--- The canonical file of a reading: it is accepted, it has that reading, it is the only one; and a file's rewrite is that of its turned file.
+-- Recordings, header and file: what is accepted can be written anew, and is then accepted with the same contents.
 -- Assumes nothing.
 use mathlib.Core.Path.{_≡_, refl, sym, ap, _∙_}
 use mathlib.Core.Bool.{Bool, true, false, _&&_, _||_}
@@ -10,17 +10,14 @@ use lib.Dec.{leb, ltb, eqb}
 use borrow.Author.Tests.{leb-true, ltb-true, ltb-false, eqb-true, le-leb, lt-ltb, le-ltb, eq-eqb}
 use lib.ListN.{length, getD, replicate, length-map}
 use Rattle.words.specs.Numbers.{Bytes}
-use Rattle.words.specs.declared.Order.{Order}
 use Rattle.walk.specs.Plays.{Plays, gives, checks, reads}
-use Rattle.walk.specs.Walk.{Event, size, passed, render, _>>=_, _>>_}
-use Rattle.walk.proofs.Laws.{plays-bind, plays-give, size-append, length-render, zeros-length, by-split, by-check, by-read, plays-gave}
-use Rattle.rules.specs.Canonical.{sizeFor, multiplierFor, most, zeroes, recordOf, framesBytes, content, recordingHead, recordingEvents, digits, headerEvents, anew, rewritten, Canonical}
-use Rattle.rules.specs.Rules.{between, padding, padded, makerCode, sameBytes, identifier, version, form, allSpaces, decimal, countOf, countFits, countIs, isScript, FileHeader, fileHeader, span, lengthOf, Recording, Held, contentLimit, Placed, recording, recordings, File, Reading, reading, file, orderOf, judge, channels}
-use Rattle.rules.specs.Turned.{turned}
+use Rattle.walk.specs.Walk.{Event, size, _>>=_, _>>_}
+use Rattle.walk.proofs.Laws.{plays-bind, plays-give, size-append, zeros-length, by-split, by-check, by-read, plays-gave}
+use Rattle.rules.specs.Canonical.{sizeFor, multiplierFor, most, zeroes, recordOf, framesBytes, content, recordingHead, recordingEvents, digits, headerEvents, anew}
+use Rattle.rules.specs.Rules.{between, padding, padded, makerCode, sameBytes, identifier, version, form, allSpaces, decimal, countOf, countFits, countIs, isScript, FileHeader, fileHeader, span, lengthOf, Recording, Held, contentLimit, Placed, recording, recordings, File, Contents, contents, file, channels}
 use Rattle.rules.proofs.Renew.{and-true, and-both, record-size}
 use Rattle.rules.proofs.Renewed.{RecordingOk, recording-ok, Anew, recording-from}
 use Rattle.rules.proofs.Sized.{sized, Sized}
-use Rattle.rules.proofs.Turn.{judge-render, accepted, is-render, turn-judge, order-of-render, bytes-render}
 
 -- A recording
 
@@ -184,11 +181,11 @@ header-size script k o = omega (arith, digits-ok k (leb-true k 64 (and-true (leb
 
 -- The file
 
-pub record ReadingOk (v : Reading) : Type 0 where
+pub record ContentsOk (v : Contents) : Type 0 where
   pub header : HeaderOk (v .script) (length (v .recordings))
   pub recordings : RecordingsOk none (v .recordings)
 
-pub file-ok : (n : ℕ) {t : List Event} {v : File} → Plays t (file n) v → ReadingOk (reading v)
+pub file-ok : (n : ℕ) {t : List Event} {v : File} → Plays t (file n) v → ContentsOk (contents v)
 unfolding file
 file-ok n p =
     by-split (fileHeader n) _ p λ f _ _ f₀ p.
@@ -197,12 +194,12 @@ file-ok n p =
     let c : length (readings ps) ≡ f .count = length-map ps (λ q. q .recording) ∙ j .0 in
     rw (plays-gave p) (record { header = rw c (header-ok n f₀); recordings = j .1 })
 
-pub record AnewFile (v : Reading) : Type 0 where
+pub record AnewFile (v : Contents) : Type 0 where
   pub file : File
-  pub same : reading file ≡ v
+  pub same : contents file ≡ v
   pub plays : Plays (anew v) (Rattle.rules.specs.Rules.file (size (anew v))) file
 
-pub file-plays : (v : Reading) → ReadingOk v → AnewFile v
+pub file-plays : (v : Contents) → ContentsOk v → AnewFile v
 unfolding file anew between padding padded makerCode
 file-plays v k =
     let e = size-append (headerEvents (v .script) (length (v .recordings))) (recordingEvents 1 (v .recordings)) in
@@ -214,51 +211,3 @@ file-plays v k =
       same = λ i. record { script = v .script; recordings = c .same i };
       plays = plays-bind _ (header-plays (v .script) (length (v .recordings)) _ (k .header) (omega arith)) (plays-give _ (c .plays));
     }
-
--- D2
-
-pub rewritten-of : (o : Order) (s : List ℕ) {v : File} {r : List ℕ} {t : List Event} → judge s ≡ passed v r t → rewritten o s ≡ render o (anew (reading v))
-unfolding rewritten
-rewritten-of o s h = rw (rewritten, h)
-
--- the canonical file of a reading that passes
-pub canonical : (v : Reading) → ReadingOk v → (o : Order) → Canonical v (render o (anew v))
-canonical v k o = let a = file-plays v k in record { file = a .file; judged = judge-render (a .plays) o; same = a .same }
-
-module _ (s : List ℕ) (b : Bytes s) {v : File} {r : List ℕ} {t : List Event} (h : judge s ≡ passed v r t) where
-  -- an accepted file's reading passes
-  pub reading-ok : ReadingOk (reading v)
-  reading-ok = file-ok (length s) (accepted s b h .plays)
-
-  -- (a) and (b): the rewrite is accepted, its reading is the file's, and it is canonical; in the order asked for
-  pub rewrite-canonical : (o : Order) → Canonical (reading v) (rewritten o s)
-  rewrite-canonical o = rw (rewritten-of o s h) (canonical (reading v) reading-ok o)
-
-  pub rewrite-order : (o : Order) → orderOf (rewritten o s) ≡ o
-  rewrite-order o = ap orderOf (rewritten-of o s h) ∙ order-of-render (size (anew (reading v))) (file-plays (reading v) reading-ok .plays) o
-
-  pub rewrite-bytes : (o : Order) → Bytes (rewritten o s)
-  rewrite-bytes o = rw (rewritten-of o s h) (bytes-render (file-plays (reading v) reading-ok .plays) o)
-
-  pub rewrite-length : (o : Order) → length (rewritten o s) ≡ size (anew (reading v))
-  rewrite-length o = ap length (rewritten-of o s h) ∙ length-render o (anew (reading v))
-
-  -- (c): the rewrite of the turned file, and of a rewrite, is the file's
-  pub rewrite-turned : (o : Order) → rewritten o (turned s) ≡ rewritten o s
-  rewrite-turned o = rewritten-of o (turned s) (turn-judge s b h) ∙ sym (rewritten-of o s h)
-
-  pub rewrite-rewritten : (o o′ : Order) → rewritten o (rewritten o′ s) ≡ rewritten o s
-  rewrite-rewritten o o′ =
-      let c = rewrite-canonical o′ in
-      rewritten-of o (rewritten o′ s) (c .judged) ∙ ap (λ (x : Reading). render o (anew x)) (c .same) ∙ sym (rewritten-of o s h)
-
--- (c): files with one reading have one rewrite
-pub rewrite-same : (o : Order) (s s′ : List ℕ) {v v′ : File} {r r′ : List ℕ} {t t′ : List Event} → judge s ≡ passed v r t → judge s′ ≡ passed v′ r′ t′ → reading v ≡ reading v′ → rewritten o s ≡ rewritten o s′
-rewrite-same o s s′ h k e = rewritten-of o s h ∙ ap (λ (x : Reading). render o (anew x)) e ∙ sym (rewritten-of o s′ k)
-
--- (d): in one order a reading has one canonical file; a canonical file is its own rewrite
-pub unique : (v : Reading) (s s′ : List ℕ) → Bytes s → Bytes s′ → Canonical v s → Canonical v s′ → orderOf s ≡ orderOf s′ → s ≡ s′
-unique v s s′ b b′ c d e = is-render s b (c .judged) ∙ rw e (sym (is-render s′ b′ (d .judged)))
-
-pub rewrite-itself : (v : Reading) (s : List ℕ) → Bytes s → Canonical v s → rewritten (orderOf s) s ≡ s
-rewrite-itself v s b c = rewritten-of (orderOf s) s (c .judged) ∙ ap (λ (x : Reading). render (orderOf s) (anew x)) (c .same) ∙ sym (is-render s b (c .judged))

@@ -8,3 +8,5 @@ pub mod Renewed
 pub mod Canon
 pub mod Places
 pub mod Asked
+pub mod Valued
+pub mod Rewrite

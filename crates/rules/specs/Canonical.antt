@@ -1,4 +1,4 @@
--- The canonical file of a reading, as events: what document 01 calls canonical, a line for a line.
+-- The canonical file of a contents, as events: what document 01 calls canonical, a line for a line.
 -- Assumes nothing.
 use mathlib.Core.Path.{_≡_}
 use mathlib.Core.Bool.{Bool, true, false}
@@ -8,7 +8,8 @@ use lib.Dec.{leb, ltb}
 use lib.ListN.{length, replicate}
 use Rattle.words.specs.declared.Order.{Order}
 use Rattle.walk.specs.Walk.{Letter, Text, Padding, Event, numeral, piece, blank, row, size, refused, passed, render}
-use Rattle.rules.specs.Rules.{identifier, version, form, Head, span, Basic, Channel, Item, itemBytes, width, sampleBytes, Frame, Maker, Recording, Reading, File, reading, judge}
+use Rattle.rules.specs.Reading.{Reading, reading, wordsOf}
+use Rattle.rules.specs.Rules.{identifier, version, form, Head, span, Basic, Channel, Item, itemBytes, width, sampleBytes, Frame, Maker, Recording, Contents, File, judge}
 
 -- The size and the multiplier of a record of n bytes: multiplier 0 where n fits, else the smallest that serves
 
@@ -161,15 +162,19 @@ unfoldable pub headerEvents : ℕ → ℕ → List Event
 headerEvents script k =
     piece Text identifier ∷ piece Text version ∷ piece Text form ∷ piece Letter (76 ∷ []) ∷ piece Text (script ∷ []) ∷ piece Text (digits k) ∷ piece Text (replicate 10 32) ∷ []
 
-unfoldable pub anew : Reading → List Event
+unfoldable pub anew : Contents → List Event
 anew v = headerEvents (v .script) (length (v .recordings)) ++ recordingEvents 1 (v .recordings)
+
+-- the canonical file of a reading, as events
+abbrev pub canonical : Reading → List Event
+canonical v = anew (wordsOf v)
 
 -- the canonical file of a file, in an order
 unfoldable pub rewritten : Order → List ℕ → List ℕ
-rewritten o s = elim (judge s) [ refused n p ↦ [] | passed v r t ↦ render o (anew (reading v)) ]
+rewritten o s = elim (judge s) [ refused n p ↦ [] | passed v r t ↦ render o (canonical (reading v)) ]
 
 -- a file that is canonical for a reading: it is accepted, its reading is that one, and its events are those that the reading asks for
 pub record Canonical (v : Reading) (s : List ℕ) : Type 0 where
   pub file : File
-  pub judged : judge s ≡ passed file [] (anew v)
+  pub judged : judge s ≡ passed file [] (canonical v)
   pub same : reading file ≡ v

@@ -601,12 +601,12 @@ pub record File : Type 0 where
 
 -- A file's reading: the script letter, and of each of the K recordings which records it holds, all fields but size, multiplier, frame length and reserve, all texts, all samples, and each maker's record whole
 
-pub record Reading : Type 0 where
+pub record Contents : Type 0 where
   pub script : ℕ
   pub recordings : List Recording
 
-abbrev pub reading : File → Reading
-reading v = record { script = v .script; recordings = map (λ p. p .recording) (v .recordings) }
+abbrev pub contents : File → Contents
+contents v = record { script = v .script; recordings = map (λ p. p .recording) (v .recordings) }
 
 unfoldable pub file : ℕ → Walk File
 file size = do
