@@ -20,6 +20,7 @@ use Rattle.rules.proofs.Canon.{recordings-ok}
 use Rattle.rules.proofs.Places.{Found, found-run, found-whole, found-first, found-second, found-at, head-size, admit-size, join, gave-nothing, fixed-size, channels-bytes, items-bytes, channel-found, frames-found, frame-found, samples-found, items-in, zeros-none}
 use Rattle.rules.proofs.Renew.{if-case, pick-case, admit-ok, basic-size, next-ok, channels-ok, items-ok, frames-ok}
 use Rattle.rules.proofs.Turn.{accepted, is-render}
+use Rattle.rules.specs.Places.{bytesBefore}
 
 -- the rows of events that follow others
 pub rows-append : (at : ℕ) (t u : List Event) → rows at (t ++ u) ≡ rows at t ++ rows (at + size t) u
@@ -212,11 +213,6 @@ recording-found held room i p =
     sum₄ a b c d e f g n m s h k = omega arith
 
 -- one of the recordings
-
-unfoldable pub bytesBefore : ℕ → List Placed → ℕ
-bytesBefore zero ps = 0
-bytesBefore (suc j) [] = 0
-bytesBefore (suc j) (p ∷ ps) = p .layout .bytes + bytesBefore j ps
 
 pub record OneOf (t : List Event) (i : ℕ) (x : Placed) (p : ℕ) : Type 0 where
   pub held : Option Held

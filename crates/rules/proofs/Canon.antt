@@ -30,7 +30,7 @@ max-low m h = omega arith
 pad-low : (n : ℕ) → n ≤ 128 * most → lengthOf (sizeFor n) (multiplierFor n) - n ≤ 128
 pad-low n h = omega (arith, sized n .close, max-low (multiplierFor n) (sized n .low h))
 
-total-low : (held : Option Held) (r : Recording) → RecordingOk held r → 16 + size (content r) ≤ 128 * most
+pub total-low : (held : Option Held) (r : Recording) → RecordingOk held r → 16 + size (content r) ≤ 128 * most
 total-low held r k = close-at (16 + size (content r)) _ (k .limited) (pad-low (framesBytes (r .seconds) (r .channels) (r .frames)) (k .frames .total))
 
 pub recording-plays : (held : Option Held) (r : Recording) → RecordingOk held r → (i room : ℕ) → i < 256 ^ 4 → span (recordingHead i r) ≤ room →

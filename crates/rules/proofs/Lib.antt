@@ -10,3 +10,5 @@ pub mod Places
 pub mod Asked
 pub mod Valued
 pub mod Rewrite
+pub mod Worked
+pub mod Holders

@@ -1,18 +1,21 @@
 -- Rewriting: the canonical file of an accepted file is accepted and has its reading; it depends on the reading and the order alone, and is the only one.
 -- Assumes nothing.
 use mathlib.Core.Path.{_≡_, refl, sym, ap, _∙_}
-use mathlib.Core.List.{List, []}
-use Prim.Native.Nat.{ℕ}
+use mathlib.Core.List.{List, [], _∷_}
+use mathlib.Core.Option.{Option, none, some}
+use Prim.Native.Nat.{ℕ, _+_, _≤_}
 use lib.ListN.{length}
 use Rattle.words.specs.Numbers.{Bytes}
 use Rattle.words.specs.declared.Order.{Order}
 use Rattle.walk.specs.Walk.{Event, size, render, passed}
 use Rattle.walk.proofs.Laws.{length-render}
-use Rattle.rules.specs.Canonical.{anew, canonical, rewritten, Canonical}
+use Rattle.rules.specs.Canonical.{anew, canonical, rewritten, Canonical, multiplierFor, framesBytes, content}
 use Rattle.rules.specs.Reading.{Reading, reading, readingOf, wordsOf}
-use Rattle.rules.specs.Rules.{File, Contents, contents, orderOf, judge, file}
+use Rattle.rules.specs.Rules.{File, Contents, contents, orderOf, judge, file, channels, Held, Recording}
 use Rattle.rules.specs.Turned.{turned}
-use Rattle.rules.proofs.Canon.{ContentsOk, file-ok, file-plays}
+use Rattle.rules.proofs.Canon.{ContentsOk, file-ok, file-plays, total-low, RecordingsOk}
+use Rattle.rules.proofs.Renew.{All}
+use Rattle.rules.proofs.Sized.{sized}
 use Rattle.rules.proofs.Turn.{judge-render, accepted, is-render, turn-judge, order-of-render, bytes-render}
 use Rattle.rules.proofs.Valued.{words-back}
 
@@ -70,3 +73,17 @@ canonical-unique v s s′ b b′ c d e = is-render s b (c .judged) ∙ rw e (sym
 -- a canonical file rewritten in its own order is itself
 pub rewrite-itself : (v : Reading) (s : List ℕ) → Bytes s → Canonical v s → rewritten (orderOf s) s ≡ s
 rewrite-itself v s b c = rewritten-of (orderOf s) s (c .judged) ∙ ap (λ (x : Reading). render (orderOf s) (canonical x)) (c .same) ∙ sym (is-render s b (c .judged))
+
+-- the multipliers of a recording and of its 140, written anew, are at most 128
+abbrev Low : Recording → Type 0
+Low r = (multiplierFor (16 + size (content r)) ≤ 128) × (multiplierFor (framesBytes (r .seconds) (r .channels) (r .frames)) ≤ 128)
+
+recordings-low : (held : Option Held) (rs : List Recording) → RecordingsOk held rs → All Low rs
+recordings-low held [] k = tt
+recordings-low held (r ∷ rs) k = (
+  (sized (16 + size (content r)) .low (total-low held r (k .0)), sized (framesBytes (r .seconds) (r .channels) (r .frames)) .low (k .0 .frames .total)),
+  recordings-low (some (record { channels = r .channels; patient = r .patient })) rs (k .1),
+)
+
+pub multipliers-low : (s : List ℕ) → Bytes s → {v : File} {r : List ℕ} {t : List Event} → judge s ≡ passed v r t → All Low (contents v .recordings)
+multipliers-low s b {v} h = recordings-low none (contents v .recordings) (ok s b h .recordings)

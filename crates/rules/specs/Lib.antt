@@ -2,3 +2,5 @@ pub mod Rules
 pub mod Reading
 pub mod Turned
 pub mod Canonical
+pub mod Worked
+pub mod Places
