@@ -12,3 +12,4 @@ pub mod Valued
 pub mod Rewrite
 pub mod Worked
 pub mod Holders
+pub mod Reserve

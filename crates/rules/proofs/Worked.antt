@@ -8,7 +8,7 @@ use Rattle.words.specs.Values.{signed}
 use Rattle.walk.specs.Walk.{Event, Row, Outcome, refused, passed, swap, laid, _>>=_, _>>_, logged, run, rows}
 use Rattle.rules.specs.Rules.{File, zeros, padding, series, between, sameBytes, identifier, version, form, allSpaces, decimal, countOf, fileHeader, lengthOf, head, admit, padded, fixed, leap, monthDays, daysIn, dated, isMains, basicBody, isType, rateOk, channelBody, channelsBody, channels, keywords, isIn, patientCode, eventCode, item, itemBytes, itemList, itemsBody, items, width, samplesOf, all, sampleBytes, numberList, samples, frameBody, frame, framesBody, frames, makerCode, next, part, delimiter, recordingBody, recording, recordings, file, orderOf, whole, judge}
 use Rattle.rules.specs.Canonical.{multiplierFor, sizeFor}
-use Rattle.rules.specs.Worked.{WorkedValues, smallest, row, listing}
+use Rattle.rules.specs.Worked.{WorkedValues, WorkedRefusals, smallest, with, row, listing}
 
 pub worked : WorkedValues
 unfolding wordIn word ordered signed lengthOf samplesOf multiplierFor sizeFor
@@ -27,11 +27,6 @@ worked = record {
   twelve = (refl, refl);
 }
 
--- 29 February: 2000 passes, 1900 does not
-pub leap-days : (dated 2000 (daysIn 2000 2) 29 ≡ true) × (dated 1900 (daysIn 1900 2) 29 ≡ false)
-unfolding dated daysIn leap monthDays between
-leap-days = (refl, refl)
-
 -- the rows of what is accepted
 abbrev rowsOf : Outcome File → List Row
 rowsOf (refused n p) = []
@@ -44,3 +39,13 @@ isAccepted (passed v r t) = true
 pub smallest-accepted : (isAccepted (judge smallest) ≡ true) × (rowsOf (judge smallest) ≡ listing)
 unfolding zeros padding series between sameBytes identifier version form allSpaces decimal countOf fileHeader lengthOf head admit padded fixed leap monthDays daysIn dated isMains basicBody isType rateOk channelBody channelsBody channels keywords isIn patientCode eventCode item itemBytes itemList itemsBody items width samplesOf all sampleBytes numberList samples frameBody frame framesBody frames makerCode next part delimiter recordingBody recording recordings file orderOf whole judge swap laid _>>=_ _>>_ logged run rows ordered word bytesOf wordIn smallest listing row
 smallest-accepted = (refl, refl)
+
+-- 29 February 2000 passes
+pub leap-accepted : isAccepted (judge (with 80 (208 ∷ 7 ∷ 0 ∷ 0 ∷ 2 ∷ 0 ∷ 0 ∷ 0 ∷ 29 ∷ []))) ≡ true
+unfolding zeros padding series between sameBytes identifier version form allSpaces decimal countOf fileHeader lengthOf head admit padded fixed leap monthDays daysIn dated isMains basicBody isType rateOk channelBody channelsBody channels keywords isIn patientCode eventCode item itemBytes itemList itemsBody items width samplesOf all sampleBytes numberList samples frameBody frame framesBody frames makerCode next part delimiter recordingBody recording recordings file orderOf whole judge swap laid _>>=_ _>>_ logged run rows ordered word bytesOf wordIn smallest listing row
+leap-accepted = refl
+
+-- every refusal number, at its place
+pub worked-refusals : WorkedRefusals judge
+unfolding zeros padding series between sameBytes identifier version form allSpaces decimal countOf fileHeader lengthOf head admit padded fixed leap monthDays daysIn dated isMains basicBody isType rateOk channelBody channelsBody channels keywords isIn patientCode eventCode item itemBytes itemList itemsBody items width samplesOf all sampleBytes numberList samples frameBody frame framesBody frames makerCode next part delimiter recordingBody recording recordings file orderOf whole judge swap laid _>>=_ _>>_ logged run rows ordered word bytesOf wordIn smallest listing row
+worked-refusals = record { one = refl; two = refl; three = refl; four = refl; five = refl; six = refl; seven = refl; eight = refl; nine = refl; ten = refl; eleven = refl; twelve = refl; thirteen = refl; fourteen = refl; fifteen = refl; sixteen = refl; period = refl; leap = refl }

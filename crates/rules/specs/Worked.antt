@@ -2,14 +2,14 @@
 -- Assumes nothing.
 use mathlib.Core.Path.{_≡_}
 use mathlib.Core.List.{List, [], _∷_, _++_}
-use Prim.Native.Nat.{ℕ}
+use Prim.Native.Nat.{ℕ, _+_}
 use lib.IntN.{ℤ, pos, negsuc}
-use lib.ListN.{replicate}
+use lib.ListN.{length, take, drop, replicate}
 use Rattle.words.specs.declared.Order.the-variants.{Little, Big}
 use Rattle.words.specs.Numbers.{wordIn, bytesOf}
 use Rattle.words.specs.Values.{signed}
-use Rattle.walk.specs.Walk.{Row}
-use Rattle.rules.specs.Rules.{lengthOf, samplesOf, identifier, version, form}
+use Rattle.walk.specs.Walk.{Row, Outcome, refused}
+use Rattle.rules.specs.Rules.{File, lengthOf, samplesOf, identifier, version, form}
 use Rattle.rules.specs.Canonical.{multiplierFor, sizeFor}
 
 -- the twelve that form the proved table, each by its number in document 01
@@ -61,3 +61,29 @@ listing =
     row 488 58 140 0 ∷
     row 520 26 145 1 ∷
     row 546 16 0 0 ∷ []
+
+-- Files that are refused: the smallest file cut, with bytes written over it, or with bytes behind it. One for each number from 1 to 16
+
+abbrev pub with : ℕ → List ℕ → List ℕ
+with at bs = take at smallest ++ (bs ++ drop (at + length bs) smallest)
+
+pub record WorkedRefusals (judge : List ℕ → Outcome File) : Type 0 where
+  pub one : judge (take 31 smallest) ≡ refused 1 0
+  pub two : judge (with 7 (70 ∷ [])) ≡ refused 2 0
+  pub three : judge (with 13 (49 ∷ [])) ≡ refused 3 8
+  pub four : judge (with 15 (49 ∷ [])) ≡ refused 4 14
+  pub five : judge (with 16 (77 ∷ [])) ≡ refused 5 16
+  pub six : judge (with 17 (65 ∷ [])) ≡ refused 6 17
+  pub seven : judge (with 18 (54 ∷ 53 ∷ [])) ≡ refused 7 18
+  pub eight : judge (with 31 (0 ∷ [])) ≡ refused 8 22
+  pub nine : judge (with 52 (101 ∷ [])) ≡ refused 9 52
+  pub ten : judge (with 32 (19 ∷ [])) ≡ refused 10 32
+  pub eleven : judge (with 44 (129 ∷ [])) ≡ refused 11 44
+  pub twelve : judge (with 40 (2 ∷ [])) ≡ refused 12 40
+  pub thirteen : judge (with 68 (129 ∷ [])) ≡ refused 13 68
+  pub fourteen : judge (with 192 (2 ∷ [])) ≡ refused 14 192
+  pub fifteen : judge (with 32 (177 ∷ 0 ∷ 0 ∷ 0 ∷ 10 ∷ 0 ∷ 0 ∷ 0 ∷ 1 ∷ 0 ∷ 0 ∷ 0 ∷ 3 ∷ []) ++ (5 ∷ [])) ≡ refused 15 562
+  pub sixteen : judge (smallest ++ (0 ∷ [])) ≡ refused 16 562
+  -- a period of 3 microseconds does not divide T 1; 29 February 1900
+  pub period : judge (with 228 (1 ∷ 0 ∷ 0 ∷ 0 ∷ 4 ∷ 0 ∷ 0 ∷ 0 ∷ 1 ∷ 0 ∷ 0 ∷ 0 ∷ 3 ∷ [])) ≡ refused 14 504
+  pub leap : judge (with 80 (108 ∷ 7 ∷ 0 ∷ 0 ∷ 2 ∷ 0 ∷ 0 ∷ 0 ∷ 29 ∷ [])) ≡ refused 13 88

@@ -1,2 +1,5 @@
 pub mod Numbers
+pub mod Joins
 pub mod Values
+pub mod Floats
+pub mod Runs

@@ -6,8 +6,8 @@ use lib.Dec.{ltb}
 use lib.IntN.{ℤ, pos, negsuc}
 
 -- how many words of w bytes there are, and where the negative ones begin
-abbrev pub wordsOf : ℕ → ℕ
-wordsOf w = 256 ^ w
+abbrev pub wordCount : ℕ → ℕ
+wordCount w = 256 ^ w
 
 abbrev pub half : ℕ → ℕ
 half w = 256 ^ w / 2
@@ -18,9 +18,9 @@ pickZ false a b = b
 
 -- the signed number whose two's complement at w bytes is n
 unfoldable pub signed : ℕ → ℕ → ℤ
-signed w n = pickZ (ltb n (half w)) (pos n) (negsuc (wordsOf w - 1 - n))
+signed w n = pickZ (ltb n (half w)) (pos n) (negsuc (wordCount w - 1 - n))
 
 -- and back
 unfoldable pub unsigned : ℕ → ℤ → ℕ
 unsigned w (pos n) = n
-unsigned w (negsuc k) = wordsOf w - 1 - k
+unsigned w (negsuc k) = wordCount w - 1 - k
