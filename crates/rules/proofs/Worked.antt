@@ -5,10 +5,19 @@ use mathlib.Core.Bool.{Bool, true, false}
 use mathlib.Core.List.{List, [], _∷_}
 use Rattle.words.specs.Numbers.{word, wordIn, ordered, bytesOf, bytesIn}
 use Rattle.words.specs.Values.{signed}
+use lib.IntN.{negsuc}
+use Rattle.words.specs.declared.Order.{Order}
+use Rattle.words.specs.declared.Order.the-variants.{Little, Big}
 use Rattle.walk.specs.Walk.{Event, Row, Outcome, refused, passed, swap, laid, _>>=_, _>>_, logged, run, rows}
 use Rattle.rules.specs.Rules.{File, zeros, padding, series, between, sameBytes, identifier, version, form, allSpaces, decimal, countOf, fileHeader, lengthOf, head, admit, padded, fixed, leap, monthDays, daysIn, dated, isMains, basicBody, isType, rateOk, channelBody, channelsBody, channels, keywords, isIn, patientCode, eventCode, item, itemBytes, itemList, itemsBody, items, width, samplesOf, all, sampleBytes, numberList, samples, frameBody, frame, framesBody, frames, makerCode, next, part, delimiter, recordingBody, recording, recordings, file, orderOf, whole, judge}
 use Rattle.rules.specs.Canonical.{multiplierFor, sizeFor}
 use Rattle.rules.specs.Worked.{WorkedValues, WorkedRefusals, smallest, with, row, listing}
+
+-- 24 bits, all set, are -1 in either order
+all-set : (o : Order) → signed 3 (wordIn o (255 ∷ 255 ∷ 255 ∷ [])) ≡ negsuc 0
+unfolding wordIn word ordered signed
+all-set Little = refl
+all-set Big = refl
 
 pub worked : WorkedValues
 unfolding wordIn word ordered signed lengthOf samplesOf multiplierFor sizeFor
@@ -17,7 +26,7 @@ worked = record {
   two = refl;
   three = refl;
   four = refl;
-  five = refl;
+  five = all-set;
   six = refl;
   seven = refl;
   eight = refl;

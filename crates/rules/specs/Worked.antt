@@ -5,6 +5,7 @@ use mathlib.Core.List.{List, [], _∷_, _++_}
 use Prim.Native.Nat.{ℕ, _+_}
 use lib.IntN.{ℤ, pos, negsuc}
 use lib.ListN.{length, take, drop, replicate}
+use Rattle.words.specs.declared.Order.{Order}
 use Rattle.words.specs.declared.Order.the-variants.{Little, Big}
 use Rattle.words.specs.Numbers.{wordIn, bytesOf}
 use Rattle.words.specs.Values.{signed}
@@ -18,7 +19,7 @@ pub record WorkedValues : Type 0 where
   pub two : signed 2 (wordIn Little (0 ∷ 128 ∷ [])) ≡ negsuc 32_767
   pub three : signed 3 (wordIn Little (0 ∷ 0 ∷ 128 ∷ [])) ≡ negsuc 8_388_607
   pub four : signed 3 (wordIn Big (128 ∷ 0 ∷ 0 ∷ [])) ≡ negsuc 8_388_607
-  pub five : signed 3 (wordIn Little (255 ∷ 255 ∷ 255 ∷ [])) ≡ negsuc 0
+  pub five : (o : Order) → signed 3 (wordIn o (255 ∷ 255 ∷ 255 ∷ [])) ≡ negsuc 0
   pub six : lengthOf 20_000_000 128 ≡ 2_560_000_000
   pub seven : lengthOf 16 1 ≡ 16
   pub eight : samplesOf 10 0 200 ≡ 2_000

@@ -92,9 +92,13 @@ impl Basic {
 
     pub const TIME: usize = 56;
 
+    pub const TIME_LENGTH: usize = 20;
+
     pub const MAINS: usize = 76;
 
     pub const COMMENT: usize = 96;
+
+    pub const COMMENT_LENGTH: usize = 32;
 }
 
 // Record 120: where its records 125 start in the file, and how many there are.
