@@ -1,0 +1,75 @@
+//! Damages of the file header.
+
+use super::{small_plan, valid};
+use crate::generate::draw;
+use crate::generate::random::Random;
+use crate::generate::sheet::{write, Sheet};
+use crate::header;
+
+pub fn wrong_header(random: &mut Random) -> Sheet {
+    const FIELDS: usize = 7;
+    let mut sheet = valid(random);
+    let first = random.below(FIELDS);
+    spoil_header(random, &mut sheet.bytes, first);
+    for later in first + 1..FIELDS {
+        if random.chance(15) {
+            spoil_header(random, &mut sheet.bytes, later);
+        }
+    }
+    sheet
+}
+
+pub fn short_file(random: &mut Random) -> Sheet {
+    let mut sheet = valid(random);
+    let length = random.below(header::LENGTH + 1);
+    sheet.bytes.truncate(length);
+    sheet
+}
+
+pub fn wrong_recording_count(random: &mut Random) -> Sheet {
+    let mut plan = small_plan(random);
+    let count = plan.recordings.len();
+    let others = [count - 1, count + 1, count + 1, header::MOST_RECORDINGS];
+    let other = random.pick(&others);
+    plan.digits = draw::digits(random, other);
+    write(random, &plan)
+}
+
+fn spoil_header(random: &mut Random, bytes: &mut [u8], field: usize) {
+    match field {
+        0 => spoil_text(random, bytes, header::IDENTIFIER_AT, b"JSSR-PSG"),
+        1 => spoil_text(random, bytes, header::VERSION_AT, b"000200"),
+        2 => spoil_text(random, bytes, header::FORM_AT, b"01"),
+        3 => bytes[header::ORDER_AT] = random.pick(b"lbLB X\0M"),
+        4 => bytes[header::SCRIPT_AT] = random.pick(b"sjeuSJEU AT\0"),
+        5 => spoil_digits(random, bytes),
+        _ => {
+            let spaces = header::LENGTH - header::SPACES_AT;
+            bytes[header::SPACES_AT + random.below(spaces)] = random.pick(b"\0!0\n\x1fX");
+        }
+    }
+}
+
+/// Another text, or one byte changed.
+fn spoil_text(random: &mut Random, bytes: &mut [u8], at: usize, other: &[u8]) {
+    let field = &mut bytes[at..at + other.len()];
+    if random.chance(30) {
+        field.copy_from_slice(other);
+    } else {
+        field[random.below(other.len())] ^= 1 << random.below(8);
+    }
+}
+
+fn spoil_digits(random: &mut Random, bytes: &mut [u8]) {
+    const FIELDS: [&[u8]; 16] = [
+        b"    ", b"0   ", b"00  ", b"0000", b"65  ", b"065 ", b"0065", b"9999", b" 1  ", b"   1",
+        b"1 1 ", b"1\0\0\0", b"+1  ", b"1.  ", b"-1  ", b"1  0",
+    ];
+    let at = header::RECORDINGS_AT;
+    let field = &mut bytes[at..at + header::RECORDINGS_LENGTH];
+    if random.chance(80) {
+        field.copy_from_slice(random.pick(&FIELDS));
+    } else {
+        field[random.below(header::RECORDINGS_LENGTH)] = random.next() as u8;
+    }
+}

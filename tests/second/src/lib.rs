@@ -1,0 +1,23 @@
+//! A second, independent reader of the JSSR PSG common format, version 000300
+//! (signal-channel form, frame data, one file), written from document 01 and
+//! used to test another implementation.
+
+pub mod ask;
+pub mod bytes;
+pub mod compare;
+pub mod corpus;
+pub mod fnv;
+pub mod generate;
+pub mod header;
+pub mod judge;
+pub mod listing;
+pub mod model;
+pub mod questions;
+pub mod record;
+pub mod refusal;
+pub mod rewrite;
+pub mod table;
+pub mod turn;
+
+/// Positions and lengths are `usize`; a recording may exceed 32 bits.
+const _: () = assert!(usize::BITS >= 64);

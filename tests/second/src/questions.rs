@@ -1,0 +1,121 @@
+//! Questions about one recording, channel, item, frame or sample. Recordings,
+//! channels, items and frames are asked for from 1, samples from 0; whatever is
+//! outside is refused with 19, after the file's own refusals.
+
+use crate::bytes::Order;
+use crate::judge::judge;
+use crate::model::{Channel, Frame, Item, Model, Sample, Slot, Span};
+use crate::record::Format;
+use crate::refusal::{self, Refusal};
+
+const OUTSIDE: Refusal = Refusal::new(refusal::QUESTION, 0);
+
+/// A recording's M, F and T.
+#[derive(Clone, Copy, Debug, PartialEq, Eq)]
+pub struct Facts {
+    pub channels: i32,
+    pub frames: i32,
+    pub seconds: i32,
+}
+
+pub fn facts(file: &[u8], recording: u64) -> Result<Facts, Refusal> {
+    let model = judge(file)?;
+    let recording = nth(&model.recordings, recording)?;
+    Ok(Facts {
+        channels: recording.overview.channels,
+        frames: recording.overview.frames,
+        seconds: recording.block.seconds,
+    })
+}
+
+pub fn channel(file: &[u8], recording: u64, channel: u64) -> Result<Channel, Refusal> {
+    let model = judge(file)?;
+    let recording = nth(&model.recordings, recording)?;
+    nth(&recording.channels, channel).copied()
+}
+
+/// An item of the 130 that holds for the recording.
+pub fn patient_item(file: &[u8], recording: u64, item: u64) -> Result<Item, Refusal> {
+    let model = judge(file)?;
+    let recording = nth(&model.recordings, recording)?;
+    nth(&recording.patient, item).copied()
+}
+
+pub fn event_item(file: &[u8], recording: u64, item: u64) -> Result<Item, Refusal> {
+    let model = judge(file)?;
+    let recording = nth(&model.recordings, recording)?;
+    nth(&recording.events, item).copied()
+}
+
+/// A frame's hour, minute and second.
+pub fn clock(file: &[u8], recording: u64, frame: u64) -> Result<[u16; 3], Refusal> {
+    let model = judge(file)?;
+    let recording = nth(&model.recordings, recording)?;
+    Ok(nth(&recording.block.frames, frame)?.clock)
+}
+
+/// The count of samples of a channel in a frame.
+pub fn count(file: &[u8], recording: u64, frame: u64, channel: u64) -> Result<u64, Refusal> {
+    let model = judge(file)?;
+    let (_, slot) = samples_of(&model, recording, frame, channel)?;
+    Ok(slot.count)
+}
+
+/// The bytes of one channel in one frame. When refused, and for a channel
+/// without samples, it is the empty part at the file's start.
+pub fn view(file: &[u8], recording: u64, frame: u64, channel: u64) -> Span {
+    let found = judge(file).and_then(|model| {
+        let (frame, slot) = samples_of(&model, recording, frame, channel)?;
+        Ok(frame.samples(slot))
+    });
+    match found {
+        Ok(span) if span.length > 0 => span,
+        _ => Span::default(),
+    }
+}
+
+pub fn sample(
+    file: &[u8],
+    recording: u64,
+    frame: u64,
+    channel: u64,
+    sample: u64,
+) -> Result<Sample, Refusal> {
+    let model = judge(file)?;
+    let (frame, slot) = samples_of(&model, recording, frame, channel)?;
+    if sample >= slot.count {
+        return Err(OUTSIDE);
+    }
+    let at = frame.samples(slot).at + sample as usize * slot.format.width();
+    Ok(sample_at(model.order, file, at, slot.format))
+}
+
+/// The sample at `at`, as its format has it.
+pub fn sample_at(order: Order, file: &[u8], at: usize, format: Format) -> Sample {
+    let value = order.signed_at(file, at, format.width());
+    match format {
+        Format::Float32 => Sample::Float(value as u32),
+        _ => Sample::Whole(value),
+    }
+}
+
+fn samples_of(
+    model: &Model,
+    recording: u64,
+    frame: u64,
+    channel: u64,
+) -> Result<(&Frame, &Slot), Refusal> {
+    let recording = nth(&model.recordings, recording)?;
+    let frame = nth(&recording.block.frames, frame)?;
+    let slot = nth(&recording.block.slots, channel)?;
+    Ok((frame, slot))
+}
+
+/// The entry asked for from 1.
+fn nth<T>(list: &[T], number: u64) -> Result<&T, Refusal> {
+    number
+        .checked_sub(1)
+        .and_then(|index| usize::try_from(index).ok())
+        .and_then(|index| list.get(index))
+        .ok_or(OUTSIDE)
+}

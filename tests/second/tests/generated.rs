@@ -1,0 +1,287 @@
+//! What is true of all generated files.
+
+use second::bytes::Order;
+use second::generate::{self, Field, Sheet};
+use second::judge::judge;
+use second::model::{Calibration, Channel, Item, Model, Recording, Span};
+use second::questions::sample_at;
+use second::record::Kind;
+use second::refusal::Refusal;
+use second::rewrite::rewrite;
+use second::table::table;
+use second::turn::turn;
+use std::collections::BTreeMap;
+
+const SEED: u64 = 7;
+const VALID: u64 = 3000;
+const ANY: u64 = 40_000;
+const ROOM: u64 = u64::MAX;
+
+fn valid_files() -> impl Iterator<Item = Sheet> {
+    (0..VALID).map(|index| generate::valid_file(SEED, index))
+}
+
+fn has_makers(sheet: &Sheet) -> bool {
+    sheet
+        .records
+        .iter()
+        .any(|record| record.kind == Kind::Maker)
+}
+
+fn letter(order: Order) -> u64 {
+    u64::from(order.letter())
+}
+
+#[test]
+fn the_same_seed_gives_the_same_files() {
+    for index in 0..200 {
+        let (one, other) = (generate::file(3, index), generate::file(3, index));
+        assert_eq!(one.bytes, other.bytes);
+    }
+    let differs = (0..50).any(|i| generate::file(3, i).bytes != generate::file(4, i).bytes);
+    assert!(differs);
+}
+
+#[test]
+fn valid_files_have_the_rows_they_were_written_with() {
+    for sheet in valid_files() {
+        let rows = table(&sheet.bytes, ROOM).expect("a valid file");
+        let found: Vec<(i64, i64)> = rows.iter().map(|row| (row[0], row[1])).collect();
+        let written: Vec<(i64, i64)> = sheet
+            .records
+            .iter()
+            .map(|record| (record.at as i64, record.length as i64))
+            .collect();
+        assert_eq!(found, written);
+    }
+}
+
+#[test]
+fn turning_twice_gives_the_file_back() {
+    for sheet in valid_files() {
+        let turned = turn(&sheet.bytes, ROOM);
+        assert_eq!(turned.is_err(), has_makers(&sheet));
+        if let Ok(turned) = turned {
+            assert_ne!(turned, sheet.bytes);
+            assert_eq!(turn(&turned, ROOM), Ok(sheet.bytes));
+        }
+    }
+}
+
+#[test]
+fn a_rewritten_file_reads_the_same_and_is_canonical() {
+    for sheet in valid_files() {
+        let model = judge(&sheet.bytes).expect("a valid file");
+        for order in [Order::Little, Order::Big] {
+            match rewrite(&sheet.bytes, letter(order), ROOM) {
+                Err(refusal) => {
+                    assert_eq!(refusal.number, 18);
+                    assert!(has_makers(&sheet) && order != sheet.order);
+                }
+                Ok(out) => {
+                    let rewritten = judge(&out).expect("a rewritten file");
+                    let reading = reading(&sheet.bytes, &model);
+                    assert_eq!(reading, self::reading(&out, &rewritten));
+                    assert_eq!(rewrite(&out, letter(order), ROOM), Ok(out));
+                }
+            }
+        }
+    }
+}
+
+#[test]
+fn both_canonical_files_are_each_other_turned() {
+    for sheet in valid_files().filter(|sheet| !has_makers(sheet)) {
+        let little = rewrite(&sheet.bytes, letter(Order::Little), ROOM).expect("no makers");
+        let big = rewrite(&sheet.bytes, letter(Order::Big), ROOM).expect("no makers");
+        assert_eq!(turn(&little, ROOM), Ok(big));
+    }
+}
+
+/// A file's reading as text: everything but sizes, multipliers, frame length,
+/// reserve, byte order and positions.
+fn reading(file: &[u8], model: &Model) -> String {
+    let mut all = format!("{} {}\n", model.script, model.recordings.len());
+    for recording in &model.recordings {
+        all.push_str(&recording_reading(file, model.order, recording));
+    }
+    all
+}
+
+fn recording_reading(file: &[u8], order: Order, recording: &Recording) -> String {
+    let text = |span: Span| file[span.at..span.at + span.length].to_vec();
+    let overview = &recording.overview;
+    let mut all = format!(
+        "{:?} {:?} {:?} {:?} {:?} {:?} {:?}\n",
+        overview.channels,
+        overview.frames,
+        overview.date,
+        overview.time,
+        text(overview.time_text),
+        overview.mains,
+        text(overview.comment),
+    );
+    for channel in recording.channels.iter() {
+        all.push_str(&channel_reading(channel, text));
+    }
+    let items = |items: &[Item]| -> Vec<(i32, Vec<u8>)> {
+        items
+            .iter()
+            .map(|item| (item.code, text(item.text)))
+            .collect()
+    };
+    all.push_str(&format!("{:?}\n", items(&recording.patient)));
+    all.push_str(&format!("{:?}\n", items(&recording.events)));
+    for part in &recording.parts {
+        let whole = (part.kind == Kind::Maker).then(|| file[part.at..part.end()].to_vec());
+        all.push_str(&format!("{:?} {whole:?}\n", part.kind));
+    }
+    all.push_str(&format!("{}\n", recording.block.seconds));
+    for frame in &recording.block.frames {
+        all.push_str(&format!("{:?}\n", frame.clock));
+        for slot in &recording.block.slots {
+            let first = frame.samples(slot).at;
+            let width = slot.format.width();
+            let samples = (0..slot.count as usize)
+                .map(|n| sample_at(order, file, first + n * width, slot.format));
+            all.push_str(&format!("{:?}\n", samples.collect::<Vec<_>>()));
+        }
+    }
+    all
+}
+
+fn channel_reading(channel: &Channel, text: impl Fn(Span) -> Vec<u8>) -> String {
+    let calibration: Calibration = channel.calibration;
+    format!(
+        "{:?} {:?} {:?} {:?}\n",
+        [
+            channel.number,
+            channel.flags,
+            channel.channel_type,
+            channel.format.number(),
+            channel.rate_field,
+            channel.calibration_frequency,
+            channel.filter_low,
+            channel.filter_high,
+            channel.sensitivity,
+        ],
+        calibration,
+        [channel.label, channel.unit].map(&text),
+        text(channel.comment),
+    )
+}
+
+/// The sort of place at which a file was refused, as text.
+fn place_of(sheet: &Sheet, refusal: Refusal) -> String {
+    let number = refusal.number;
+    if let Some(place) = sheet.place_at(refusal.at) {
+        return at_field(number, place.field);
+    }
+    let paddings = sheet.paddings.iter().filter(|padding| padding.length > 0);
+    let mut around = paddings.filter(|p| (p.at..p.at + p.length).contains(&refusal.at));
+    match around.next() {
+        Some(padding) => in_padding(number, padding.kind),
+        None if refusal.at == sheet.bytes.len() => at_file_end(number),
+        None => String::new(),
+    }
+}
+
+fn at_field(number: u8, field: Field) -> String {
+    format!("{number} at {field:?}")
+}
+
+fn in_padding(number: u8, kind: Kind) -> String {
+    format!("{number} in the padding of {kind:?}")
+}
+
+fn at_file_end(number: u8) -> String {
+    format!("{number} at the file's end")
+}
+
+/// Every refusal of a field or a padding, with its place.
+fn named_places() -> Vec<String> {
+    const RECORDS: [Kind; 10] = [
+        Kind::Recording,
+        Kind::Overview,
+        Kind::Channels,
+        Kind::Channel,
+        Kind::Patient,
+        Kind::Events,
+        Kind::Frames,
+        Kind::Frame,
+        Kind::Maker,
+        Kind::Delimiter,
+    ];
+    let mut all = Vec::new();
+    for kind in RECORDS {
+        all.push(at_field(9, Field::Code(kind)));
+        all.push(at_field(10, Field::Size(kind)));
+        all.push(at_field(11, Field::Multiplier(kind)));
+        if kind != Kind::Maker {
+            all.push(at_field(12, Field::Serial(kind)));
+        }
+    }
+    let values = [
+        Field::DataForm,
+        Field::ChannelCount,
+        Field::TotalFrames,
+        Field::Year,
+        Field::Month,
+        Field::Day,
+        Field::Hour,
+        Field::Minute,
+        Field::Second,
+        Field::Mains,
+        Field::SubCount,
+        Field::SubSize,
+        Field::Type,
+        Field::Format,
+        Field::Rate,
+        Field::Seconds,
+        Field::ClockHour,
+        Field::ClockMinute,
+        Field::ClockSecond,
+    ];
+    all.extend(values.map(|field| at_field(13, field)));
+    for kind in [Kind::Patient, Kind::Events] {
+        all.push(at_field(10, Field::ItemSize(kind)));
+        all.push(at_field(13, Field::ItemCode(kind)));
+        all.push(at_field(13, Field::ItemCount(kind)));
+        all.push(at_field(14, Field::ItemCount(kind)));
+    }
+    let disagreements = [
+        Field::ChannelCount,
+        Field::SubCount,
+        Field::Seconds,
+        Field::FrameLength,
+        Field::FrameCount,
+    ];
+    all.extend(disagreements.map(|field| at_field(14, field)));
+    let padded = [Kind::Recording, Kind::Frames, Kind::Frame];
+    all.extend(padded.map(|kind| in_padding(15, kind)));
+    all.push(in_padding(10, Kind::Recording));
+    all.push(at_file_end(10));
+    all
+}
+
+#[test]
+fn every_refusal_is_met_at_every_place() {
+    let mut places: BTreeMap<String, usize> = BTreeMap::new();
+    let mut numbers: BTreeMap<u8, usize> = BTreeMap::new();
+    for index in 0..ANY {
+        let sheet = generate::file(SEED, index);
+        if let Err(refusal) = judge(&sheet.bytes) {
+            *numbers.entry(refusal.number).or_default() += 1;
+            *places.entry(place_of(&sheet, refusal)).or_default() += 1;
+        }
+    }
+    for number in 1..=16 {
+        let times = numbers.get(&number).copied().unwrap_or(0);
+        assert!(times >= 100, "{number}: only {times}");
+    }
+    for place in named_places() {
+        let times = places.get(&place).copied().unwrap_or(0);
+        println!("{place}: {times}");
+        assert!(times >= 20, "{place}: only {times}");
+    }
+}
