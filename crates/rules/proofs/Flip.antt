@@ -1,10 +1,9 @@
 -- Turning, said of bytes: each number is reversed, the letter is changed, and every other byte stands. It is the rendering in the other order.
 -- Assumes nothing.
-use mathlib.Core.Path.{_≡_, refl, sym, ap, ap₂, subst, _∙_}
-use mathlib.Core.List.{List, [], _∷_, _++_, map, reverse, reverse-reverse, append-assoc, append-nil}
-use Prim.Native.Nat.{ℕ, zero, suc, _+_, _*_, _≤_, _<_}
-use native.Mathlib.Omega.{arith}
-use lib.ListN.{length, take, drop, length-append}
+use mathlib.Core.Path.{_≡_, refl, sym, ap, _∙_}
+use mathlib.Core.List.{List, [], _∷_, _++_, reverse, reverse-reverse, append-assoc, append-nil}
+use Prim.Native.Nat.{ℕ, _+_}
+use lib.ListN.{length}
 use lib.Seq.{take-at, drop-at}
 use Rattle.words.specs.Numbers.{other, ordered, bytesIn, Bytes}
 use Rattle.words.specs.declared.Order.{Order}

@@ -1,13 +1,12 @@
 -- A recording without a 120 or a 130 has the channels or the patient items of the nearest earlier one that has them; the first has its own.
 -- Assumes nothing.
-use mathlib.Core.Path.{_≡_, refl, sym, ap, _∙_}
+use mathlib.Core.Path.{_≡_, refl, sym, _∙_}
 use mathlib.Core.Bool.{Bool, true, false}
 use mathlib.Core.List.{List, [], _∷_}
 use mathlib.Core.Option.{Option, none, some}
-use Prim.Native.Nat.{ℕ, zero, suc, _+_, _≤_, _<_}
+use Prim.Native.Nat.{ℕ, zero, suc, _≤_, _<_}
 use native.Mathlib.Omega.{arith}
 use lib.ListN.{length, getD}
-use Rattle.walk.specs.Walk.{pick}
 use Rattle.rules.specs.Rules.{Maker, Recording, Held, heldChannels, heldPatient, patientCode}
 use Rattle.rules.specs.Places.{holder}
 use Rattle.rules.proofs.Renew.{ChannelsOk, ItemsOk}

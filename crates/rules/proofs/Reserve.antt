@@ -1,13 +1,12 @@
 -- In a canonical file every reserve area is zero.
 -- Assumes nothing.
-use mathlib.Core.Path.{_≡_, refl, sym, ap, ap₂, _∙_}
+use mathlib.Core.Path.{_≡_, refl, ap, ap₂, _∙_}
 use mathlib.Core.Bool.{Bool, true, false}
 use mathlib.Core.List.{List, [], _∷_, _++_, map}
 use Prim.Native.Nat.{ℕ, suc}
 use lib.ListN.{length, replicate}
 use Rattle.walk.specs.Walk.{Event, numeral, piece, blank, row, cleared}
-use Rattle.walk.proofs.Laws.{zeros-length}
-use Rattle.rules.specs.Rules.{Head, Basic, Channel, Item, Frame, Maker, Recording, Contents, width}
+use Rattle.rules.specs.Rules.{Head, Basic, Channel, Item, Frame, Maker, Recording, width}
 use Rattle.rules.specs.Canonical.{recordOf, basicFields, channelFields, channelEvents, channelsWritten, itemEvents, itemsWritten, sampleEvents, frameWritten, frameEvents, framesWritten, makerEvents, optional, delimiterEvents, content, recordingEvents, headerEvents, anew, canonical}
 use Rattle.rules.specs.Reading.{Reading, wordsOf}
 

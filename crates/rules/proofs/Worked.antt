@@ -3,12 +3,12 @@
 use mathlib.Core.Path.{_≡_, refl}
 use mathlib.Core.Bool.{Bool, true, false}
 use mathlib.Core.List.{List, [], _∷_}
-use Rattle.words.specs.Numbers.{word, wordIn, ordered, bytesOf, bytesIn}
+use Rattle.words.specs.Numbers.{word, wordIn, ordered, bytesOf}
 use Rattle.words.specs.Values.{signed}
 use lib.IntN.{negsuc}
 use Rattle.words.specs.declared.Order.{Order}
 use Rattle.words.specs.declared.Order.the-variants.{Little, Big}
-use Rattle.walk.specs.Walk.{Event, Row, Outcome, refused, passed, swap, laid, _>>=_, _>>_, logged, run, rows}
+use Rattle.walk.specs.Walk.{Row, Outcome, refused, passed, swap, laid, _>>=_, _>>_, logged, run, rows}
 use Rattle.rules.specs.Rules.{File, zeros, padding, series, between, sameBytes, identifier, version, form, allSpaces, decimal, countOf, fileHeader, lengthOf, head, admit, padded, fixed, leap, monthDays, daysIn, dated, isMains, basicBody, isType, rateOk, channelBody, channelsBody, channels, keywords, isIn, patientCode, eventCode, item, itemBytes, itemList, itemsBody, items, width, samplesOf, all, sampleBytes, numberList, samples, frameBody, frame, framesBody, frames, makerCode, next, part, delimiter, recordingBody, recording, recordings, file, orderOf, whole, judge}
 use Rattle.rules.specs.Canonical.{multiplierFor, sizeFor}
 use Rattle.rules.specs.Worked.{WorkedValues, WorkedRefusals, smallest, with, row, listing}

@@ -2,14 +2,14 @@
 -- all texts, all samples as values, and each maker's record whole. A number means what document 01 says that it is: a signed whole number of
 -- its width, an unsigned one in a frame's clock, or a float, which is its 32 bits.
 -- Assumes nothing.
-use mathlib.Core.Bool.{Bool, true, false}
+use mathlib.Core.Bool.{Bool}
 use mathlib.Core.List.{List, [], _∷_, map}
 use Prim.Native.Nat.{ℕ}
 use lib.Dec.{eqb}
 use lib.IntN.{ℤ}
 use Rattle.words.specs.Values.{signed, unsigned}
 use Rattle.walk.specs.Walk.{pick}
-use Rattle.rules.specs.Rules.{Head, Basic, Channel, Item, width, Frame, Maker, Recording, File, Contents, contents}
+use Rattle.rules.specs.Rules.{Basic, Channel, Item, width, Frame, Maker, Recording, File, Contents, contents}
 
 -- a sample or a calibration number: a whole number, or a float by its bits
 pub data Value : Type 0 where

@@ -3,7 +3,7 @@
 -- Every number is read as an unsigned word; a field that document 01 judges lies in 0 to 2^31 - 1, so a negative one fails its test.
 -- Assumes nothing.
 use mathlib.Core.Bool.{Bool, true, false, _&&_, _||_, not}
-use mathlib.Core.List.{List, [], _∷_, _++_, map}
+use mathlib.Core.List.{List, [], _∷_, map}
 use mathlib.Core.Option.{Option, none, some}
 use Prim.Native.Nat.{ℕ, zero, suc, _+_, _*_, _-_, _/_, _%_, _^_, max}
 use lib.Dec.{leb, ltb, eqb}

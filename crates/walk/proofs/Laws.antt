@@ -1,6 +1,6 @@
 -- What holds of every walk, once for all.
 -- Assumes nothing.
-use mathlib.Core.Path.{_≡_, refl, sym, ap, subst, _∙_}
+use mathlib.Core.Path.{_≡_, refl, sym, ap, _∙_}
 use mathlib.Core.Bool.{Bool, true, false}
 use mathlib.Core.List.{List, [], _∷_, _++_, append-assoc, append-nil}
 use Prim.Native.Nat.{ℕ, zero, suc, _+_, _-_, _^_, _≤_, _<_}
@@ -8,8 +8,8 @@ use native.Mathlib.Nat.{add-zero}
 use native.Mathlib.Omega.{arith}
 use lib.Dec.{leb}
 use borrow.Author.Tests.{leb-true, le-leb}
-use lib.ListN.{length, take, drop, replicate, length-append, length-take, length-drop, take-append-drop, length-replicate}
-use lib.Seq.{take-at, drop-at, drop-drop, length-take-le}
+use lib.ListN.{length, take, drop, replicate, length-append, length-drop, take-append-drop, length-replicate}
+use lib.Seq.{take-at, drop-at, length-take-le}
 use Rattle.words.specs.Numbers.{wordIn, bytesIn, Bytes}
 use Rattle.words.specs.declared.Order.{Order}
 use Rattle.words.proofs.Words.{bytes-take, bytes-drop, wordIn-lt, wordIn-bytesIn, bytesIn-wordIn, length-bytesIn}

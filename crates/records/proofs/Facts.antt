@@ -1,0 +1,73 @@
+-- Facts on the rules that the code's proofs cite.
+-- Assumes nothing.
+use mathlib.Core.Path.{_≡_, refl, ap}
+use mathlib.Core.Bool.{Bool, true, false, _&&_}
+use mathlib.Core.List.{List, [], _∷_}
+use Prim.Native.Nat.{ℕ, zero, suc, _+_, _*_, _-_, _≤_, _<_, max}
+use native.Mathlib.Nat.{mul-le-mul-left}
+use native.Mathlib.Omega.{arith}
+use native.Mathlib.Numerals.{add-one}
+use lib.ListN.{length, getD, drop, drop-of-length-le}
+use lib.Seq.{drop-cons}
+use borrow.Author.Tests.{eq-eqb, ne-eqb}
+use lib.Dec.{eqb}
+use Rattle.rules.specs.Rules.{lengthOf, isIn, sameBytes}
+
+pub length-none : (size m : ℕ) → m ≡ 0 → size ≡ lengthOf size m
+unfolding lengthOf
+length-none size m h = rw h
+
+pub length-times : (size m : ℕ) → (m ≡ 0 → ⊥) → size * m ≡ lengthOf size m
+unfolding lengthOf
+length-times size zero h = absurd (h refl)
+length-times size (suc m) h = refl
+
+pub length-short : (size m : ℕ) → size < 2147483648 → m ≤ 128 → size * m < 274877906945
+length-short size m h k = omega (arith, mul-le-mul-left size k)
+
+pub max-one : (m : ℕ) → (m ≡ 0 → ⊥) → max 1 m ≡ m
+max-one m h = omega arith
+
+-- a table that is searched
+pub isIn-yes : (l : List ℕ) (i x : ℕ) → i < length l → x ≡ getD l i 0 → isIn x (drop i l) ≡ true
+unfolding isIn
+isIn-yes l i x h e = rw (drop-cons l i 0 h, eq-eqb _ _ e)
+
+pub isIn-no : (l : List ℕ) (i x : ℕ) → i < length l → (x ≡ getD l i 0 → ⊥) → isIn x (drop i l) ≡ isIn x (drop (i + 1) l)
+unfolding isIn
+isIn-no l i x h e = rw (add-one, drop-cons l i 0 h, ne-eqb _ _ e)
+
+pub isIn-end : (l : List ℕ) (i x : ℕ) → length l ≤ i → isIn x (drop i l) ≡ false
+unfolding isIn
+isIn-end l i x h = rw (drop-of-length-le l h)
+
+-- two byte strings, compared byte by byte
+pub same-end : (a b : List ℕ) (i : ℕ) → length a ≤ i → length b ≤ i → sameBytes (drop i a) (drop i b) ≡ true
+unfolding sameBytes
+same-end a b i h k = rw (drop-of-length-le a h, drop-of-length-le b k)
+
+pub same-more : (a b : List ℕ) (i : ℕ) → i < length a → i < length b → getD a i 0 ≡ getD b i 0 → sameBytes (drop i a) (drop i b) ≡ sameBytes (drop (i + 1) a) (drop (i + 1) b)
+unfolding sameBytes
+same-more a b i h k e = rw (add-one, drop-cons a i 0 h, drop-cons b i 0 k, eq-eqb (getD a i 0) (getD b i 0) e)
+
+pub same-not : (a b : List ℕ) (i : ℕ) → i < length a → i < length b → (getD a i 0 ≡ getD b i 0 → ⊥) → sameBytes (drop i a) (drop i b) ≡ false
+unfolding sameBytes
+same-not a b i h k e = rw (drop-cons a i 0 h, drop-cons b i 0 k, ne-eqb (getD a i 0) (getD b i 0) e)
+
+pub same-length : (a b : List ℕ) → (length a ≡ length b → ⊥) → sameBytes a b ≡ false
+unfolding sameBytes
+same-length [] [] h = absurd (h refl)
+same-length [] (y ∷ b) h = refl
+same-length (x ∷ a) [] h = refl
+same-length (x ∷ a) (y ∷ b) h = rw (same-length a b (λ e. h (ap suc e))) (and-false (eqb x y))
+  where
+    and-false : (t : Bool) → t && false ≡ false
+    and-false true = refl
+    and-false false = refl
+
+-- bounds of products
+pub samples-short : (rate t : ℕ) → rate < 4294967296 → t ≤ 3600 → rate * t ≤ 15461882265600
+samples-short rate t h k = omega (arith, mul-le-mul-left rate k)
+
+pub bytes-short : (w n : ℕ) → w ≤ 4 → n ≤ 15461882265600 → w * n ≤ 61847529062400
+bytes-short w n h k = omega (arith, mul-le-mul-left w k)

@@ -1,0 +1,15 @@
+use Rattle.rules.specs.Rules.{isType}
+use Rattle.walk.proofs.Seen.{tests}
+use Rattle.records.proofs.type_ok.Statement.{statement}
+use Rattle.records.proofs.type_ok.Tie as tie
+
+returns : tie.Need-returns
+unfolding isType
+returns c = simp (tests, c .if1 .taken)
+
+returns-2 : tie.Need-returns-2
+unfolding isType
+returns-2 c = simp (tests, c .if1 .left)
+
+pub type-ok-spec : {M : Type 1} → statement M
+type-ok-spec = tie.close (tie.spec returns returns-2)
