@@ -260,26 +260,31 @@ pub stays-delimiter : (h : Head) (L at : ℕ) → Stays L at (delimiter h) (λ _
 unfolding delimiter _>>=_ _>>_
 stays-delimiter h L at = λ _ _ _ _. refl
 
-pub stays-recording : (held : Option Held) (i at room : ℕ) → Stays (at + room) at (recording held room i) (λ x e. (e ≡ at + x .layout .bytes) × (x .layout .bytes ≤ room))
-unfolding recording recordingBody
-stays-recording held i at room =
-    stays-record 10 128 (λ _. leb 16) (eqb i) _ _ at room
-    (λ h f l.
-    let s : 16 ≤ span h = leb-true 16 (span h) f in
-    let z : at + 16 + (span h - 16) ≡ at + span h = omega arith in
-    stays-bind _ _ _ _ _ _ (rw z at (stays-basic (at + 16) (span h - 16)))
-    (λ b e₁ q₁. stays-bind _ _ _ _ _ _ (stays-next (span h) (span h - 144) (span h) (at + span h) e₁ (omega (arith, q₁)) (omega (arith, q₁)) (omega (arith, q₁)))
-    (λ n e₂ q₂. stays-bind _ _ _ _ _ _ (stays-part (span h) 120 (channels b) (stays-channelsRest b) (heldChannels held) n (at + span h) e₂ q₂)
-    (λ c e₃ q₃. stays-bind _ _ _ _ _ _ (stays-part (span h) 130 (items patientCode) (stays-itemsRest patientCode) (heldPatient held) (c .next) (at + span h) e₃ q₃)
-    (λ p e₄ q₄. stays-bind _ _ _ _ _ _ (stays-part (span h) 200 (items eventCode) (stays-itemsRest eventCode) (some []) (p .next) (at + span h) e₄ q₄)
+pub stays-recordingBody : (held : Option Held) (h : Head) (at : ℕ) → 16 ≤ span h → Stays (at + (span h - 16)) at (recordingBody held h) (λ x e. (x .layout .bytes ≡ span h) × (e ≡ at + (span h - 16)))
+unfolding recordingBody
+stays-recordingBody held h at s =
+    let L : ℕ = at + (span h - 16) in
+    stays-bind _ _ _ _ _ _ (stays-basic at (span h - 16))
+    (λ b e₁ q₁. stays-bind _ _ _ _ _ _ (stays-next (span h) (span h - 144) (span h) L e₁ (omega (arith, q₁)) (omega (arith, q₁)) (omega (arith, q₁)))
+    (λ n e₂ q₂. stays-bind _ _ _ _ _ _ (stays-part (span h) 120 (channels b) (stays-channelsRest b) (heldChannels held) n L e₂ q₂)
+    (λ c e₃ q₃. stays-bind _ _ _ _ _ _ (stays-part (span h) 130 (items patientCode) (stays-itemsRest patientCode) (heldPatient held) (c .next) L e₃ q₃)
+    (λ p e₄ q₄. stays-bind _ _ _ _ _ _ (stays-part (span h) 200 (items eventCode) (stays-itemsRest eventCode) (some []) (p .next) L e₄ q₄)
     (λ e e₅ q₅. stays-require _ 9 12 _ _ _ _ refl
-    (λ _. stays-bind _ _ _ _ _ _ (stays-framesRest b (c .own) (c .value) _ (e .next .room) (e .next .head) (at + span h) e₅ (q₅ .2))
-    (λ f e₆ q₆. stays-bind _ _ _ _ _ _ (stays-next (span h) (e .next .room - span (e .next .head)) (span h) (at + span h) e₆ (omega (arith, q₅ .1)) (omega (arith, q₅ .1)) (q₆ .2))
-    (λ d e₇ q₇. stays-then _ _ _ _ _ _ (stays-delimiter (d .head) (at + span h) e₇)
+    (λ _. stays-bind _ _ _ _ _ _ (stays-framesRest b (c .own) (c .value) _ (e .next .room) (e .next .head) L e₅ (q₅ .2))
+    (λ f e₆ q₆. stays-bind _ _ _ _ _ _ (stays-next (span h) (e .next .room - span (e .next .head)) (span h) L e₆ (omega (arith, q₅ .1)) (omega (arith, q₅ .1)) (q₆ .2))
+    (λ d e₇ q₇. stays-then _ _ _ _ _ _ (stays-delimiter (d .head) L e₇)
     (λ _ e₈ q₈. stays-require _ 14 _ _ _ _ _ refl
     (λ _. stays-require _ 10 0 _ _ _ _ refl
-    (λ _. stays-then _ _ _ _ _ _ (stays-padding (at + span h) e₈ (d .room - 16) (omega (arith, q₇ .0, q₇ .2, q₈)))
-    (λ _ x r. (omega (arith, q₇ .0, q₇ .2, q₈, r), l))))))))))))))
+    (λ _. stays-then _ _ _ _ _ _ (stays-padding L e₈ (d .room - 16) (omega (arith, q₇ .0, q₇ .2, q₈)))
+    (λ _ x r. (refl, omega (arith, q₇ .0, q₇ .2, q₈, r))))))))))))))
+
+pub stays-recording : (held : Option Held) (i at room : ℕ) → Stays (at + room) at (recording held room i) (λ x e. (e ≡ at + x .layout .bytes) × (x .layout .bytes ≤ room))
+unfolding recording
+stays-recording held i at room =
+    stays-record 10 128 (λ _. leb 16) (eqb i) (recordingBody held) _ at room
+    (λ h f l.
+    let s : 16 ≤ span h = leb-true 16 (span h) f in
+    stays-weaken (recordingBody held h) (at + 16 + (span h - 16)) (at + span h) (at + 16) _ _ (omega arith) (λ x e q. (omega (arith, q .0, q .1), omega (arith, q .0))) (stays-recordingBody held h (at + 16) s))
 
 pub stays-recordings : (n : ℕ) (held : Option Held) (room i L at : ℕ) → at + room ≡ L → Stays L at (recordings n held room i) (λ _ e. e ≤ L)
 unfolding recordings

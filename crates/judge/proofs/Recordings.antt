@@ -1,0 +1,100 @@
+-- The recordings of a file, one after the other: what the walk from one of them on comes to.
+-- Assumes nothing.
+use mathlib.Core.Path.{_≡_, refl, ap, _∙_}
+use mathlib.Core.List.{List, _∷_}
+use mathlib.Core.Option.{Option, none}
+use Prim.Native.Nat.{ℕ, zero, suc, _+_, _-_, _≤_, _<_}
+use native.Mathlib.Nat.{sub-zero}
+use native.Mathlib.Numerals.{add-one}
+use native.Mathlib.Omega.{arith}
+use lib.ListN.{length}
+use Rattle.words.specs.declared.Order.{Order}
+use Rattle.walk.specs.See.{Verdict, stops, goes, see, over, ends, onward, Goes, Yields}
+use Rattle.words.specs.Numbers.{bytesAt, numberAt}
+use Rattle.walk.specs.Walk.{laid, Walk, give, refuse, check, number, read, skip, list, _>>=_}
+use Rattle.walk.proofs.Seen.{see-bind, over-then, stays-goes, yields-bind}
+use Rattle.rules.specs.Rules.{Held, Placed, recording, recordings}
+use Rattle.rules.proofs.Room.{stays-recording}
+use Rattle.records.specs.Says.{halts}
+use Rattle.judge.specs.Recorded.{leaves, Places-of}
+use Rattle.judge.specs.Tabled.{HeldAs}
+use Rattle.rules.specs.declared.Refusal.{Refusal}
+use Rattle.judge.specs.declared.tables.Before.{Before}
+use Rattle.judge.specs.declared.tables.Before.the-variants as Before
+use Rattle.judge.specs.declared.tables.Places.{Places}
+
+-- an answer put before a list that follows, of which only the place is kept
+ends-give : {A B : Type 0} (f : A → B) (v : Verdict A) → ends (onward v (λ l e. goes (f l) e)) ≡ ends v
+unfolding over
+ends-give f (stops n p) = refl
+ends-give f (goes l e) = refl
+
+module _ (o : Order) (b : ℕ) (s : List ℕ) where
+  recordings-suc : (at n : ℕ) (held : Option Held) (room i : ℕ) →
+      ends (see o b s at (recordings (suc n) held room i)) ≡ onward (see o b s at (recording held room i)) (λ x e. ends (see o b s e (recordings n (leaves x) (room - x .layout .bytes) (suc i))))
+  unfolding recordings see
+  recordings-suc at n held room i =
+      rw see-bind (over-then (λ _. tt) (see o b s at (recording held room i)) (λ x e. see o b s e (recordings n (leaves x) (room - x .layout .bytes) (suc i) >>= λ l. give (x ∷ l))) (λ x e. ends (see o b s e (recordings n (leaves x) (room - x .layout .bytes) (suc i))))
+      (λ x e. ap ends (see-bind o b s e (recordings n (leaves x) (room - x .layout .bytes) (suc i)) (λ l. give (x ∷ l))) ∙ ends-give (λ l. x ∷ l) (see o b s e (recordings n (leaves x) (room - x .layout .bytes) (suc i)))))
+
+  recordings-none : (at room n i k : ℕ) (held : Option Held) → n ≤ i → ends (see o b s at (recordings (n - i) held room k)) ≡ goes tt at
+  unfolding recordings see over
+  recordings-none at room n i k held h = let d : n - i ≡ 0 = omega arith in rw d
+
+  recordings-stop : (at room n i m q : ℕ) (held : Option Held) → i < n → see o b s at (recording held room (i + 1)) ≡ stops m q → ends (see o b s at (recordings (n - i) held room (i + 1))) ≡ stops m q
+  recordings-stop at room n i m q held h k =
+      let d : n - i ≡ suc (n - (i + 1)) = omega arith in
+      rw (d, recordings-suc at (n - (i + 1)) held room (i + 1), k)
+
+  -- of any walk nothing need be said
+  yields-any : {A : Type 0} (w : Walk A) (at : ℕ) → Yields o b s at w (λ _ _. Unit {0})
+  yields-any (give x) at = tt
+  yields-any (refuse n p) at = tt
+  yields-any (check c n p w) at = λ _. yields-any w at
+  yields-any (number n f) at = yields-any (f (numberAt o n s (at - b))) (at + n)
+  yields-any (read k n f) at = yields-any (f (laid o k (bytesAt n s (at - b)))) (at + n)
+  yields-any (skip n w) at = yields-any w (at + n)
+  yields-any (list p l c m w) at = yields-any w at
+
+  -- how many there are
+  pub yields-recordings : (n : ℕ) (held : Option Held) (room i at : ℕ) → Yields o b s at (recordings n held room i) (λ rs e. length rs ≡ n)
+  unfolding recordings
+  yields-recordings zero held room i at = refl
+  yields-recordings (suc n) held room i at =
+      yields-bind o b s (recording held room i) _ at (λ _ _. Unit {0}) _ (yields-any (recording held room i) at)
+      (λ x e _. yields-bind o b s (recordings n (leaves x) (room - x .layout .bytes) (suc i)) _ e _ _ (yields-recordings n (leaves x) (room - x .layout .bytes) (suc i) e)
+      (λ rs _ q. ap suc q))
+
+-- the room that is left behind a recording is what is left of the file
+recordings-go : (o : Order) (s : List ℕ) (p q n i : ℕ) (held : Option Held) (x : Placed) → i < n → p ≤ length s → see o 0 s p (recording held (length s - p) (i + 1)) ≡ goes x q →
+    ends (see o 0 s p (recordings (n - i) held (length s - p) (i + 1))) ≡ ends (see o 0 s q (recordings (n - (i + 1)) (leaves x) (length s - q) (i + 1 + 1)))
+recordings-go o s p q n i held x h l k =
+    let d : n - i ≡ suc (n - (i + 1)) = omega arith in
+    let z : (q ≡ p + x .layout .bytes) × (x .layout .bytes ≤ length s - p) = stays-goes o 0 s (p + (length s - p)) (omega arith) (recording held (length s - p) (i + 1)) p _ (omega arith) (stays-recording held (i + 1) p (length s - p)) k in
+    let e : length s - p - x .layout .bytes ≡ length s - q = omega (arith, z .0) in
+    rw (d, add-one (i + 1), recordings-suc o 0 s p (n - (i + 1)) held (length s - p) (i + 1), k, e)
+
+-- i of the recordings are read, and the walk goes on at byte p of the file, holding what the code has of the recording before
+pub record Going (o : Order) (s : List ℕ) (count p i : ℕ) (before : Before) : Type 0 where
+  pub held : Option Held
+  pub holds : HeldAs o s before held
+  pub same : ends (see o 0 s 32 (recordings count none (length s - 32) 1)) ≡ ends (see o 0 s p (recordings (count - i) held (length s - p) (i + 1)))
+
+module _ {o : Order} {s : List ℕ} {count : ℕ} where
+  pub going-start : Going o s count 32 0 Before.Nothing
+  going-start = record { held = none; holds = tt; same = simp sub-zero }
+
+  module _ {p i : ℕ} {before : Before} (g : Going o s count p i before) where
+    pub going-none : count ≤ i → ends (see o 0 s 32 (recordings count none (length s - 32) 1)) ≡ goes tt p
+    going-none h = g .same ∙ recordings-none o 0 s p (length s - p) count i (i + 1) (g .held) h
+
+    -- what `recording_at` says of the next one
+    pub going-stop : {r : Refusal} → i < count → see o 0 s p (recording (g .held) (length s - p) (i + 1)) ≡ halts r → ends (see o 0 s 32 (recordings count none (length s - 32) 1)) ≡ halts r
+    going-stop h k = g .same ∙ recordings-stop o 0 s p (length s - p) count i _ _ (g .held) h k
+
+    pub going-on : {q : Places} → i < count → p ≤ length s → Goes (see o 0 s p (recording (g .held) (length s - p) (i + 1))) (Places-of o s p before q) → Going o s count (q .end) (i + 1) (Before.These q)
+    going-on {q} h l k = record {
+      held = leaves (k .value);
+      holds = k .kept .held;
+      same = g .same ∙ recordings-go o s p (q .end) count i (g .held) (k .value) h l (k .is ∙ ap (λ (e : ℕ). goes (k .value) e) (k .kept .end));
+    }

@@ -1,0 +1,97 @@
+// A recording: record 10 and what it holds.
+ghost use mathlib.Core.Path.{_≡_};
+ghost use mathlib.Core.Option.{Option};
+ghost use Prim.Native.Nat.{_+_, _-_, _≤_, _<_};
+ghost use lib.ListN.{length, take, drop};
+ghost use Rattle.walk.specs.See.{see};
+ghost use Rattle.rules.specs.Rules as R;
+ghost use Rattle.judge.specs.Tabled.{Within, HeldAs};
+ghost use Rattle.judge.specs.Recorded.{recorded, Continues};
+use crate::frames::Framed;
+use crate::signals::of_frames;
+use crate::signals::signals;
+use crate::tables::Before;
+use crate::tables::Places;
+use crate::tables::Tabled;
+use crate::tables::channels_of;
+use crate::tables::of_tables;
+use crate::tables::read_tables;
+use records::Fits;
+use records::Headed;
+use records::Serial;
+use records::Step;
+use rules::Head;
+use rules::Recording;
+use rules::Refusal;
+use words::Order;
+
+// Where a recording stands, or the refusal.
+pub enum Recorded {
+    On(Places),
+    Stop(Refusal),
+}
+
+// The body of the recording at `at`: the part of the file that starts 16 bytes into it.
+fn recording_body(
+    o: Order,
+    file: &[u8],
+    s: &[u8],
+    at: usize,
+    multiplier: u32,
+    before: Before,
+) -> Recorded
+    requires { ⌜ (now s ≡ take (length (now s)) (drop (at + 16) (now file))) × (at + 16 + length (now s) ≤ length (now file)) × (length (now file) < 9223372036854775808) × Within (length (now file)) before ⌝ }
+    ensures { λ a. ⌜ ((held : Option R.Held) (h : R.Head) → HeldAs o (now (file .entry)) before held → R.span h ≡ 16 + length (now (s .entry)) → h .multiplier ≡ multiplier → recorded o (now (file .entry)) at before (see o (at + 16) (now (s .entry)) (at + 16) (R.recordingBody held h)) a) × Continues at (length (now (file .entry))) a ⌝ }
+{
+    let base = at + 16;
+    let tabled = read_tables(o, s, base, before);
+    let Tabled::On(t) = tabled else {
+        return Recorded::Stop(of_tables(tabled));
+    };
+    let cs = channels_of(t);
+    let next = t.next;
+    let basic = t.basic;
+    let framed = signals(o, file, cs, t.own, basic, next, s, base, multiplier);
+    let Framed::On(f, _) = framed else {
+        return Recorded::Stop(of_frames(framed));
+    };
+    Recorded::On(Places {
+        start: at,
+        end: base + s.len(),
+        channels: t.channels,
+        count: cs.count,
+        patient: t.patient,
+        has_events: t.has_events,
+        events: t.events,
+        frames: base + next.at,
+        frame: f.size,
+        total: basic.frames,
+        seconds: f.seconds,
+    })
+}
+
+// The recording at byte p of the file, with the serial i.
+pub fn recording_at(o: Order, file: &[u8], p: usize, i: u32, before: Before) -> Recorded
+    requires { ⌜ (p ≤ length (now file)) × (length (now file) < 9223372036854775808) × Within (length (now file)) before ⌝ }
+    ensures { λ a. ⌜ ((held : Option R.Held) → HeldAs o (now (file .entry)) before held → recorded o (now (file .entry)) p before (see o 0 (now (file .entry)) p (R.recording held (length (now (file .entry)) - p) i)) a) × Continues p (length (now (file .entry))) a ⌝ }
+{
+    let found = records::head_at(o, file, 0, p);
+    let Headed::At(h) = found else {
+        return Recorded::Stop(records::of_head(found));
+    };
+    if h.code != Recording::CODE {
+        return Recorded::Stop(Refusal(9, p + Head::CODE));
+    }
+    let room = records::admit(
+        h,
+        0,
+        file.len(),
+        Head::MOST,
+        Fits::AtLeast(Recording::LEAST),
+        Serial::Is(i),
+    );
+    let Step::On(end) = room else {
+        return Recorded::Stop(records::of_step(room));
+    };
+    recording_body(o, file, &file[p + 16..end], p, h.multiplier, before)
+}
