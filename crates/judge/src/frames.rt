@@ -14,6 +14,7 @@ use records::Fits;
 use records::Serial;
 use records::Step;
 use records::Tested;
+use records::field;
 use rules::Basic;
 use rules::Channel;
 use rules::Channels;
@@ -116,9 +117,9 @@ fn read_shape(
     requires { ⌜ (16 ≤ length (now s)) × (at + 16 + length (now s) < 9223372036854775808) × (total ≤ 1000000) × (cs .count ≤ 128) × (cs .subs + 256 * cs .count ≤ length (now file)) ⌝ }
     ensures { λ a. ⌜ ((ch : List R.Channel) → length ch ≡ cs .count → Kept o (now (file .entry)) (cs .subs) ch → Shapes o at (now (s .entry)) total multiplier ch a) × Sizes a ⌝ }
 {
-    let t = number4(o, s, 0);
-    let size = number4(o, s, 4) as usize;
-    let n = number4(o, s, 8);
+    let t = field(o, s, Frames::SECONDS);
+    let size = field(o, s, Frames::FRAME_LENGTH) as usize;
+    let n = field(o, s, Frames::COUNT);
     if !records::between(1, 3600, t) {
         return Shaped::Stop(Refusal(13, at + Frames::SECONDS));
     }
@@ -132,7 +133,7 @@ fn read_shape(
     if n != total {
         return Shaped::Stop(Refusal(14, at + Frames::COUNT));
     }
-    if !room_ok(n, size, 16 + s.len(), multiplier) {
+    if !room_ok(n, size, Head::LENGTH + s.len(), multiplier) {
         return Shaped::Stop(Refusal(14, at + Frames::COUNT));
     }
     Shaped::On(Shape {
@@ -150,11 +151,11 @@ fn frames_rest(o: Order, s: &[u8], at: usize, total: u32, f: Shape) -> Framed
     let size = f.size;
     let filled = f.filled;
     let n = s.len();
-    let taken = records::frames_from(o, s, at + 16, 16, total, size, filled);
+    let taken = records::frames_from(o, s, at + Head::LENGTH, Head::LENGTH, total, size, filled);
     let Step::On(q) = taken else {
         return Framed::Stop(records::of_step(taken));
     };
-    let held = records::padding(s, at + 16, q, n);
+    let held = records::padding(s, at + Head::LENGTH, q, n);
     let Tested::Fine = held else {
         return Framed::Stop(records::of_test(held));
     };
@@ -165,7 +166,7 @@ fn frames_rest(o: Order, s: &[u8], at: usize, total: u32, f: Shape) -> Framed
             size,
             padded,
         },
-        16 + n,
+        Head::LENGTH + n,
     )
 }
 
@@ -228,7 +229,7 @@ pub fn frames_at(
         return Framed::Stop(Refusal(14, base + Basic::CHANNELS));
     }
     let p = h.at;
-    let body = &s[p + 16..end];
+    let body = &s[p + Head::LENGTH..end];
     let held = frames_body(o, file, cs, body, base + p, b.frames, h.multiplier);
     let Framed::On(f, _) = held else {
         return held;

@@ -43,7 +43,7 @@ fn recording_body(
     requires { ⌜ (now s ≡ take (length (now s)) (drop (at + 16) (now file))) × (at + 16 + length (now s) ≤ length (now file)) × (length (now file) < 9223372036854775808) × Within (length (now file)) before ⌝ }
     ensures { λ a. ⌜ ((held : Option R.Held) (h : R.Head) → HeldAs o (now (file .entry)) before held → R.span h ≡ 16 + length (now (s .entry)) → h .multiplier ≡ multiplier → recorded o (now (file .entry)) at before (see o (at + 16) (now (s .entry)) (at + 16) (R.recordingBody held h)) a) × Continues at (length (now (file .entry))) a ⌝ }
 {
-    let base = at + 16;
+    let base = at + Head::LENGTH;
     let tabled = read_tables(o, s, base, before);
     let Tabled::On(t) = tabled else {
         return Recorded::Stop(of_tables(tabled));
@@ -93,5 +93,12 @@ pub fn recording_at(o: Order, file: &[u8], p: usize, i: u32, before: Before) -> 
     let Step::On(end) = room else {
         return Recorded::Stop(records::of_step(room));
     };
-    recording_body(o, file, &file[p + 16..end], p, h.multiplier, before)
+    recording_body(
+        o,
+        file,
+        &file[p + Head::LENGTH..end],
+        p,
+        h.multiplier,
+        before,
+    )
 }

@@ -34,8 +34,8 @@ fn closed(s: &[u8], base: usize, end: usize, padded: usize, multiplier: u32) -> 
     requires { ⌜ (end ≤ length (now s)) × (16 ≤ base) × (base + length (now s) < 9223372036854775808) ⌝ }
     ensures { λ a. ⌜ ((o : Order) → gate (leb (16 + end - padded) R.contentLimit) (gate (R.padded multiplier (length (now (s .entry)) - end)) (see o base (now (s .entry)) (base + end) (R.padding (length (now (s .entry)) - end))) 10 (base + end)) 14 (base - 16) ≡ tested a (base + length (now (s .entry)))) ⌝ }
 {
-    if Recording::CONTENT_LIMIT < records::less(16 + end, padded) {
-        return Tested::Stop(Refusal(14, base - 16));
+    if Recording::CONTENT_LIMIT < records::less(Head::LENGTH + end, padded) {
+        return Tested::Stop(Refusal(14, base - Head::LENGTH));
     }
     if !records::pad_ok(multiplier, s.len() - end) {
         return Tested::Stop(Refusal(10, base + end));
