@@ -13,3 +13,4 @@ pub mod Rewrite
 pub mod Worked
 pub mod Holders
 pub mod Reserve
+pub mod Rows

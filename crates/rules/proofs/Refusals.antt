@@ -14,7 +14,7 @@ use Rattle.rules.specs.Rules.{File, file, orderOf, whole, judge}
 use Rattle.rules.proofs.Room.{stays-file}
 
 -- the whole file is the room
-room : (n : ℕ) → Stays n 0 (file n) (λ _ e. e ≤ n)
+pub room : (n : ℕ) → Stays n 0 (file n) (λ _ e. e ≤ n)
 room n = rw zero-add at (stays-file n 0)
 
 -- what `run` gives over a file is what the walk comes to, where no test of room stands

@@ -1,3 +1,4 @@
 pub mod Laid
 pub mod Laws
 pub mod Seen
+pub mod Told

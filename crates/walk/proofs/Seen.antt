@@ -185,7 +185,7 @@ and-right true y h = h
 and-right false y h = absurd (false-true h)
 
 -- what is said under a test that passes, and what follows from it
-passes : (c : Bool) {X : Type 0} → when c X → X
+pub passes : (c : Bool) {X : Type 0} → when c X → X
 passes true x = x
 passes false x = absurd x
 

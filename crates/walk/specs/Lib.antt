@@ -1,3 +1,4 @@
 pub mod Walk
 pub mod Plays
 pub mod See
+pub mod Tell

@@ -1,0 +1,6 @@
+pub mod Written
+pub mod Makers
+pub mod Lists
+pub mod Body
+pub mod Recorded
+pub mod Answers

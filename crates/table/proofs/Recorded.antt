@@ -1,0 +1,176 @@
+-- The rows of a recording, and of all recordings of a file, from what the code wrote for each.
+-- Assumes nothing.
+use mathlib.Core.Path.{_≡_, refl, sym, _∙_}
+use mathlib.Core.Bool.{Bool, true}
+use mathlib.Core.List.{List, [], _∷_, _++_, append-assoc, append-nil}
+use mathlib.Core.Option.{Option, none, some}
+use Prim.Native.Nat.{ℕ, suc, _+_, _-_, _≤_, _<_}
+use native.Mathlib.Nat.{zero-add, sub-zero}
+use native.Mathlib.Numerals.{add-one}
+use native.Mathlib.Omega.{arith}
+use lib.Dec.{leb, eqb}
+use lib.IntN.{ℤ}
+use lib.ListN.{length, take, drop}
+use Rattle.words.specs.declared.Order.{Order}
+use Rattle.walk.specs.Walk.{Row, Walk, give, _>>=_, _>>_}
+use Rattle.walk.specs.See.{stops, goes, see}
+use Rattle.walk.specs.Tell.{tell}
+use Rattle.walk.proofs.Seen.{gate-true, stays-goes, see-part, body-length}
+use Rattle.walk.proofs.Told.{tell-bind, tell-give, tell-part}
+use Rattle.rules.specs.Rules.{Head, head, span, coded, admit, Held, Placed, recordingBody, recording, recordings}
+use Rattle.rules.proofs.Room.{stays-recordingBody, stays-recording}
+use Rattle.table.specs.Rows.{Wrote}
+use Rattle.table.proofs.Lists.{gate-went, went-first, admit-went, goes-same, require-went, head-went}
+use Rattle.table.proofs.Makers.{tell-head}
+use Rattle.table.proofs.Written.{wrote-join, wrote-nothing}
+
+-- a head that is admitted with its serial is admitted with any
+admit-any : (o : Order) (b : ℕ) (s : List ℕ) (at room most : ℕ) (fits serial : ℕ → Bool) (h : Head) {a : Unit {0}} {e : ℕ} →
+    see o b s at (admit room most fits serial h) ≡ goes a e → see o b s at (admit room most fits (λ _. true) h) ≡ goes tt at
+unfolding admit see _>>=_ _>>_
+admit-any o b s at room most fits serial h g =
+    let g₁ = gate-went _ _ _ _ g in
+    let g₂ = gate-went _ _ _ _ (g₁ .1) in
+    simp (g₁ .0, g₂ .0, gate-true)
+
+-- a recording that the walk accepted: its head, its body, and its rows
+record Opened (o : Order) (s : List ℕ) (p room : ℕ) (held : Option Held) (i : ℕ) (x : Placed) (e : ℕ) : Type 0 where
+  top : Head
+  first : see o 0 s p (head room) ≡ goes top (p + 16)
+  admits : see o 0 s (p + 16) (admit room 128 (leb 16) (λ _. true) top) ≡ goes tt (p + 16)
+  body : see o 0 s (p + 16) (recordingBody held top) ≡ goes x e
+  rows : tell o 0 s p (recording held room i) ≡ record { start = p; size = span top; code = top .code; serial = top .serial } ∷ tell o 0 s (p + 16) (recordingBody held top)
+
+opened : (o : Order) (s : List ℕ) (p room : ℕ) (held : Option Held) (i : ℕ) {x : Placed} {e : ℕ} → see o 0 s p (recording held room i) ≡ goes x e → Opened o s p room held i x e
+unfolding recording
+opened o s p room held i g =
+    let k : Head → Walk Placed = λ h. coded h 10 >> (admit room 128 (leb 16) (eqb i) h >> recordingBody held h) in
+    let f = went-first o 0 s p (head room) k g in
+    let h = f .value in
+    let t = head-went o 0 s p room (f .is) in
+    let c = require-went o 0 s (f .end) (eqb (h .code) 10) 9 12 (admit room 128 (leb 16) (eqb i) h >> recordingBody held h) (f .kept) in
+    let d = admit-went o 0 s (f .end) room 128 (leb 16) (eqb i) h (recordingBody held h) (c .1) in
+    let m : p + 16 - 16 ≡ p = omega arith in
+    record {
+      top = h;
+      first = rw t at (f .is);
+      admits = rw t at (admit-any o 0 s (f .end) room 128 (leb 16) (eqb i) h (d .admits));
+      body = rw t at (d .rest);
+      rows = tell-bind o 0 s p (head room) k (f .is) ∙ rw (tell-head o 0 s p room, c .2, d .rows, t, m);
+    }
+
+module _ (o : Order) (s : List ℕ) (p : ℕ) where
+  -- one whose head the code did not find was not accepted
+  pub recording-unread : {n q : ℕ} → see o 0 s (0 + p) (head (length s - p)) ≡ stops n q → (held : Option Held) (i : ℕ) {x : Placed} {e : ℕ} → see o 0 s p (recording held (length s - p) i) ≡ goes x e → ⊥
+  recording-unread h held i g =
+      let f = opened o s p (length s - p) held i g .first in
+      let k = rw (zero-add p) at h in
+      let z : _≡_ {A = ℕ} 0 1 = cc in
+      omega arith
+
+  -- the head that the code found, at byte `at` of the file, which is p
+  module _ (h : Head) (at : ℕ) (found : see o 0 s (0 + p) (head (length s - p)) ≡ goes h (0 + (at + 16))) (stands : at ≡ p) where
+    same-head : (held : Option Held) (i : ℕ) {x : Placed} {e : ℕ} (v : Opened o s p (length s - p) held i x e) → v .top ≡ h
+    same-head held i v = goes-same (sym (v .first) ∙ (rw (zero-add p) at found)) .0
+
+    -- nor one whose head it did not admit
+    pub recording-refused : {n q : ℕ} → see o 0 s (0 + (at + 16)) (admit (length s - at) 128 (leb 16) (λ _. true) h) ≡ stops n q → (held : Option Held) (i : ℕ) {x : Placed} {e : ℕ} → see o 0 s p (recording held (length s - p) i) ≡ goes x e → ⊥
+    recording-refused k held i g =
+        let v = opened o s p (length s - p) held i g in
+        let f = rw (same-head held i v) at (v .admits) in
+        let r = rw (zero-add (at + 16), stands) at k in
+        let z : _≡_ {A = ℕ} 0 1 = cc in
+        omega arith
+
+    -- one that ends at q, whose body is handed on as a part
+    module _ (q : ℕ) (end : q ≡ at + span h) (inside : q ≤ length s) (least : 16 ≤ span h) (w : Bool) (out out₁ out₂ : List ℤ) (k k₁ k₂ : ℕ) (first : Wrote w out out₁ k k₁ (record { start = p; size = q - p; code = h .code; serial = h .serial } ∷ [])) where
+      abbrev rest : List ℕ
+      rest = take (q - (p + 16)) (drop (p + 16) s)
+
+      pub wrote-recording : ((held : Option Held) (d : Head) (x : Placed) (e : ℕ) → span d ≡ 16 + length rest → see o (p + 16) rest (p + 16) (recordingBody held d) ≡ goes x e → Wrote w out₁ out₂ k₁ k₂ (tell o (p + 16) rest (p + 16) (recordingBody held d))) →
+          (held : Option Held) (i : ℕ) (x : Placed) (e : ℕ) → see o 0 s p (recording held (length s - p) i) ≡ goes x e → (e ≡ q) × Wrote w out out₂ k k₂ (tell o 0 s p (recording held (length s - p) i))
+      wrote-recording body held i x e g =
+          let v = opened o s p (length s - p) held i g in
+          let t = same-head held i v in
+          let b : see o 0 s (p + 16) (recordingBody held h) ≡ goes x e = rw t at (v .body) in
+          let l : 16 + length rest ≡ q - p = body-length p q s (omega arith) inside in
+          let z : p + 16 + (span h - 16) ≡ p + 16 + (q - (p + 16)) = omega arith in
+          let stays = rw z at (stays-recordingBody held h (p + 16) least) in
+          let ends = stays-goes o 0 s (p + 16 + (q - (p + 16))) (omega arith) (recordingBody held h) (p + 16) _ (omega arith) stays b in
+          let sees = see-part o 0 (p + 16) (p + 16) (q - (p + 16)) s (omega arith) (omega arith) (recordingBody held h) (p + 16) _ (omega arith) stays in
+          let tells = tell-part o 0 (p + 16) (p + 16) (q - (p + 16)) s (omega arith) (omega arith) (recordingBody held h) (p + 16) _ (omega arith) stays in
+          let later = body held h x e (omega (arith, l)) (sees ∙ b) in
+          let m : q - p ≡ span h = omega arith in
+          (omega (arith, ends .1), rw (v .rows, t) (wrote-join w out out₁ out₂ k k₁ k₂ (record { start = p; size = span h; code = h .code; serial = h .serial } ∷ []) (tell o 0 s (p + 16) (recordingBody held h)) (rw m at first) (rw tells at later)))
+
+-- what the next recording takes over
+abbrev leaves : Placed → Option Held
+leaves x = some (record { channels = x .recording .channels; patient = x .recording .patient })
+
+-- i of the recordings are listed, and the walk goes on at byte p of the file
+pub record Sofar (o : Order) (s : List ℕ) (w : Bool) (count : ℕ) (out out′ : List ℤ) (p k i : ℕ) : Type 0 where
+  pub held : Option Held
+  pub value : List Placed
+  pub end : ℕ
+  pub done : List Row
+  pub on : see o 0 s p (recordings (count - i) held (length s - p) (i + 1)) ≡ goes value end
+  pub wrote : Wrote w out out′ 0 k done
+  pub rows : tell o 0 s 32 (recordings count none (length s - 32) 1) ≡ done ++ tell o 0 s p (recordings (count - i) held (length s - p) (i + 1))
+
+-- the first of the recordings, and the others
+record Led (o : Order) (s : List ℕ) (p n : ℕ) (held : Option Held) (i : ℕ) : Type 0 where
+  one : Placed
+  mid : ℕ
+  value : List Placed
+  end : ℕ
+  is : see o 0 s p (recording held (length s - p) i) ≡ goes one mid
+  on : see o 0 s mid (recordings n (leaves one) (length s - mid) (suc i)) ≡ goes value end
+  rows : tell o 0 s p (recordings (suc n) held (length s - p) i) ≡ tell o 0 s p (recording held (length s - p) i) ++ tell o 0 s mid (recordings n (leaves one) (length s - mid) (suc i))
+
+led : (o : Order) (s : List ℕ) (p n : ℕ) (held : Option Held) (i : ℕ) {l : List Placed} {e : ℕ} → p ≤ length s → see o 0 s p (recordings (suc n) held (length s - p) i) ≡ goes l e → Led o s p n held i
+unfolding recordings
+led o s p n held i f g =
+    let j : Placed → Walk (List Placed) = λ x. recordings n (leaves x) (length s - p - x .layout .bytes) (suc i) >>= λ l. give (x ∷ l) in
+    let x = went-first o 0 s p (recording held (length s - p) i) j g in
+    let z : (x .end ≡ p + x .value .layout .bytes) × (x .value .layout .bytes ≤ length s - p) = stays-goes o 0 s (p + (length s - p)) (omega arith) (recording held (length s - p) i) p _ (omega arith) (stays-recording held i p (length s - p)) (x .is) in
+    let u : length s - p - x .value .layout .bytes ≡ length s - x .end = omega (arith, z .0) in
+    let v : Walk (List Placed) = recordings n (leaves (x .value)) (length s - x .end) (suc i) in
+    let y = went-first o 0 s (x .end) v (λ l. give (x .value ∷ l)) (rw u at (x .kept)) in
+    record {
+      one = x .value;
+      mid = x .end;
+      value = y .value;
+      end = y .end;
+      is = x .is;
+      on = y .is;
+      rows = tell-bind o 0 s p (recording held (length s - p) i) j (x .is) ∙ rw (u, tell-give o 0 s (x .end) v (λ l. x .value ∷ l));
+    }
+
+module _ {o : Order} {s : List ℕ} {w : Bool} {count : ℕ} {out : List ℤ} where
+  pub sofar-start : {l : List Placed} {e : ℕ} → see o 0 s 32 (recordings count none (length s - 32) 1) ≡ goes l e → Sofar o s w count out out 32 0 0
+  sofar-start {l} {e} g = record { held = none; value = l; end = e; done = []; on = rw sub-zero g; wrote = wrote-nothing w out 0; rows = simp sub-zero }
+
+  module _ {out′ : List ℤ} {p k i : ℕ} (g : Sofar o s w count out out′ p k i) where
+    sofar-led : (out″ : List ℤ) (p′ k′ n : ℕ) → count - i ≡ suc n → n ≡ count - (i + 1) → (v : Led o s p n (g .held) (i + 1)) →
+        (v .mid ≡ p′) × Wrote w out′ out″ k k′ (tell o 0 s p (recording (g .held) (length s - p) (i + 1))) → Sofar o s w count out out″ p′ k′ (i + 1)
+    sofar-led out″ p′ k′ n d e v u = record {
+      held = leaves (v .one);
+      value = v .value;
+      end = v .end;
+      done = g .done ++ tell o 0 s p (recording (g .held) (length s - p) (i + 1));
+      on = rw (← e, ← u .0, add-one (i + 1)) (v .on);
+      wrote = wrote-join w out out′ out″ 0 k k′ (g .done) (tell o 0 s p (recording (g .held) (length s - p) (i + 1))) (g .wrote) (u .1);
+      rows = g .rows ∙ rw (d, v .rows, ← e, ← u .0, add-one (i + 1), append-assoc);
+    }
+
+    pub sofar-next : (out″ : List ℤ) (p′ k′ : ℕ) → i < count → p ≤ length s →
+        ((held : Option Held) (j : ℕ) (x : Placed) (e : ℕ) → see o 0 s p (recording held (length s - p) j) ≡ goes x e → (e ≡ p′) × Wrote w out′ out″ k k′ (tell o 0 s p (recording held (length s - p) j))) →
+        Sofar o s w count out out″ p′ k′ (i + 1)
+    sofar-next out″ p′ k′ h f wrote =
+        let d : count - i ≡ suc (count - (i + 1)) = omega arith in
+        let v = led o s p (count - (i + 1)) (g .held) (i + 1) f (rw d at (g .on)) in
+        sofar-led out″ p′ k′ (count - (i + 1)) d refl v (wrote (g .held) (i + 1) (v .one) (v .mid) (v .is))
+
+    pub sofar-end : count ≤ i → Wrote w out out′ 0 k (tell o 0 s 32 (recordings count none (length s - 32) 1))
+    unfolding recordings tell
+    sofar-end h = let d : count - i ≡ 0 = omega arith in rw (g .rows, d, append-nil) (g .wrote)

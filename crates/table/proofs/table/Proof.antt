@@ -1,0 +1,72 @@
+-- `table::table` meets its contract: what `judge` says of the file, and what `file_rows` counted and wrote, by the laws of Answers.
+-- x: behind the judge's answer. Assumes nothing.
+use denote.Ref.{now}
+use Rattle.table.proofs.Answers.{lists-refused, accepted-long, lists-short, lists-rows}
+use borrow.Author.Needs.{needs}
+use Rattle.table.proofs.table.Statement.{statement}
+use Rattle.table.proofs.table.Tie as tie
+
+judge-requires : tie.Need-judge-requires
+judge-requires c κs = search needs
+
+enum-known-judged : tie.Need-enum-known-judged
+enum-known-judged c = search needs
+
+enum-told : tie.Need-enum-told
+enum-told c = search needs
+
+of-judged-requires : tie.Need-of-judged-requires
+of-judged-requires c κs = search needs
+
+returns : tie.Need-returns
+returns c =
+    let z = c .before .before .before .before .before in
+    simp (c .of-judged .ensures, c .before .enum-told .given .1) (lists-refused (now (z .args .file)) (now (z .args .out)) (rw (c .before .enum-told .given .1) at (c .before .before .before .judge .ensures)))
+
+file-rows-requires : tie.Need-file-rows-requires
+file-rows-requires c κs =
+    let x = c .before .before in
+    let j = rw (x .judged .given .1) at (x .before .before .judge .ensures) in
+    (accepted-long _ _ j, search needs)
+
+same-length : tie.Need-same-length
+same-length c = search needs
+
+returns-2 : tie.Need-returns-2
+returns-2 c =
+    let x = c .before .before .before .before .before in
+    let z = x .before .before .before .before in
+    let j = rw (x .judged .given .1) at (x .before .before .judge .ensures) in
+    lists-short (now (z .args .file)) _ j (now (z .args .out)) _ _ (c .before .before .file-rows .ensures .1) (c .if1 .taken)
+
+file-rows-requires-2 : tie.Need-file-rows-requires-2
+file-rows-requires-2 c κs =
+    let x = c .before .before .before .before .before .before in
+    let j = rw (x .judged .given .1) at (x .before .before .judge .ensures) in
+    (accepted-long _ _ j, search needs)
+
+same-length-2 : tie.Need-same-length-2
+same-length-2 c = search needs
+
+returns-3 : tie.Need-returns-3
+returns-3 c =
+    let x = c .before .before .before .before .before .before .before .before in
+    let z = x .before .before .before .before in
+    let j = rw (x .judged .given .1) at (x .before .before .judge .ensures) in
+    lists-rows (now (z .args .file)) _ j (now (z .args .out)) _ _ (c .before .before .before .before .before .file-rows .ensures .1) _ _ (c .before .before .before .if1 .left) (c .before .file-rows2 .ensures .1)
+
+pub table-spec : {M : Type 1} → statement M
+table-spec =
+    tie.close
+    (tie.spec
+    judge-requires
+    enum-known-judged
+    enum-told
+    of-judged-requires
+    returns
+    file-rows-requires
+    same-length
+    returns-2
+    file-rows-requires-2
+    same-length-2
+    returns-3)
