@@ -13,11 +13,11 @@ use borrow.Author.Tests.{leb-true}
 use lib.ListN.{length, getD, take, drop}
 use Rattle.words.specs.Numbers.{Bytes}
 use Rattle.walk.specs.Plays.{Plays}
-use Rattle.walk.specs.Walk.{Event, numeral, piece, blank, row, Row, rows, size, render, run, Walk, passed, give, refuse, _>>=_, _>>_}
+use Rattle.walk.specs.Walk.{Event, numeral, piece, blank, row, Row, rows, size, render, run, Walk, passed, give, refuse, _>>=_, _>>_, number}
 use Rattle.walk.proofs.Laws.{by-parts, by-split, by-check, checked, taken, plays-gave, traced}
 use Rattle.rules.specs.Rules.{between, padding, padded, makerCode, zeros, delimiter, basicBody, Head, head, span, admit, Basic, basic, Channel, channel, channels, Item, item, itemBytes, items, patientCode, eventCode, Frame, frame, frames, numberList, width, samplesIn, sampleBytes, FileHeader, Next, next, Part, part, Held, heldChannels, heldPatient, Placed, recording, recordings, File, fileHeader, file, orderOf, judge, recordingBody}
 use Rattle.rules.proofs.Canon.{recordings-ok}
-use Rattle.rules.proofs.Places.{Found, found-run, found-whole, found-first, found-second, found-at, head-size, admit-size, join, gave-nothing, fixed-size, channels-bytes, items-bytes, channel-found, frames-found, frame-found, samples-found, items-in, zeros-none}
+use Rattle.rules.proofs.Places.{numbers-found, Found, found-run, found-whole, found-first, found-second, found-at, head-size, admit-size, join, gave-nothing, fixed-size, channels-bytes, items-bytes, channel-found, frames-found, frame-found, samples-found, items-in, zeros-none}
 use Rattle.rules.proofs.Renew.{if-case, pick-case, admit-ok, basic-size, next-ok, channels-ok, items-ok, frames-ok}
 use Rattle.rules.proofs.Turn.{accepted, is-render}
 use Rattle.rules.specs.Places.{bytesBefore}
@@ -312,6 +312,14 @@ module _ (s : List ℕ) (b : Bytes s) {v : File} {r : List ℕ} {t : List Event}
         let x = frame-at f j m in
         let y = frame-found _ _ _ _ _ (x .1 .plays) .samples in
         found-inside (x .1) (found-inside y (samples-found e _ (getD (v .recordings) k d .recording .channels) (y .plays) c n))
+
+    -- sample i of channel c in frame j, all from 0
+    pub sample-at : (f : Frame) (e : Channel) (j c i : ℕ) → j < length (getD (v .recordings) k d .recording .frames) → c < length (getD (v .recordings) k d .recording .channels) →
+        i < samplesIn (getD (v .recordings) k d .recording .seconds) (getD (getD (v .recordings) k d .recording .channels) c e) →
+        Found t (number (width (getD (getD (v .recordings) k d .recording .channels) c e .format)) give) (getD (getD (getD (getD (v .recordings) k d .recording .frames) j f .channels) c []) i 0)
+        (32 + bytesBefore k (v .recordings) + (getD (v .recordings) k d .layout .at140 + 16 + (16 + getD (v .recordings) k d .layout .frame * j)) +
+        (24 + sampleBytes (getD (v .recordings) k d .recording .seconds) (take c (getD (v .recordings) k d .recording .channels))) + width (getD (getD (v .recordings) k d .recording .channels) c e .format) * i)
+    sample-at f e j c i m n o = let x = samples-at f e j c m n in found-inside x (numbers-found _ _ (x .plays) i o)
 
     -- item j of its own 130 or 200, from 0
     pub patient-at : (i : Item) → getD (v .recordings) k d .recording .ownPatient ≡ true → (j : ℕ) → j < length (getD (v .recordings) k d .recording .patient) →

@@ -14,3 +14,4 @@ pub mod Worked
 pub mod Holders
 pub mod Reserve
 pub mod Rows
+pub mod Held
