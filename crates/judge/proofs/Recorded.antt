@@ -185,7 +185,7 @@ module _ (o : Order) (file : List ℕ) (p i : ℕ) (held : Option R.Held) where
             let l : 16 + length (take (q - (p + 16)) (drop (p + 16) file)) ≡ q - p = body-length p q file (omega arith) fits in
             rw in-body at (r h (omega arith) refl)
 
--- the part of the file from byte p on, up to q
+-- the part of the file from byte p on, up to q: what `recording_body` asks of it
 module _ (file : List ℕ) (p q : ℕ) (low : p ≤ q) (fits : q ≤ length file) where
   abbrev part : List ℕ
   part = take (q - p) (drop p file)
@@ -193,5 +193,5 @@ module _ (file : List ℕ) (p q : ℕ) (low : p ≤ q) (fits : q ≤ length file
   part-length : length part ≡ q - p
   part-length = length-take-le (q - p) (drop p file) (rw length-drop (omega arith))
 
-  pub part-is : (part ≡ take (length part) (drop p file)) × (p + length part ≤ length file)
-  part-is = (ap (λ (n : ℕ). take n (drop p file)) (sym part-length), omega (arith, part-length))
+  pub part-asked : (before : Before) → length file < 9223372036854775808 → Within (length file) before → (part ≡ take (length part) (drop p file)) × (p + length part ≤ length file) × (length file < 9223372036854775808) × Within (length file) before
+  part-asked before short within = (ap (λ (n : ℕ). take n (drop p file)) (sym part-length), omega (arith, part-length), short, within)

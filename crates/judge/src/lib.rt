@@ -68,7 +68,8 @@ pub fn judge(file: &[u8]) -> Judged
     let count = h.count;
     let walked = recordings_from(order, file, count);
     let Step::On(end) = walked else {
-        return Judged::Refused(records::of_step(walked));
+        let stop = records::of_step(walked);
+        return Judged::Refused(stop);
     };
     if end < file.len() {
         return Judged::Refused(Refusal(16, end));

@@ -174,7 +174,7 @@ pub fn serial_ok(i: Serial, n: u32) -> bool
 
 // The multiplier, the length and the serial of a record in a part of n bytes that stands at `base`: where the record stops.
 pub fn admit(h: Head, base: usize, n: usize, most: u32, f: Fits, i: Serial) -> Step
-    requires { ⌜ (most ≤ 128) × (h .at ≤ n) × (base + n < 9223372036854775808) ⌝ }
+    requires { ⌜ (most ≤ 128) × (h .at ≤ n) × (base + h .at < 9223372036854775808) ⌝ }
     ensures { λ a. ⌜ ((o : Order) (b : ℕ) (s : List ℕ) → see o b s (base + (h .at + 16)) (R.admit (n - h .at) most (fitsOf f) (serialOf i) (headOf h)) ≡ admitted a (base + (h .at + 16))) × Admits h f n a ⌝ }
 {
     if most < h.multiplier {
@@ -474,7 +474,7 @@ pub fn items_body(o: Order, k: Kind, s: &[u8], at: usize) -> Tested
     if Items::MOST < count {
         return Tested::Stop(Refusal(13, at + Items::COUNT));
     }
-    let taken = items_from(o, k, s, at + Head::LENGTH, 8, count);
+    let taken = items_from(o, k, s, at + Head::LENGTH, Items::BODY_FIRST, count);
     let Step::On(q) = taken else {
         return Tested::Stop(of_step(taken));
     };
@@ -664,13 +664,13 @@ pub fn channels_body(o: Order, s: &[u8], at: usize, channels: u32) -> Tested
         return Tested::Stop(Refusal(14, at + Channels::COUNT));
     }
     let n = s.len();
-    if 16 + n != Channels::SUBS + Channel::LENGTH * m as usize {
+    if Head::LENGTH + n != Channels::SUBS + Channel::LENGTH * m as usize {
         return Tested::Stop(Refusal(14, at + Channels::COUNT));
     }
-    if 256 != field(o, s, Channels::SUB_SIZE) {
+    if Channel::SIZE != field(o, s, Channels::SUB_SIZE) {
         return Tested::Stop(Refusal(13, at + Channels::SUB_SIZE));
     }
-    let taken = channels_from(o, s, at + 16, 16, m);
+    let taken = channels_from(o, s, at + Head::LENGTH, Channels::BODY_SUBS, m);
     let Step::On(_) = taken else {
         return Tested::Stop(of_step(taken));
     };
@@ -753,7 +753,7 @@ pub fn frame_body(o: Order, s: &[u8], at: usize, filled: usize) -> Tested
     if 59 < short_field(o, s, Frame::SECOND) {
         return Tested::Stop(Refusal(13, at + Frame::SECOND));
     }
-    padding(s, at + 16, filled - 16, s.len())
+    padding(s, at + Head::LENGTH, filled - Head::LENGTH, s.len())
 }
 
 // The record 145 at byte p of the part s, with the serial i, the length `size`, and samples that end at byte `filled` of it: where it stops.

@@ -117,6 +117,9 @@ impl Channels {
     pub const SUB_SIZE: usize = 20;
 
     pub const SUBS: usize = 32;
+
+    // In the record's body.
+    pub const BODY_SUBS: usize = Channels::SUBS - Head::LENGTH;
 }
 
 // Record 125: a channel.
@@ -126,6 +129,9 @@ impl Channel {
     pub const CODE: u32 = 125;
 
     pub const LENGTH: usize = 256;
+
+    // The length, as record 120's field has it.
+    pub const SIZE: u32 = 256;
 
     pub const NUMBER: usize = 16;
 
@@ -185,6 +191,9 @@ impl Items {
     pub const MOST: u32 = 256;
 
     pub const FIRST: usize = 24;
+
+    // In the record's body.
+    pub const BODY_FIRST: usize = Items::FIRST - Head::LENGTH;
 }
 
 // An item of 130 or 200.

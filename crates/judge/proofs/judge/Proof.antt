@@ -43,7 +43,7 @@ returns-2 c =
     let e = c .before .before .before .before .before .opened .given .1 in
     let n = rw e at (c .before .before .before .before .before .before .before .file-header .ensures .1) in
     let w = c .before .enum-told2 .given .1 in
-    rw (c .of-step .ensures, w) (judge-stop (now (c .before .before .before .before .before .before .before .before .before .args .file)) _ (rw e at (c .before .before .before .before .before .before .before .file-header .ensures .0)) (rw (w, n .0) at (c .before .before .before .recordings-from .ensures .0)))
+    judge-stop (now (c .before .before .before .before .before .before .before .before .before .args .file)) _ (rw e at (c .before .before .before .before .before .before .before .file-header .ensures .0)) (rw (w, ← rw w at (c .of-step .ensures), n .0) at (c .before .before .before .recordings-from .ensures .0))
 
 returns-3 : tie.Need-returns-3
 returns-3 c =

@@ -3,7 +3,7 @@
 use denote.Ref.{now}
 use Prim.Native.Nat.{_+_}
 use native.Mathlib.Omega.{arith}
-use Rattle.judge.proofs.Recorded.{head-stop, other-code, room-stop, recorded-body, part-is}
+use Rattle.judge.proofs.Recorded.{head-stop, other-code, room-stop, recorded-body, part-asked}
 use borrow.Author.Needs.{needs}
 use Rattle.judge.proofs.recording.recording_at.Statement.{statement}
 use Rattle.judge.proofs.recording.recording_at.Tie as tie
@@ -90,8 +90,7 @@ recording-body-requires c κs =
     let z = x .before .before .before .before in
     let w = rw (x .found .given .1) at (x .before .before .head-at .ensures .1) in
     let v = rw (y .room .given .1) at (y .before .before .admit .ensures .1) in
-    let l = part-is (now (z .args .file)) (z .args .p + 16) (y .room .given .0 .0) (omega (arith, w .0, v .0, v .2)) (v .1) in
-    (l .0, l .1, z .pre .1, z .pre .2)
+    part-asked (now (z .args .file)) (z .args .p + 16) _ (omega arith) (omega arith) (z .args .before) (z .pre .1) (z .pre .2)
 
 returns-4 : tie.Need-returns-4
 returns-4 c =
