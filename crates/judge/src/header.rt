@@ -35,7 +35,7 @@ pub fn of_opened(a: Opened) -> Refusal
     }
 }
 
-fn order_of(letter: u32) -> Lettered
+pub fn order_of(letter: u32) -> Lettered
     ensures { λ a. ⌜ a ≡ lettered letter ⌝ }
 {
     if letter == 76 {

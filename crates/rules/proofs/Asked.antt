@@ -258,6 +258,9 @@ header-bytes n p = let q = traced p in rw (q .events) (omega arith)
 pub found-inside : {A B : Type 0} {w : Walk A} {a : A} {w′ : Walk B} {b : B} {t : List Event} {p q : ℕ} (f : Found t w a p) → Found (f .events) w′ b q → Found t w′ b (p + q)
 found-inside {t} {p} {q} f g = found-second (f .before) (found-first (f .behind) g refl) (sym (f .split)) (ap (λ (x : ℕ). x + q) (f .place))
 
+pub rest-inside : {A B : Type 0} {w : Walk A} {a : A} {w′ : ℕ → Head → Walk B} {b : B} {t : List Event} {p q : ℕ} (f : Found t w a p) → Rest (f .events) w′ b q → Rest t w′ b (p + q)
+rest-inside f r = record { room = r .room; head = r .head; found = found-inside f (r .found) }
+
 -- in an accepted file
 module _ (s : List ℕ) (b : Bytes s) {v : File} {r : List ℕ} {t : List Event} (h : judge s ≡ passed v r t) where
   -- what is found at a place of the events is what its walk gives at that place of the file
@@ -320,6 +323,15 @@ module _ (s : List ℕ) (b : Bytes s) {v : File} {r : List ℕ} {t : List Event}
         (32 + bytesBefore k (v .recordings) + (getD (v .recordings) k d .layout .at140 + 16 + (16 + getD (v .recordings) k d .layout .frame * j)) +
         (24 + sampleBytes (getD (v .recordings) k d .recording .seconds) (take c (getD (v .recordings) k d .recording .channels))) + width (getD (getD (v .recordings) k d .recording .channels) c e .format) * i)
     sample-at f e j c i m n o = let x = samples-at f e j c m n in found-inside x (numbers-found _ _ (x .plays) i o)
+
+    -- its own 130 or 200, behind the head
+    pub patient-rest : getD (v .recordings) k d .recording .ownPatient ≡ true →
+        Rest t (items patientCode) (getD (v .recordings) k d .recording .patient) (32 + bytesBefore k (v .recordings) + (getD (v .recordings) k d .layout .at130 + 16))
+    patient-rest o = rest-inside (recording-at d k l .found) (inside .patient o)
+
+    pub event-rest : getD (v .recordings) k d .recording .ownEvents ≡ true →
+        Rest t (items eventCode) (getD (v .recordings) k d .recording .events) (32 + bytesBefore k (v .recordings) + (getD (v .recordings) k d .layout .at200 + 16))
+    event-rest o = rest-inside (recording-at d k l .found) (inside .events o)
 
     -- item j of its own 130 or 200, from 0
     pub patient-at : (i : Item) → getD (v .recordings) k d .recording .ownPatient ≡ true → (j : ℕ) → j < length (getD (v .recordings) k d .recording .patient) →

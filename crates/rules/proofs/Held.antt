@@ -3,17 +3,18 @@
 use mathlib.Core.Path.{_≡_, refl, sym, ap, _∙_}
 use mathlib.Core.Bool.{Bool, true}
 use mathlib.Core.List.{List, [], _∷_, map}
+use mathlib.Core.Option.{none}
 use Prim.Native.Nat.{ℕ, zero, suc, _+_, _*_, _<_}
 use native.Mathlib.Omega.{arith}
 use lib.ListN.{length, getD, take, length-map}
 use Rattle.words.specs.Numbers.{Bytes}
-use Rattle.walk.specs.Walk.{Event, Outcome, passed}
-use Rattle.rules.specs.Rules.{Channel, channel, Item, item, itemBytes, patientCode, Recording, Placed, File, contents, judge}
+use Rattle.walk.specs.Walk.{Event, passed}
+use Rattle.rules.specs.Rules.{Channel, channel, Item, item, itemBytes, items, patientCode, Recording, Placed, File, contents, judge}
 use Rattle.rules.specs.Places.{bytesBefore, holder}
 use Rattle.rules.proofs.Turn.{accepted}
-use Rattle.rules.proofs.Canon.{file-ok}
+use Rattle.rules.proofs.Canon.{RecordingsOk, file-ok}
 use Rattle.rules.proofs.Places.{Found}
-use Rattle.rules.proofs.Asked.{channel-at, patient-at}
+use Rattle.rules.proofs.Asked.{Rest, channel-at, patient-at, patient-rest}
 use Rattle.rules.proofs.Holders.{Holds, channels-hold, patient-holds}
 
 at-map : (d : Placed) (ps : List Placed) (k : ℕ) → getD (map (λ p. p .recording) ps) k (d .recording) ≡ getD ps k d .recording
@@ -28,22 +29,40 @@ module _ (s : List ℕ) (b : Bytes s) {v : File} {r : List ℕ} {t : List Event}
   many : k < length (contents v .recordings)
   many = omega (arith, l, length-map (v .recordings) (λ p. p .recording))
 
+  abbrev ok : RecordingsOk none (contents v .recordings)
+  ok = file-ok (length s) (accepted s b h .plays) .recordings
+
+  -- its holder is one of the recordings, has the part of its own, and the same value in it
+  module _ {A : Type 0} (own : Recording → Bool) (value : Recording → A) (q : Holds own value (d .recording) k (contents v .recordings)) where
+    one-before : heldBy own < length (v .recordings)
+    one-before = omega (arith, q .before, l)
+
+    owned-there : own (getD (v .recordings) (heldBy own) d .recording) ≡ true
+    owned-there = ap own (sym (at-map d (v .recordings) (heldBy own))) ∙ q .owned
+
+    same-there : value (getD (v .recordings) k d .recording) ≡ value (getD (v .recordings) (heldBy own) d .recording)
+    same-there = ap value (sym (at-map d (v .recordings) k)) ∙ q .same ∙ ap value (at-map d (v .recordings) (heldBy own))
+
   pub channel-holds-at : (c : Channel) (j : ℕ) → j < length (getD (v .recordings) k d .recording .channels) →
       (room : ℕ) × Found t (channel room (1 + j)) (getD (getD (v .recordings) k d .recording .channels) j c)
       (32 + bytesBefore (heldBy (λ r. r .ownChannels)) (v .recordings) + (getD (v .recordings) (heldBy (λ r. r .ownChannels)) d .layout .at120 + 16 + (16 + 256 * j)))
   channel-holds-at c j m =
-      let q = channels-hold (d .recording) k (contents v .recordings) (file-ok (length s) (accepted s b h .plays) .recordings) many in
-      let i = heldBy (λ r. r .ownChannels) in
-      let e : getD (v .recordings) k d .recording .channels ≡ getD (v .recordings) i d .recording .channels =
-      ap (λ (x : Recording). x .channels) (sym (at-map d (v .recordings) k)) ∙ q .same ∙ ap (λ (x : Recording). x .channels) (at-map d (v .recordings) i) in
-      rw e (channel-at s b h d i (omega (arith, q .before, l)) c (ap (λ (x : Recording). x .ownChannels) (sym (at-map d (v .recordings) i)) ∙ q .owned) j (rw e at m))
+      let q = channels-hold (d .recording) k (contents v .recordings) ok many in
+      let e = same-there (λ r. r .ownChannels) (λ r. r .channels) q in
+      rw e (channel-at s b h d (heldBy (λ r. r .ownChannels)) (one-before (λ r. r .ownChannels) (λ r. r .channels) q) c (owned-there (λ r. r .ownChannels) (λ r. r .channels) q) j (rw e at m))
+
+  -- the 130 that holds, behind its head
+  pub patient-rest-holds : Rest t (items patientCode) (getD (v .recordings) k d .recording .patient)
+      (32 + bytesBefore (heldBy (λ r. r .ownPatient)) (v .recordings) + (getD (v .recordings) (heldBy (λ r. r .ownPatient)) d .layout .at130 + 16))
+  patient-rest-holds =
+      let q = patient-holds (d .recording) k (contents v .recordings) ok many in
+      rw (same-there (λ r. r .ownPatient) (λ r. r .patient) q)
+      (patient-rest s b h d (heldBy (λ r. r .ownPatient)) (one-before (λ r. r .ownPatient) (λ r. r .patient) q) (owned-there (λ r. r .ownPatient) (λ r. r .patient) q))
 
   pub patient-holds-at : (x : Item) (j : ℕ) → j < length (getD (v .recordings) k d .recording .patient) →
       (room : ℕ) × Found t (item patientCode room) (getD (getD (v .recordings) k d .recording .patient) j x)
       (32 + bytesBefore (heldBy (λ r. r .ownPatient)) (v .recordings) + (getD (v .recordings) (heldBy (λ r. r .ownPatient)) d .layout .at130 + 16 + (8 + itemBytes (take j (getD (v .recordings) k d .recording .patient)))))
   patient-holds-at x j m =
-      let q = patient-holds (d .recording) k (contents v .recordings) (file-ok (length s) (accepted s b h .plays) .recordings) many in
-      let i = heldBy (λ r. r .ownPatient) in
-      let e : getD (v .recordings) k d .recording .patient ≡ getD (v .recordings) i d .recording .patient =
-      ap (λ (y : Recording). y .patient) (sym (at-map d (v .recordings) k)) ∙ q .same ∙ ap (λ (y : Recording). y .patient) (at-map d (v .recordings) i) in
-      rw e (patient-at s b h d i (omega (arith, q .before, l)) x (ap (λ (y : Recording). y .ownPatient) (sym (at-map d (v .recordings) i)) ∙ q .owned) j (rw e at m))
+      let q = patient-holds (d .recording) k (contents v .recordings) ok many in
+      let e = same-there (λ r. r .ownPatient) (λ r. r .patient) q in
+      rw e (patient-at s b h d (heldBy (λ r. r .ownPatient)) (one-before (λ r. r .ownPatient) (λ r. r .patient) q) x (owned-there (λ r. r .ownPatient) (λ r. r .patient) q) j (rw e at m))

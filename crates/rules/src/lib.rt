@@ -78,6 +78,8 @@ impl Basic {
 
     pub const FRAMES: usize = 24;
 
+    pub const RESERVE: usize = 28;
+
     pub const YEAR: usize = 32;
 
     pub const MONTH: usize = 36;
@@ -95,6 +97,8 @@ impl Basic {
     pub const TIME_LENGTH: usize = 20;
 
     pub const MAINS: usize = 76;
+
+    pub const SPARE: usize = 80;
 
     pub const COMMENT: usize = 96;
 
@@ -116,9 +120,13 @@ impl Channels {
 
     pub const SUB_SIZE: usize = 20;
 
+    pub const RESERVE: usize = 24;
+
     pub const SUBS: usize = 32;
 
     // In the record's body.
+    pub const BODY_RESERVE: usize = Channels::RESERVE - Head::LENGTH;
+
     pub const BODY_SUBS: usize = Channels::SUBS - Head::LENGTH;
 }
 
@@ -159,11 +167,24 @@ impl Channel {
 
     pub const SENSITIVITY: usize = 64;
 
+    pub const RESERVE: usize = 68;
+
     pub const LABEL: usize = 72;
+
+    pub const LABEL_LENGTH: usize = 16;
 
     pub const UNIT: usize = 88;
 
+    pub const UNIT_LENGTH: usize = 16;
+
+    pub const SPARE: usize = 104;
+
     pub const COMMENT: usize = 196;
+
+    pub const COMMENT_LENGTH: usize = 60;
+
+    // The format of 32-bit floats.
+    pub const FLOATS: u32 = 4;
 }
 
 // Record 130: the patient's items.
@@ -188,11 +209,15 @@ impl Items {
 
     pub const COUNT: usize = 16;
 
+    pub const RESERVE: usize = 20;
+
     pub const MOST: u32 = 256;
 
     pub const FIRST: usize = 24;
 
     // In the record's body.
+    pub const BODY_RESERVE: usize = Items::RESERVE - Head::LENGTH;
+
     pub const BODY_FIRST: usize = Items::FIRST - Head::LENGTH;
 }
 
@@ -225,7 +250,14 @@ impl Frames {
 
     pub const COUNT: usize = 24;
 
+    pub const RESERVE: usize = 28;
+
     pub const FIRST: usize = 32;
+
+    // In the record's body.
+    pub const BODY_RESERVE: usize = Frames::RESERVE - Head::LENGTH;
+
+    pub const BODY_FIRST: usize = Frames::FIRST - Head::LENGTH;
 }
 
 // Record 145: a frame.
@@ -240,7 +272,14 @@ impl Frame {
 
     pub const SECOND: usize = 20;
 
+    pub const RESERVE: usize = 22;
+
     pub const SAMPLES: usize = 24;
+
+    // In the record's body.
+    pub const BODY_RESERVE: usize = Frame::RESERVE - Head::LENGTH;
+
+    pub const BODY_SAMPLES: usize = Frame::SAMPLES - Head::LENGTH;
 }
 
 // The delimiter behind a recording's records.

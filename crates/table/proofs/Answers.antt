@@ -65,7 +65,7 @@ module _ (s : List ℕ) (h : FileHeader) (x : AcceptedAs s h) where
   went = rw (x .order) (accepted-seen s h x .recordings)
 
   -- its rows are those of its recordings
-  listed : W.rows 0 (x .events) ≡ tell (h .order) 0 s 32 walked
+  pub listed : W.rows 0 (x .events) ≡ tell (h .order) 0 s 32 walked
   unfolding file
   listed =
       let o : Order = orderOf s in

@@ -15,8 +15,10 @@ use Rattle.words.specs.declared.Order.{Order}
 use Rattle.walk.specs.Walk.{Row, Walk, give, _>>=_, _>>_}
 use Rattle.walk.specs.See.{stops, goes, see}
 use Rattle.walk.specs.Tell.{tell}
+use Rattle.walk.specs.Trace.{trace}
 use Rattle.walk.proofs.Seen.{gate-true, stays-goes, see-part, body-length}
 use Rattle.walk.proofs.Told.{tell-bind, tell-give, tell-part}
+use Rattle.walk.proofs.Tracing.{trace-bind, trace-give}
 use Rattle.rules.specs.Rules.{Head, head, span, coded, admit, Held, Placed, recordingBody, recording, recordings}
 use Rattle.rules.proofs.Room.{stays-recordingBody, stays-recording}
 use Rattle.table.specs.Rows.{Wrote}
@@ -104,7 +106,7 @@ module _ (o : Order) (s : List ℕ) (p : ℕ) where
           (omega (arith, ends .1), rw (v .rows, t) (wrote-join w out out₁ out₂ k k₁ k₂ (record { start = p; size = span h; code = h .code; serial = h .serial } ∷ []) (tell o 0 s (p + 16) (recordingBody held h)) (rw m at first) (rw tells at later)))
 
 -- what the next recording takes over
-abbrev leaves : Placed → Option Held
+abbrev pub leaves : Placed → Option Held
 leaves x = some (record { channels = x .recording .channels; patient = x .recording .patient })
 
 -- i of the recordings are listed, and the walk goes on at byte p of the file
@@ -118,16 +120,17 @@ pub record Sofar (o : Order) (s : List ℕ) (w : Bool) (count : ℕ) (out out′
   pub rows : tell o 0 s 32 (recordings count none (length s - 32) 1) ≡ done ++ tell o 0 s p (recordings (count - i) held (length s - p) (i + 1))
 
 -- the first of the recordings, and the others
-record Led (o : Order) (s : List ℕ) (p n : ℕ) (held : Option Held) (i : ℕ) : Type 0 where
-  one : Placed
-  mid : ℕ
-  value : List Placed
-  end : ℕ
-  is : see o 0 s p (recording held (length s - p) i) ≡ goes one mid
-  on : see o 0 s mid (recordings n (leaves one) (length s - mid) (suc i)) ≡ goes value end
-  rows : tell o 0 s p (recordings (suc n) held (length s - p) i) ≡ tell o 0 s p (recording held (length s - p) i) ++ tell o 0 s mid (recordings n (leaves one) (length s - mid) (suc i))
+pub record Led (o : Order) (s : List ℕ) (p n : ℕ) (held : Option Held) (i : ℕ) : Type 0 where
+  pub one : Placed
+  pub mid : ℕ
+  pub value : List Placed
+  pub end : ℕ
+  pub is : see o 0 s p (recording held (length s - p) i) ≡ goes one mid
+  pub on : see o 0 s mid (recordings n (leaves one) (length s - mid) (suc i)) ≡ goes value end
+  pub rows : tell o 0 s p (recordings (suc n) held (length s - p) i) ≡ tell o 0 s p (recording held (length s - p) i) ++ tell o 0 s mid (recordings n (leaves one) (length s - mid) (suc i))
+  pub events : trace o 0 s p (recordings (suc n) held (length s - p) i) ≡ trace o 0 s p (recording held (length s - p) i) ++ trace o 0 s mid (recordings n (leaves one) (length s - mid) (suc i))
 
-led : (o : Order) (s : List ℕ) (p n : ℕ) (held : Option Held) (i : ℕ) {l : List Placed} {e : ℕ} → p ≤ length s → see o 0 s p (recordings (suc n) held (length s - p) i) ≡ goes l e → Led o s p n held i
+pub led : (o : Order) (s : List ℕ) (p n : ℕ) (held : Option Held) (i : ℕ) {l : List Placed} {e : ℕ} → p ≤ length s → see o 0 s p (recordings (suc n) held (length s - p) i) ≡ goes l e → Led o s p n held i
 unfolding recordings
 led o s p n held i f g =
     let j : Placed → Walk (List Placed) = λ x. recordings n (leaves x) (length s - p - x .layout .bytes) (suc i) >>= λ l. give (x ∷ l) in
@@ -144,6 +147,7 @@ led o s p n held i f g =
       is = x .is;
       on = y .is;
       rows = tell-bind o 0 s p (recording held (length s - p) i) j (x .is) ∙ rw (u, tell-give o 0 s (x .end) v (λ l. x .value ∷ l));
+      events = trace-bind o 0 s p (recording held (length s - p) i) j (x .is) ∙ rw (u, trace-give o 0 s (x .end) v (λ l. x .value ∷ l));
     }
 
 module _ {o : Order} {s : List ℕ} {w : Bool} {count : ℕ} {out : List ℤ} where

@@ -75,7 +75,7 @@ module _ {A : Type 0} where
       tell-part o b (b + p + 16) (p + 16) (q - (p + 16)) s (add-assoc b p 16) (omega arith) w (b + p + 16) Q (omega arith) (rw z at k) ∙ ap (λ (x : ℕ). tell o b s x w) (add-assoc b p 16)
 
   -- a run that passed, behind one event
-  by-logged : {X : Type 0} (v : Event) (y : Outcome A) {x : A} {r : List ℕ} {t : List Event} → logged (v ∷ []) y ≡ passed x r t → ((u : List Event) → y ≡ passed x r u → t ≡ v ∷ u → X) → X
+  pub by-logged : {X : Type 0} (v : Event) (y : Outcome A) {x : A} {r : List ℕ} {t : List Event} → logged (v ∷ []) y ≡ passed x r t → ((u : List Event) → y ≡ passed x r u → t ≡ v ∷ u → X) → X
   unfolding logged
   by-logged v (refused n p) h k = absurd (let z : _≡_ {A = ℕ} 0 1 = cc in omega arith)
   by-logged v (passed x r u) h k = k u (cc) (cc)

@@ -2,3 +2,4 @@ pub mod Walk
 pub mod Plays
 pub mod See
 pub mod Tell
+pub mod Trace
