@@ -1,0 +1,4 @@
+pub mod Copying
+pub mod Filling
+pub mod Pieces
+pub mod Onward
