@@ -1,0 +1,4 @@
+pub mod Turning
+pub mod Sent
+pub mod Answers
+pub mod Demands

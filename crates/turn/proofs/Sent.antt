@@ -1,0 +1,325 @@
+-- What is written of a recording, and of all recordings of a file, from what each of the code's steps wrote.
+-- Assumes nothing.
+use mathlib.Core.Path.{_≡_, refl, sym, ap, subst, fun-ext, _∙_}
+use mathlib.Core.Bool.{Bool, true}
+use mathlib.Core.List.{List, [], _∷_, _++_, append-assoc, append-nil}
+use mathlib.Core.Option.{Option, none, some}
+use Prim.Native.Nat.{ℕ, suc, _+_, _-_, _≤_, _<_}
+use native.Mathlib.Nat.{zero-add, sub-zero}
+use native.Mathlib.Numerals.{add-one}
+use native.Mathlib.Omega.{arith}
+use borrow.Author.Tests.{leb-true, eqb-true}
+use lib.Dec.{leb, eqb}
+use lib.ListN.{length, getD, set, take, drop, length-append, length-drop}
+use lib.Seq.{take-add, take-all, drop-drop, length-take-le}
+use Rattle.words.specs.Numbers.{bytesAt}
+use Rattle.words.specs.Runs.{pasted}
+use Rattle.words.specs.declared.Order.{Order}
+use Rattle.words.specs.declared.Order.the-variants.{Little, Big}
+use Rattle.words.proofs.Runs.{pasted-pasted, pasted-nothing, set-pasted, more-written}
+use Rattle.walk.proofs.Laid.{length-laid}
+use Rattle.walk.specs.Walk.{Letter, Text, laid, Walk, give, refuse, check, number, read, skip, list, _>>=_, _>>_, require}
+use Rattle.walk.specs.See.{stops, goes, see, Goes, Stays}
+use Rattle.walk.specs.Trace.{trace, written}
+use Rattle.walk.proofs.Seen.{stays-goes, see-part, body-length}
+use Rattle.walk.proofs.Tracing.{written-append}
+use Rattle.rules.specs.Rules as R
+use Rattle.rules.specs.Rules.{head, coded, admit, span, basic, next, part, channels, items, patientCode, eventCode, heldChannels, heldPatient, frames, delimiter, padding, recordingBody, recording, recordings, fileHeader}
+use Rattle.rules.specs.declared.Head.{Head}
+use Rattle.rules.proofs.Room.{stays-recordingBody, stays-recording}
+use Rattle.records.specs.Says.{Kept}
+use Rattle.judge.specs.Halves.{Tables, tables, signals}
+use Rattle.judge.specs.Recorded.{leaves, Places-of}
+use Rattle.judge.specs.Tabled.{Stand, HeldAs}
+use Rattle.judge.specs.declared.tables.Before.{Before}
+use Rattle.judge.specs.declared.tables.Before.the-variants as Before
+use Rattle.judge.specs.declared.tables.Places.{Places}
+use Rattle.table.specs.Rows.{Marks}
+use Rattle.table.proofs.Lists.{gate-went, went-first, admit-went, require-went, head-went, goes-same}
+use Rattle.table.proofs.Recorded.{Led, led}
+use Rattle.copies.specs.Copy.{copy, Pastes, Holds, RecordCopied}
+use Rattle.copies.specs.declared.Way.{Way}
+use Rattle.copies.proofs.Copying.{copy-bind, copy-part, length-copy, holds-join}
+use Rattle.turn.proofs.Turning.{filled-first, written-row, written-piece, written-none, read-part, copy-require, copy-admit, copy-padding}
+
+-- one walk after two others is one after the first, and then the second
+bind-step : {A B C : Type 0} (v : Walk A) (f : A → Walk B) (k : B → Walk C) (g : A → Walk C) → ((a : A) → (f a >>= k) ≡ g a) → ((v >>= f) >>= k) ≡ (v >>= g)
+unfolding _>>=_
+bind-step (give a) f k g h = h a
+bind-step (refuse n p) f k g h = refl
+bind-step (check c n p v) f k g h = ap (check c n p) (bind-step v f k g h)
+bind-step (number n w) f k g h = ap (number n) (fun-ext (λ x. bind-step (w x) f k g h))
+bind-step (read κ n w) f k g h = ap (read κ n) (fun-ext (λ x. bind-step (w x) f k g h))
+bind-step (skip n v) f k g h = ap (skip n) (bind-step v f k g h)
+bind-step (list p l c m v) f k g h = ap (list p l c m) (bind-step v f k g h)
+
+-- a recording's body is its tables, and then its signals
+halved : (held : Option R.Held) (h : R.Head) → (tables held (span h) >>= λ t. signals t h) ≡ recordingBody held h
+unfolding recordingBody tables signals _>>=_
+halved held h =
+    bind-step (basic (span h - 16)) _ _ _ λ x.
+    bind-step (next (span h) (span h - 144)) _ _ _ λ n.
+    bind-step (part (span h) 120 (channels x) (heldChannels held) n) _ _ _ λ c.
+    bind-step (part (span h) 130 (items patientCode) (heldPatient held) (c .next)) _ _ _ λ p.
+    bind-step (part (span h) 200 (items eventCode) (some []) (p .next)) _ _ _ λ e. refl
+
+-- two walks, and one that depends on both
+copy-two : {A B C : Type 0} (w : Way) (b : ℕ) (s : List ℕ) (at : ℕ) (v : Walk A) (u : Walk B) (f : A → B → Walk C) {x : A} {y : B} {m n : ℕ} → see (w .from) b s at v ≡ goes x m → see (w .from) b s m u ≡ goes y n →
+    copy w b s at (v >>= λ a. u >>= λ d. f a d) ≡ (copy w b s at v ++ copy w b s m u) ++ copy w b s n (f x y)
+copy-two w b s at v u f {x} {y} {m} {n} g h =
+    copy-bind w b s at v (λ a. u >>= λ d. f a d) g ∙ ap (λ (l : List ℕ). copy w b s at v ++ l) (copy-bind w b s m u (λ d. f x d) h) ∙ sym (append-assoc (copy w b s at v) (copy w b s m u) (copy w b s n (f x y)))
+
+module _ (w : Way) (b : ℕ) (s : List ℕ) where
+  -- a delimiter writes nothing behind its head
+  copy-delimiter : {A : Type 0} (at : ℕ) (h : R.Head) (v : Walk A) → copy w b s at (delimiter h >> v) ≡ copy w b s at v
+  unfolding delimiter trace _>>=_ _>>_
+  copy-delimiter at h v = written-row (w .keep) (w .to) _ _ _ _ (trace (w .from) b s at v)
+
+  -- what stands behind the delimiter's head: its tests, and padding
+  module _ (h : R.Head) (c₁ c₂ : Bool) (p left at : ℕ) (x : R.Placed) where
+    abbrev tail : Walk R.Placed
+    tail = delimiter h >> (require c₁ 14 p >> (require c₂ 10 0 >> (padding left >> give x)))
+
+    tail-gives : {y : R.Placed} {e : ℕ} → see (w .from) b s at tail ≡ goes y e → x ≡ y
+    unfolding see _>>_
+    tail-gives g =
+        let f₁ = went-first (w .from) b s at (delimiter h) _ g in
+        let f₂ = require-went (w .from) b s (f₁ .end) c₁ 14 p (require c₂ 10 0 >> (padding left >> give x)) (f₁ .kept) in
+        let f₃ = require-went (w .from) b s (f₁ .end) c₂ 10 0 (padding left >> give x) (f₂ .1) in
+        let f₄ = went-first (w .from) b s (f₁ .end) (padding left) _ (f₃ .1) in
+        goes-same (f₄ .kept) .0
+
+    copy-tail : copy w b s at tail ≡ bytesAt left s (at - b)
+    copy-tail =
+        copy-delimiter at h (require c₁ 14 p >> (require c₂ 10 0 >> (padding left >> give x)))
+        ∙ copy-require w b s at c₁ 14 p (require c₂ 10 0 >> (padding left >> give x))
+        ∙ copy-require w b s at c₂ 10 0 (padding left >> give x)
+        ∙ copy-padding w b s at left x
+
+  -- what the code wrote of a 140 with the head g and of the makers' records behind it, up to the head g′; and of the bytes behind that
+  module _ (file : List ℕ) (subs count : ℕ) (g g′ : Head) (out out₁ out₂ : List ℕ) (k k₁ k₂ : ℕ)
+      (wrote : (c : R.Basic) (own : Bool) (cs : List R.Channel) (back : ℕ) → g .code ≡ 140 → length cs ≡ count → Kept (w .from) file subs cs → RecordCopied w b s g (frames c own cs back) out out₁ k k₁ g′)
+      (last : g′ .at + 16 ≤ length s → Pastes out₁ out₂ k₁ k₂ (take (length s - (g′ .at + 16)) (drop (g′ .at + 16) s))) where
+    signals-copied : (t : Tables) (h : R.Head) (x : R.Placed) (e : ℕ) → span h ≡ 16 + length s → length (x .recording .channels) ≡ count → Kept (w .from) file subs (x .recording .channels) →
+        Marks (w .from) b s g (t .events .next) (b + (g .at + 16)) → see (w .from) b s (b + (g .at + 16)) (signals t h) ≡ goes x e → Holds out out₂ k (copy w b s (b + (g .at + 16)) (signals t h))
+    unfolding signals bytesAt
+    signals-copied t h x e n many kept marks went =
+        let o : Order = w .from in
+        let at : ℕ = b + (g .at + 16) in
+        let r = require-went o b s at (eqb (t .events .next .head .code) 140) 9 12 _ went in
+        let v : Walk R.Frames = frames (t .basic) (t .channels .own) (t .channels .value) (span h - t .events .next .room - 20) (t .events .next .room) (t .events .next .head) in
+        let u : Walk R.Next = next (span h) (t .events .next .room - span (t .events .next .head)) in
+        let y = went-first o b s at v _ (r .1) in
+        let z = went-first o b s (y .end) u _ (y .kept) in
+        let i : t .channels .value ≡ x .recording .channels = ap (λ (q : R.Placed). q .recording .channels) (tail-gives (z .value .head) _ _ _ _ (z .end) _ (z .kept)) in
+        let j : g .code ≡ 140 = sym (ap (λ (q : R.Head). q .code) (marks .0)) ∙ eqb-true (t .events .next .head .code) 140 (r .0) in
+        let d = rw (← marks .0, ← marks .1) at (wrote (t .basic) (t .channels .own) (t .channels .value) (span h - t .events .next .room - 20) j (rw i many) (rw i kept) (span h) (y .value) (y .end) (z .value) (z .end) (omega arith)) in
+        let m = d (y .is) (z .is) in
+        let e₁ : z .value .room - 16 ≡ length s - (g′ .at + 16) = omega (arith, m .0 .1) in
+        let e₂ : z .end - b ≡ g′ .at + 16 = omega (arith, m .0 .3) in
+        let rest : List ℕ = take (length s - (g′ .at + 16)) (drop (g′ .at + 16) s) in
+        let q : bytesAt (z .value .room - 16) s (z .end - b) ≡ rest = ap (λ (i : ℕ). take i (drop (z .end - b) s)) e₁ ∙ ap (λ (i : ℕ). take (length s - (g′ .at + 16)) (drop i s)) e₂ in
+        let c : copy w b s at (signals t h) ≡ (copy w b s at v ++ copy w b s (y .end) u) ++ rest =
+        copy-require w b s at (eqb (t .events .next .head .code) 140) 9 12 _ ∙ (copy-two w b s at v u _ (y .is) (z .is) ∙ ap (λ (l : List ℕ). (copy w b s at v ++ copy w b s (y .end) u) ++ l) (copy-tail (z .value .head) _ _ _ _ (z .end) _ ∙ q)) in
+        subst (λ (l : List ℕ). Holds out out₂ k l) (sym c) (holds-join out out₁ out₂ k k₁ k₂ (copy w b s at v ++ copy w b s (y .end) u) rest (m .1) (λ room. last (m .0 .2) room .1))
+
+    -- and of the tables before it, up to the head g
+    pub body-copied : (out₀ : List ℕ) (k₀ : ℕ) →
+        ((held : Option R.Held) (t : Tables) (e : ℕ) → see (w .from) b s b (tables held (16 + length s)) ≡ goes t e → Marks (w .from) b s g (t .events .next) e × Pastes out₀ out k₀ k (copy w b s b (tables held (16 + length s)))) →
+        (held : Option R.Held) (h : R.Head) (x : R.Placed) (e : ℕ) → span h ≡ 16 + length s → length (x .recording .channels) ≡ count → Kept (w .from) file subs (x .recording .channels) →
+        see (w .from) b s b (recordingBody held h) ≡ goes x e → Holds out₀ out₂ k₀ (copy w b s b (recordingBody held h))
+    body-copied out₀ k₀ first held h x e n many kept went =
+        let v : Walk Tables = tables held (span h) in
+        let f : Tables → Walk R.Placed = λ t. signals t h in
+        let y = went-first (w .from) b s b v f (rw (← halved held h) at went) in
+        let m = rw (← n) at (first held (y .value) (y .end)) (y .is) in
+        let r = signals-copied (y .value) h x e n many kept (m .0 .0, m .0 .1, m .0 .2, refl) (ap (λ (i : ℕ). see (w .from) b s i (signals (y .value) h)) (sym (m .0 .3)) ∙ y .kept) in
+        let c : copy w b s b (recordingBody held h) ≡ copy w b s b v ++ copy w b s (b + (g .at + 16)) (signals (y .value) h) =
+        ap (copy w b s b) (sym (halved held h)) ∙ (copy-bind w b s b v f (y .is) ∙ ap (λ (i : ℕ). copy w b s b v ++ copy w b s i (signals (y .value) h)) (m .0 .3)) in
+        subst (λ (l : List ℕ). Holds out₀ out₂ k₀ l) (sym c) (holds-join out₀ out out₂ k₀ k k₂ (copy w b s b v) (copy w b s (b + (g .at + 16)) (signals (y .value) h)) (m .1) r)
+
+-- a recording that the walk accepted: its head, and its body
+record Begun (w : Way) (s : List ℕ) (p : ℕ) (held : Option R.Held) (i : ℕ) (x : R.Placed) (e : ℕ) : Type 0 where
+  top : R.Head
+  least : 16 ≤ span top
+  ends : e ≡ p + span top
+  inside : e ≤ length s
+  body : see (w .from) 0 s (p + 16) (recordingBody held top) ≡ goes x e
+  bytes : copy w 0 s p (recording held (length s - p) i) ≡ copy w 0 s p (head (length s - p)) ++ copy w 0 s (p + 16) (recordingBody held top)
+
+begun : (w : Way) (s : List ℕ) (p : ℕ) (held : Option R.Held) (i : ℕ) {x : R.Placed} {e : ℕ} → see (w .from) 0 s p (recording held (length s - p) i) ≡ goes x e → Begun w s p held i x e
+unfolding recording
+begun w s p held i {x} {e} g =
+    let o : Order = w .from in
+    let room : ℕ = length s - p in
+    let k : R.Head → Walk R.Placed = λ h. coded h 10 >> (admit room 128 (leb 16) (eqb i) h >> recordingBody held h) in
+    let f = went-first o 0 s p (head room) k g in
+    let h = f .value in
+    let t = head-went o 0 s p room (f .is) in
+    let c = require-went o 0 s (f .end) (eqb (h .code) 10) 9 12 (admit room 128 (leb 16) (eqb i) h >> recordingBody held h) (f .kept) in
+    let d = admit-went o 0 s (f .end) room 128 (leb 16) (eqb i) h (recordingBody held h) (c .1) in
+    let l : 16 ≤ span h = leb-true 16 (span h) (d .length) in
+    let b : see o 0 s (p + 16) (recordingBody held h) ≡ goes x e = ap (λ (q : ℕ). see o 0 s q (recordingBody held h)) (sym t) ∙ d .rest in
+    let z = stays-goes o 0 s (p + 16 + (span h - 16)) (omega (arith, d .inside, l)) (recordingBody held h) (p + 16) _ (omega arith) (stays-recordingBody held h (p + 16) l) b in
+    record {
+      top = h;
+      least = l;
+      ends = omega (arith, z .1);
+      inside = omega (arith, z .1, d .inside, l);
+      body = b;
+      bytes =
+          copy-bind w 0 s p (head room) k (f .is)
+          ∙ ap (λ (q : List ℕ). copy w 0 s p (head room) ++ q)
+          (copy-require w 0 s (f .end) (eqb (h .code) 10) 9 12 (admit room 128 (leb 16) (eqb i) h >> recordingBody held h)
+          ∙ (copy-admit w 0 s (f .end) room 128 (leb 16) (eqb i) h (recordingBody held h) ∙ ap (λ (q : ℕ). copy w 0 s q (recordingBody held h)) t));
+    }
+
+-- the recording from byte p of the file up to q
+module _ (w : Way) (s : List ℕ) (p q : ℕ) where
+  -- one that ends before its body begins was not accepted
+  pub recording-short : (held : Option R.Held) (i : ℕ) {x : R.Placed} → q < p + 16 → see (w .from) 0 s p (recording held (length s - p) i) ≡ goes x q → ⊥
+  recording-short held i l g = let v = begun w s p held i g in omega (arith, v .least, v .ends)
+
+  abbrev within : List ℕ
+  within = take (q - (p + 16)) (drop (p + 16) s)
+
+  -- the code wrote its head, and its body as a part of the file
+  pub recording-copied : (at count : ℕ) (out out₁ out₂ : List ℕ) (k : ℕ) → length s ≤ length out →
+      ((b room : ℕ) → Pastes out out₁ p k (copy w b s (b + p) (head room))) →
+      ((held : Option R.Held) (h : R.Head) (x : R.Placed) (e : ℕ) → span h ≡ 16 + length within → length (x .recording .channels) ≡ count → Kept (w .from) s (at + 32) (x .recording .channels) → see (w .from) (p + 16) within (p + 16) (recordingBody held h) ≡ goes x e → Holds out₁ out₂ k (copy w (p + 16) within (p + 16) (recordingBody held h))) →
+      (held : Option R.Held) (i : ℕ) (x : R.Placed) → see (w .from) 0 s p (recording held (length s - p) i) ≡ goes x q → Stand (w .from) s at count (x .recording .channels) → out₂ ≡ pasted out p (copy w 0 s p (recording held (length s - p) i))
+  recording-copied at count out out₁ out₂ k fit first later held i x g stand =
+      let v = begun w s p held i g in
+      let u : Walk R.Placed = recordingBody held (v .top) in
+      let xs : List ℕ = copy w 0 s p (head (length s - p)) in
+      let l : 16 + length within ≡ q - p = body-length p q s (omega (arith, v .ends, v .least)) (v .inside) in
+      let z : p + 16 + (span (v .top) - 16) ≡ p + 16 + (q - (p + 16)) = omega (arith, v .ends, v .least) in
+      let stays = rw z at (stays-recordingBody held (v .top) (p + 16) (v .least)) in
+      let f : p + 16 + (q - (p + 16)) ≤ length s = omega (arith, v .ends, v .least, v .inside) in
+      let same : copy w (p + 16) within (p + 16) u ≡ copy w 0 s (p + 16) u = copy-part w 0 (p + 16) (p + 16) (q - (p + 16)) s (omega arith) f u (p + 16) _ (omega arith) stays (v .body) in
+      let body = later held (v .top) x q (omega (arith, l, v .ends)) (stand .0) (stand .1) (see-part (w .from) 0 (p + 16) (p + 16) (q - (p + 16)) s (omega arith) f u (p + 16) _ (omega arith) stays ∙ v .body) in
+      let n = length-copy w 0 s (p + (length s - p)) (omega (arith, v .ends, v .inside)) (recording held (length s - p) i) p _ (omega arith) (stays-recording held i p (length s - p)) g in
+      let m : p + length (xs ++ copy w (p + 16) within (p + 16) u) ≤ length out = subst (λ (y : List ℕ). p + length y ≤ length out) (v .bytes ∙ ap (λ (y : List ℕ). xs ++ y) (sym same)) (omega (arith, n, v .inside)) in
+      holds-join out out₁ out₂ p k k xs (copy w (p + 16) within (p + 16) u) (rw zero-add at (first 0 (length s - p))) body m ∙ ap (pasted out p) (ap (λ (y : List ℕ). xs ++ y) same ∙ sym (v .bytes))
+
+-- i of the recordings are written, and the walk goes on at byte p of the file, holding what the code has of the recording before
+pub record Sending (w : Way) (s : List ℕ) (count : ℕ) (out₀ out : List ℕ) (p i : ℕ) (before : Before) : Type 0 where
+  pub held : Option R.Held
+  pub holds : HeldAs (w .from) s before held
+  pub value : List R.Placed
+  pub end : ℕ
+  pub on : see (w .from) 0 s p (recordings (count - i) held (length s - p) (i + 1)) ≡ goes value end
+  pub done : List ℕ
+  pub place : p ≡ 32 + length done
+  pub wrote : out ≡ pasted out₀ 32 done
+  pub rest : copy w 0 s 32 (recordings count none (length s - 32) 1) ≡ done ++ copy w 0 s p (recordings (count - i) held (length s - p) (i + 1))
+
+module _ {w : Way} {s : List ℕ} {count : ℕ} {out₀ : List ℕ} where
+  pub sending-start : {l : List R.Placed} {e : ℕ} → see (w .from) 0 s 32 (recordings count none (length s - 32) 1) ≡ goes l e → Sending w s count out₀ out₀ 32 0 Before.Nothing
+  sending-start {l} {e} g = record { held = none; holds = tt; value = l; end = e; on = rw sub-zero g; done = []; place = refl; wrote = sym (pasted-nothing out₀ 32); rest = simp sub-zero }
+
+  module _ {out : List ℕ} {p i : ℕ} {before : Before} (x : Sending w s count out₀ out p i before) (fit : p ≤ length s) where
+    -- the first of the recordings that are left, and the others
+    sending-led : i < count → Led (w .from) s p (count - (i + 1)) (x .held) (i + 1)
+    sending-led h =
+        let d : count - i ≡ suc (count - (i + 1)) = omega arith in
+        led (w .from) s p (count - (i + 1)) (x .held) (i + 1) fit (rw d at (x .on))
+
+    -- it was accepted
+    pub sending-stop : {n q : ℕ} → i < count → see (w .from) 0 s p (recording (x .held) (length s - p) (i + 1)) ≡ stops n q → ⊥
+    sending-stop h g =
+        let v = sending-led h .is in
+        let z : _≡_ {A = ℕ} 0 1 = cc in
+        omega arith
+
+    pub sending-next : {q : Places} (out′ : List ℕ) → i < count → 32 ≤ length out₀ → (k : Goes (see (w .from) 0 s p (recording (x .held) (length s - p) (i + 1))) (Places-of (w .from) s p before q)) →
+        ((held : Option R.Held) (j : ℕ) (y : R.Placed) → see (w .from) 0 s p (recording held (length s - p) j) ≡ goes y (q .end) → Stand (w .from) s (q .channels) (q .count) (y .recording .channels) → out′ ≡ pasted out p (copy w 0 s p (recording held (length s - p) j))) →
+        Sending w s count out₀ out′ (q .end) (i + 1) (Before.These q)
+    sending-next {q} out′ h f k copied =
+        let d : count - i ≡ suc (count - (i + 1)) = omega arith in
+        let v = sending-led h in
+        let e : (v .one ≡ k .value) × (v .mid ≡ k .end) = goes-same (sym (v .is) ∙ k .is) in
+        let m : v .mid ≡ q .end = e .1 ∙ k .kept .end in
+        let is : see (w .from) 0 s p (recording (x .held) (length s - p) (i + 1)) ≡ goes (k .value) (q .end) = k .is ∙ ap (λ (j : ℕ). goes (k .value) j) (k .kept .end) in
+        let ys : List ℕ = copy w 0 s p (recording (x .held) (length s - p) (i + 1)) in
+        let c = copied (x .held) (i + 1) (k .value) is (k .kept .held) in
+        let n = length-copy w 0 s (p + (length s - p)) (omega arith) (recording (x .held) (length s - p) (i + 1)) p _ (omega arith) (stays-recording (x .held) (i + 1) p (length s - p)) is in
+        let z = ap (written (w .keep) (w .to)) (v .events) ∙ written-append (w .keep) (w .to) (trace (w .from) 0 s p (recording (x .held) (length s - p) (i + 1))) (trace (w .from) 0 s (v .mid) (recordings (count - (i + 1)) (leaves (v .one)) (length s - v .mid) (suc (i + 1)))) in
+        let a : ys ++ copy w 0 s (v .mid) (recordings (count - (i + 1)) (leaves (v .one)) (length s - v .mid) (suc (i + 1))) ≡ ys ++ copy w 0 s (q .end) (recordings (count - (i + 1)) (leaves (v .one)) (length s - q .end) (i + 1 + 1)) = rw (← m, add-one (i + 1)) in
+        record {
+          held = leaves (v .one);
+          holds = subst (λ (y : R.Placed). HeldAs (w .from) s (Before.These q) (leaves y)) (sym (e .0)) (k .kept .held);
+          value = v .value;
+          end = v .end;
+          on = rw (← m, add-one (i + 1)) (v .on);
+          done = x .done ++ ys;
+          place = omega (arith, x .place, n, length-append (x .done) ys);
+          wrote = c ∙ (ap (λ (l : List ℕ). pasted l p ys) (x .wrote) ∙ (ap (λ (j : ℕ). pasted (pasted out₀ 32 (x .done)) j ys) (x .place) ∙ pasted-pasted out₀ 32 (x .done) ys f));
+          rest = x .rest ∙ (ap (λ (j : ℕ). x .done ++ copy w 0 s p (recordings j (x .held) (length s - p) (i + 1))) d ∙ (ap (λ (l : List ℕ). x .done ++ l) (z ∙ a) ∙ sym (append-assoc (x .done) ys _)));
+        }
+
+    pub sending-end : count ≤ i → out ≡ pasted out₀ 32 (copy w 0 s 32 (recordings count none (length s - 32) 1))
+    unfolding recordings trace
+    sending-end h = let d : count - i ≡ 0 = omega arith in x .wrote ∙ ap (pasted out₀ 32) (sym (x .rest ∙ rw (d, written-none) (append-nil (x .done))))
+
+-- the file header: texts, and the letter
+laid-text : (o : Order) (bs : List ℕ) → laid o Text bs ≡ bs
+unfolding laid
+laid-text Little bs = refl
+laid-text Big bs = refl
+
+bytes-split : (n m k : ℕ) (s : List ℕ) → bytesAt (n + m) s k ≡ bytesAt n s k ++ bytesAt m s (k + n)
+unfolding bytesAt
+bytes-split n m k s = take-add n m (drop k s) ∙ rw drop-drop
+
+-- one number that is the letter of a little-endian file
+one-letter : (l : List ℕ) → length l ≡ 1 → eqb (getD l 0 0) 76 ≡ true → l ≡ 76 ∷ []
+one-letter [] e h = absurd (omega (arith, e))
+one-letter (x ∷ []) e h = ap (λ (y : ℕ). y ∷ []) (eqb-true x 76 h)
+one-letter (x ∷ y ∷ l) e h = absurd (omega (arith, e))
+
+module _ (w : Way) (s : List ℕ) (n : ℕ) where
+  header-letter : {f : R.FileHeader} {e : ℕ} → see (w .from) 0 s 0 (fileHeader n) ≡ goes f e → eqb (getD (laid (w .from) Letter (bytesAt 1 s 16)) 0 0) 76 ≡ true
+  unfolding fileHeader see _>>=_ _>>_
+  header-letter g =
+      let g₁ = gate-went _ _ _ _ g in
+      let g₂ = gate-went _ _ _ _ (g₁ .1) in
+      let g₃ = gate-went _ _ _ _ (g₂ .1) in
+      let g₄ = gate-went _ _ _ _ (g₃ .1) in
+      gate-went _ _ _ _ (g₄ .1) .0
+
+  header-bytes : copy w 0 s 0 (fileHeader n) ≡ bytesAt 8 s 0 ++ (bytesAt 6 s 8 ++ (bytesAt 2 s 14 ++ (laid (w .to) Letter (laid (w .from) Letter (bytesAt 1 s 16)) ++ (bytesAt 1 s 17 ++ (bytesAt 4 s 18 ++ bytesAt 10 s 22)))))
+  unfolding fileHeader trace _>>=_ _>>_
+  header-bytes = simp (written-piece, written-none, laid-text, append-nil)
+
+  stays-header : Stays 32 0 (fileHeader n) (λ _ _. Unit {0})
+  unfolding fileHeader _>>=_ _>>_
+  stays-header = λ _. (omega arith, λ _ _ _. (omega arith, λ _ _ _. (omega arith, λ _ _ _. (omega arith, λ _ _ _. (omega arith, λ _ _ _. (omega arith, λ _ _ _. (omega arith, λ _ _ _. tt)))))))
+
+  -- its first 32 bytes are all that it reads
+  pub header-in : {f : R.FileHeader} → 32 ≤ length s → see (w .from) 0 s 0 (fileHeader n) ≡ goes f 32 →
+      (see (w .from) 0 (take 32 s) 0 (fileHeader n) ≡ goes f 32) × (copy w 0 (take 32 s) 0 (fileHeader n) ≡ copy w 0 s 0 (fileHeader n)) × (length (copy w 0 s 0 (fileHeader n)) ≡ 32)
+  header-in l g =
+      let r = read-part w 0 0 0 32 s (fileHeader n) refl l stays-header g refl in
+      (see-part (w .from) 0 0 0 32 s refl l (fileHeader n) 0 _ (omega arith) stays-header ∙ g, r .0, r .1)
+
+  -- the code wrote the letter v, and all other bytes as they stand
+  pub header-copied : (v : ℕ) {f : R.FileHeader} {e : ℕ} → length s ≡ 32 → laid (w .to) Letter (76 ∷ []) ≡ v ∷ [] → see (w .from) 0 s 0 (fileHeader n) ≡ goes f e → set s 16 v ≡ copy w 0 s 0 (fileHeader n)
+  unfolding pasted bytesAt
+  header-copied v l h g =
+      let a : laid (w .from) Letter (bytesAt 1 s 16) ≡ 76 ∷ [] = one-letter _ (length-laid (w .from) Letter (bytesAt 1 s 16) ∙ length-take-le 1 (drop 16 s) (rw length-drop (omega arith))) (header-letter g) in
+      let b : take 16 s ≡ bytesAt 8 s 0 ++ (bytesAt 6 s 8 ++ bytesAt 2 s 14) = bytes-split 8 8 0 s ∙ ap (λ (l : List ℕ). bytesAt 8 s 0 ++ l) (bytes-split 6 2 8 s) in
+      let c : drop 17 s ≡ bytesAt 1 s 17 ++ (bytesAt 4 s 18 ++ bytesAt 10 s 22) = sym (take-all 15 (drop 17 s) (rw length-drop (omega arith))) ∙ (bytes-split 1 14 17 s ∙ ap (λ (l : List ℕ). bytesAt 1 s 17 ++ l) (bytes-split 4 10 18 s)) in
+      let d : take 16 s ++ (v ∷ drop 17 s) ≡ (bytesAt 8 s 0 ++ (bytesAt 6 s 8 ++ bytesAt 2 s 14)) ++ (v ∷ (bytesAt 1 s 17 ++ (bytesAt 4 s 18 ++ bytesAt 10 s 22))) = ap (λ (l : List ℕ). l ++ (v ∷ drop 17 s)) b ∙ ap (λ (l : List ℕ). (bytesAt 8 s 0 ++ (bytesAt 6 s 8 ++ bytesAt 2 s 14)) ++ (v ∷ l)) c in
+      let j : (bytesAt 8 s 0 ++ (bytesAt 6 s 8 ++ bytesAt 2 s 14)) ++ (v ∷ (bytesAt 1 s 17 ++ (bytesAt 4 s 18 ++ bytesAt 10 s 22))) ≡ bytesAt 8 s 0 ++ (bytesAt 6 s 8 ++ (bytesAt 2 s 14 ++ (v ∷ (bytesAt 1 s 17 ++ (bytesAt 4 s 18 ++ bytesAt 10 s 22))))) = simp append-assoc in
+      set-pasted s 16 v (omega arith) ∙ (d ∙ (j ∙ sym (header-bytes ∙ rw (a, h))))
+
+-- the header, and the recordings behind it
+pub file-copied : (w : Way) (s : List ℕ) (n : ℕ) {f : R.FileHeader} → 32 ≤ length s → see (w .from) 0 s 0 (fileHeader n) ≡ goes f 32 → (out₀ out₁ out ys all : List ℕ) →
+    ((m : ℕ) (y : R.FileHeader) (e : ℕ) → see (w .from) 0 (take 32 s) 0 (fileHeader m) ≡ goes y e → ys ≡ copy w 0 (take 32 s) 0 (fileHeader m)) → out₁ ≡ ys ++ drop 32 out₀ → out ≡ pasted out₁ 32 all →
+    out ≡ pasted out₀ 0 (copy w 0 s 0 (fileHeader n) ++ all)
+file-copied w s n {f} l g out₀ out₁ out ys all first e₁ e₂ =
+    let r = header-in w s n l g in
+    let y : ys ≡ copy w 0 s 0 (fileHeader n) = first n f 32 (r .0) ∙ r .1 in
+    let m : length ys ≡ 32 = ap length y ∙ r .2 in
+    e₂ ∙ (more-written out₀ out₁ ys all 32 (e₁ ∙ filled-first out₀ ys 32 m) (sym m) ∙ ap (λ (l : List ℕ). pasted out₀ 0 (l ++ all)) y)

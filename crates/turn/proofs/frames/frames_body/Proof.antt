@@ -1,0 +1,196 @@
+-- `frames::frames_body` meets its contract. The loop's invariant: what is written of the body is what stands before the next frame.
+-- The measure is how many frames are left. Assumes nothing.
+use mathlib.Core.Path.{_≡_, refl, sym, _∙_}
+use mathlib.Core.List.{List}
+use Prim.Native.Nat.{ℕ, _+_, _-_, _*_, _≤_}
+use native.Mathlib.Omega.{arith}
+use native.Mathlib.Nat.{mul-add}
+use denote.Ref.{now}
+use lib.ListN.{length}
+use lib.Seq.{length-take-le}
+use Rattle.words.specs.Numbers.{numberAt}
+use Rattle.walk.specs.See.{see, goes}
+use Rattle.rules.specs.Rules as R
+use Rattle.records.specs.Says.{Kept}
+use Rattle.table.proofs.Written.{series-reach}
+use Rattle.copies.specs.Copy.{copy}
+use Rattle.turn.proofs.Turning.{Framing, framed, framing-start, framing-more, framing-end}
+use borrow.Author.Needs.{needs}
+use Rattle.turn.proofs.frames.frames_body.Statement.{statement}
+use Rattle.turn.proofs.frames.frames_body.Tie as tie
+
+abbrev Inv-loop : tie.InvT-loop
+Inv-loop w file cs t filled size count s d₀ reserve at₀ i₀ d at i =
+    (i ≤ count) × (at ≡ 16 + size * i) × (at ≤ length s) × (length d ≡ length s) ×
+    ((b : ℕ) (c : R.Basic) (ch : List R.Channel) (hd : R.Head) (f : R.Frames) (e : ℕ) → length ch ≡ cs .count → Kept (w .from) file (cs .subs) ch → filled ≡ 24 + R.sampleBytes t ch →
+    numberAt (w .from) 4 s 0 ≡ t → numberAt (w .from) 4 s 4 ≡ size → numberAt (w .from) 4 s 8 ≡ count → R.span hd ≡ 16 + length s → see (w .from) b s b (R.framesBody c ch hd) ≡ goes f e →
+    Framing w b s d ch t size count (copy w b s b (R.framesBody c ch hd)) at i)
+
+abbrev μ-loop : tie.MeasureT-loop
+μ-loop w file cs t filled size count s d₀ reserve at₀ i₀ d at i = count - i
+
+slice-aggregate-numbers : tie.Need-slice-aggregate-numbers Inv-loop μ-loop
+slice-aggregate-numbers c = sym (length-take-le 12 (c .before .before .before .before .args .s .now) (omega arith))
+
+slice-relend-prefix-numbers : tie.Need-slice-relend-prefix-numbers Inv-loop μ-loop
+slice-relend-prefix-numbers c = search needs
+
+slice-aggregate-numbers-2 : tie.Need-slice-aggregate-numbers-2 Inv-loop μ-loop
+slice-aggregate-numbers-2 c = sym (length-take-le 12 (c .before .before .before .before .before .args .d .now) (omega arith))
+
+numbers-requires : tie.Need-numbers-requires Inv-loop μ-loop
+numbers-requires c κs = (omega arith, omega arith, length-take-le 12 (c .before .before .before .before .before .args .s .now) (omega arith), length-take-le 12 (c .before .before .before .before .before .args .d .now) (omega arith))
+
+sub-reserved : tie.Need-sub-reserved Inv-loop μ-loop
+sub-reserved c = search needs
+
+part-reserved-start : tie.Need-part-reserved-start Inv-loop μ-loop
+part-reserved-start c = search needs
+
+part-reserved-end : tie.Need-part-reserved-end Inv-loop μ-loop
+part-reserved-end c = search needs
+
+sub-reserved-2 : tie.Need-sub-reserved-2 Inv-loop μ-loop
+sub-reserved-2 c = search needs
+
+part-reserved-start-2 : tie.Need-part-reserved-start-2 Inv-loop μ-loop
+part-reserved-start-2 c = search needs
+
+part-reserved-end-2 : tie.Need-part-reserved-end-2 Inv-loop μ-loop
+part-reserved-end-2 c = search needs
+
+reserved-requires : tie.Need-reserved-requires Inv-loop μ-loop
+reserved-requires c κs = search needs
+
+loop-holds : tie.Need-loop-holds Inv-loop μ-loop
+loop-holds c =
+    let y = c .before .before in
+    let x = y .before .before .before .before .before in
+    let z = x .before .before .before .before .before .before in
+    let a = z .args in (
+      search needs,
+      omega arith,
+      search needs,
+      c .before .d2 .given .1 ∙ (c .before .before .before .before .before .before .d .given .1 ∙ z .pre .5),
+      λ b k ch hd f e n g l e₁ e₂ e₃ q v. framing-start (framed (a .w) b (now (a .s)) k ch hd q v (a .t) (a .size) (a .count) e₁ e₂ e₃) (now (a .d)) _ _ _ (z .pre .5) (x .numbers .ensures b) refl (y .reserved .ensures (b + 12)),
+    )
+
+add-end : tie.Need-add-end Inv-loop μ-loop
+add-end c = let z = c .before .before .before .before .before .before .before .before .before .before .before .before .before .before .before in
+    omega (arith, series-reach (c .before .loop .i) (z .args .count) 16 (z .args .size) (omega arith))
+
+sub-frame : tie.Need-sub-frame Inv-loop μ-loop
+sub-frame c = search needs
+
+part-frame-start : tie.Need-part-frame-start Inv-loop μ-loop
+part-frame-start c = search needs
+
+part-frame-end : tie.Need-part-frame-end Inv-loop μ-loop
+part-frame-end c = let z = c .before .before .before .before .before .before .before .before .before .before .before .before .before .before .before in
+    omega (arith, series-reach (c .before .loop .i) (z .args .count) 16 (z .args .size) (omega arith))
+
+sub-frame-2 : tie.Need-sub-frame-2 Inv-loop μ-loop
+sub-frame-2 c = search needs
+
+part-frame-start-2 : tie.Need-part-frame-start-2 Inv-loop μ-loop
+part-frame-start-2 c = search needs
+
+part-frame-end-2 : tie.Need-part-frame-end-2 Inv-loop μ-loop
+part-frame-end-2 c = let z = c .before .before .before .before .before .before .before .before .before .before .before .before .before .before .before .before in
+    omega (arith, series-reach (c .before .before .loop .i) (z .args .count) 16 (z .args .size) (omega arith))
+
+frame-requires : tie.Need-frame-requires Inv-loop μ-loop
+frame-requires c κs = search needs
+
+add-i : tie.Need-add-i Inv-loop μ-loop
+add-i c = search needs
+
+loop-less : tie.Need-loop-less Inv-loop μ-loop
+loop-less c = search needs
+
+loop-again : tie.Need-loop-again Inv-loop μ-loop
+loop-again c =
+    let y = c .before .before in
+    let x = y .before .before .before in
+    let l = x .before .loop in
+    let z = x .before .before .before .before .before .before .before .before .before .before .before .before .before .before .before in
+    let a = z .args in
+    let r : l .at + a .size ≤ length (now (a .s)) = omega (arith, series-reach (l .i) (a .count) 16 (a .size) (omega arith)) in
+    let m : l .at + a .size - l .at ≡ a .size = omega arith in (
+      search needs,
+      omega (arith, mul-add (a .size) (l .i) 1),
+      r,
+      c .before .d3 .given .1 ∙ l .inv .3,
+      λ b k ch hd f e n g j e₁ e₂ e₃ q v. framing-more (l .inv .4 b k ch hd f e n g j e₁ e₂ e₃ q v) (l .at + a .size - l .at) (l .at + a .size - l .at) _ (x .loop-test .taken) r m m (y .frame .ensures (b + l .at) _ (l .i + 1) ch n g j),
+    )
+
+sub-copy-run : tie.Need-sub-copy-run Inv-loop μ-loop
+sub-copy-run c = search needs
+
+part-copy-run-start : tie.Need-part-copy-run-start Inv-loop μ-loop
+part-copy-run-start c = search needs
+
+part-copy-run-end : tie.Need-part-copy-run-end Inv-loop μ-loop
+part-copy-run-end c = search needs
+
+sub-copy-run-2 : tie.Need-sub-copy-run-2 Inv-loop μ-loop
+sub-copy-run-2 c = search needs
+
+part-copy-run-start-2 : tie.Need-part-copy-run-start-2 Inv-loop μ-loop
+part-copy-run-start-2 c = search needs
+
+part-copy-run-end-2 : tie.Need-part-copy-run-end-2 Inv-loop μ-loop
+part-copy-run-end-2 c = search needs
+
+copy-run-requires : tie.Need-copy-run-requires Inv-loop μ-loop
+copy-run-requires c κs = search needs
+
+same-length : tie.Need-same-length Inv-loop μ-loop
+same-length c = search needs
+
+returns : tie.Need-returns Inv-loop μ-loop
+returns c =
+    let x = c .before .before .before .before .before in
+    let l = x .before .loop in
+    let z = x .before .before .before .before .before .before .before .before .before .before .before .before .before .before .before in
+    let h : l .i ≡ z .args .count = omega arith in
+    λ b k ch hd f e n g m e₁ e₂ e₃ q v. framing-end (l .inv .4 b k ch hd f e n g m e₁ e₂ e₃ q v) _ (c .before .before .before .before .before .loop-test .left) (rw h at (l .inv .1)) (l .inv .2) (c .before .before .copy-run .ensures)
+
+pub frames-body-spec : {M : Type 1} → statement M
+frames-body-spec =
+    tie.close
+    (tie.spec
+    Inv-loop
+    μ-loop
+    slice-aggregate-numbers
+    slice-relend-prefix-numbers
+    slice-aggregate-numbers-2
+    numbers-requires
+    sub-reserved
+    part-reserved-start
+    part-reserved-end
+    sub-reserved-2
+    part-reserved-start-2
+    part-reserved-end-2
+    reserved-requires
+    loop-holds
+    add-end
+    sub-frame
+    part-frame-start
+    part-frame-end
+    sub-frame-2
+    part-frame-start-2
+    part-frame-end-2
+    frame-requires
+    add-i
+    loop-less
+    loop-again
+    sub-copy-run
+    part-copy-run-start
+    part-copy-run-end
+    sub-copy-run-2
+    part-copy-run-start-2
+    part-copy-run-end-2
+    copy-run-requires
+    same-length
+    returns)
