@@ -1,0 +1,120 @@
+-- The 130 or the 200 that holds for a recording that was found: its items stand where the code's places say.
+-- Assumes nothing.
+use mathlib.Core.Path.{_≡_, refl, sym, ap, _∙_, subst}
+use mathlib.Core.Bool.{Bool, true, false}
+use mathlib.Core.List.{List, []}
+use Prim.Native.Nat.{ℕ, zero, suc, _+_, _≤_}
+use native.Mathlib.Nat.{add-assoc}
+use native.Mathlib.Omega.{arith}
+use lib.ListN.{length}
+use Rattle.words.specs.Numbers.{Bytes}
+use Rattle.words.specs.declared.Order.{Order}
+use Rattle.walk.specs.Walk.{Event, pick, passed, size}
+use Rattle.walk.specs.See.{goes, see}
+use Rattle.rules.specs.Rules as R
+use Rattle.rules.proofs.Asked.{Rest, event-rest}
+use Rattle.rules.proofs.Held.{patient-rest-holds}
+use Rattle.records.specs.declared.Kind.{Kind}
+use Rattle.records.specs.declared.Kind.the-variants as Kind
+use Rattle.judge.specs.declared.tables.Held.{Held}
+use Rattle.judge.specs.declared.tables.Held.the-variants as Held
+use Rattle.judge.specs.declared.tables.Places.{Places}
+use Rattle.questions.specs.Answers.{Answer, refusal, outside, numbered, indexed}
+use Rattle.questions.specs.Questions.{Chosen, recordingOf, startOf, heldAt, at130, itemsOf, itemsAt, itemIn, itemOf}
+use Rattle.questions.specs.Found.{FoundIn, eventsIn, holdingOf}
+use Rattle.questions.specs.declared.items.Entry.{Entry}
+use Rattle.questions.proofs.Chosen.{One, ChosenIn, chosen-in}
+use Rattle.questions.proofs.Standing.{found-seen, found-ends}
+use Rattle.questions.proofs.Entries.{items-inside}
+
+-- items that the walk of a 130 or a 200 at `at` comes to
+pub record ItemsSeen (o : Order) (s : List ℕ) (at : ℕ) (is : List R.Item) : Type 0 where
+  pub ok : ℕ → Bool
+  pub room : ℕ
+  pub head : R.Head
+  pub end : ℕ
+  pub ends : end ≤ length s
+  pub seen : see o 0 s (at + 16) (R.items ok room head) ≡ goes is end
+
+pub items-seen-inside : {o : Order} {s : List ℕ} {at : ℕ} {is : List R.Item} → ItemsSeen o s at is → at ≤ length s
+items-seen-inside {o} {s} {at} x = omega (arith, items-inside o s at (x .ok) (x .room) (x .head) (x .ends) (x .seen))
+
+-- in an accepted file, of recording k, from 0
+module _ (s : List ℕ) (b : Bytes s) {v : R.File} {t : List Event} (h : R.judge s ≡ passed v [] t) (k : ℕ) (d : R.Placed) (one : One (v .recordings) k d) where
+  rest-items : (ok : ℕ → Bool) {is : List R.Item} (at n : ℕ) → Rest t (R.items ok) is (at + (n + 16)) → ItemsSeen (R.orderOf s) s (at + n) is
+  rest-items ok at n x = record {
+    ok = ok;
+    room = x .room;
+    head = x .head;
+    end = at + (n + 16) + size (x .found .events);
+    ends = found-ends s b h (x .found);
+    seen = rw add-assoc (found-seen s b h (x .found));
+  }
+
+  abbrev itself : Chosen
+  itself = record { all = v .recordings; index = k; this = d }
+
+  patient-items : ItemsSeen (R.orderOf s) s (at130 itself) (d .recording .patient)
+  unfolding heldAt
+  patient-items = rest-items R.patientCode _ _ (rw (one .is d) at (patient-rest-holds s b h d k (one .inside)))
+
+  event-items : d .recording .ownEvents ≡ true → ItemsSeen (R.orderOf s) s (startOf itself + d .layout .at200) (d .recording .events)
+  event-items own = rest-items R.eventCode _ _ (rw (one .is d) at (event-rest s b h d k (one .inside) (rw (one .is d) own)))
+
+-- a recording that was refused
+pub asked-refused : (k : Kind) (s : List ℕ) (i j : ℕ) {n p : ℕ} → recordingOf s i ≡ refusal n p → refusal n p ≡ itemOf k s i j
+asked-refused k s i j h = rw h
+
+numbered-none : {A : Type 0} (j : ℕ) → numbered {A = A} [] j ≡ outside
+unfolding numbered indexed
+numbered-none zero = refl
+numbered-none (suc j) = refl
+
+-- a recording that was found
+module _ {s : List ℕ} {i : ℕ} {o : Order} {q : Places} {r : Chosen} (f : FoundIn s i o q r) where
+  abbrev chosen : ChosenIn s i r
+  chosen = chosen-in s (f .bytes) i r (f .is)
+
+  abbrev again : List R.Placed → Chosen
+  again x = record { all = x; index = r .index; this = r .this }
+
+  patient-held : ItemsSeen o s (at130 r) (r .this .recording .patient)
+  patient-held =
+      subst (λ (x : List R.Placed). ItemsSeen o s (at130 (again x)) (r .this .recording .patient)) (sym (chosen .all))
+      (rw (f .order) (patient-items s (f .bytes) (chosen .judged) (r .index) (r .this) (chosen .one)))
+
+  events-held : r .this .recording .ownEvents ≡ true → ItemsSeen o s (startOf r + r .this .layout .at200) (r .this .recording .events)
+  events-held own =
+      subst (λ (x : List R.Placed). ItemsSeen o s (startOf (again x) + r .this .layout .at200) (r .this .recording .events)) (sym (chosen .all))
+      (rw (f .order) (event-items s (f .bytes) (chosen .judged) (r .index) (r .this) (chosen .one) own))
+
+  -- where the code holds a place, the items that hold stand there
+  holds-at : (k : Kind) (at : ℕ) → holdingOf k q ≡ Held.At at → ItemsSeen o s at (itemsOf k r) × (at ≡ itemsAt k r)
+  holds-at Kind.Patient at h = let e : at ≡ at130 r = cc in (rw e patient-held, e)
+  holds-at Kind.Event at h = go (r .this .recording .ownEvents) refl (sym (ap (holdingOf Kind.Event) (f .same)) ∙ h)
+    where
+      go : (b : Bool) → r .this .recording .ownEvents ≡ b → eventsIn b (pick b (startOf r + r .this .layout .at200) 0) ≡ Held.At at →
+          ItemsSeen o s at (pick b (r .this .recording .events) []) × (at ≡ startOf r + r .this .layout .at200)
+      go true own g = let e : at ≡ startOf r + r .this .layout .at200 = cc in (rw e (events-held own), e)
+      go false own g = absurd (let z : _≡_ {A = ℕ} 0 1 = cc in omega arith)
+
+  -- where it holds none, there are none
+  holds-nothing : (k : Kind) → holdingOf k q ≡ Held.Nothing → itemsOf k r ≡ []
+  holds-nothing Kind.Patient h = absurd (let z : _≡_ {A = ℕ} 0 1 = cc in omega arith)
+  holds-nothing Kind.Event h = go (r .this .recording .ownEvents) (sym (ap (holdingOf Kind.Event) (f .same)) ∙ h)
+    where
+      go : (b : Bool) → eventsIn b (pick b (startOf r + r .this .layout .at200) 0) ≡ Held.Nothing → pick b (r .this .recording .events) [] ≡ []
+      go true g = absurd (let z : _≡_ {A = ℕ} 0 1 = cc in omega arith)
+      go false g = refl
+
+  pub asked-nothing : (k : Kind) (j : ℕ) → holdingOf k q ≡ Held.Nothing → refusal 19 0 ≡ itemOf k s i j
+  unfolding itemIn
+  asked-nothing k j h = rw (f .is, itemIn, holds-nothing k h, numbered-none j)
+
+  pub asked-inside : (k : Kind) (at : ℕ) → holdingOf k q ≡ Held.At at → at ≤ length s
+  asked-inside k at h = items-seen-inside (holds-at k at h .0)
+
+  -- what is said of the items at a place
+  pub asked-item : (k : Kind) (at j : ℕ) (a : Answer Entry) → holdingOf k q ≡ Held.At at →
+      ((ok : ℕ → Bool) (room : ℕ) (h : R.Head) (is : List R.Item) (e : ℕ) → e ≤ length s → see o 0 s (at + 16) (R.items ok room h) ≡ goes is e → a ≡ itemIn is at j) → a ≡ itemOf k s i j
+  asked-item k at j a h says = let x = holds-at k at h in rw (f .is, ← x .1) (says (x .0 .ok) (x .0 .room) (x .0 .head) (itemsOf k r) (x .0 .end) (x .0 .ends) (x .0 .seen))

@@ -1,0 +1,126 @@
+-- The answers to the questions about a channel, a frame's clock and samples, from what the code found in the file.
+-- Assumes nothing.
+use mathlib.Core.Path.{_≡_, refl, sym, ap, _∙_}
+use mathlib.Core.Bool.{Bool, true, false}
+use mathlib.Core.List.{List, map}
+use Prim.Native.Nat.{ℕ, _+_, _-_, _*_, _≤_, _<_}
+use native.Mathlib.Nat.{mul-le-mul-left}
+use native.Mathlib.Omega.{arith}
+use borrow.Author.Tests.{eq-eqb, ne-eqb}
+use borrow.Rule.Slice.PartAt.{slPart}
+use denote.Ref.{RefT}
+use lib.ListN.{length, getD}
+use Rattle.words.specs.Numbers.{bytesAt, numberAt}
+use Rattle.words.specs.declared.Order.{Order}
+use Rattle.walk.specs.Walk.{size}
+use Rattle.walk.specs.See.{goes, see}
+use Rattle.rules.specs.Rules as R
+use Rattle.rules.specs.Places.{bytesBefore, holder}
+use Rattle.rules.specs.Reading.{Value, valueOf}
+use Rattle.rules.proofs.Held.{channel-holds-at}
+use Rattle.rules.proofs.Places.{found-at}
+use Rattle.judge.specs.declared.tables.Places.{Places}
+use Rattle.questions.specs.Answers.{Answer, value, refusal, _>>=_}
+use Rattle.questions.specs.Found.{FoundIn, FrameIn, RunIn}
+use Rattle.questions.specs.Questions.{Chosen, recordingOf, heldAt, at120, channelOf, ChosenFrame, frameOf, clockOf, Samples, samplesOf, countOf, sampleOf, viewOf, Shows}
+use Rattle.questions.specs.Values.{numberIn, textAt, descriptorOf, timeOf}
+use Rattle.questions.specs.declared.channels.Descriptor.{Descriptor}
+use Rattle.questions.specs.declared.channels.Text.{Text}
+use Rattle.questions.specs.declared.frames.Number.{Number}
+use Rattle.questions.specs.declared.frames.Run.{Run}
+use Rattle.questions.specs.declared.frames.Time.{Time}
+use Rattle.questions.proofs.Chosen.{indexed-out, numbered-out, numbered-one, One, chosen-in}
+use Rattle.questions.proofs.Standing.{found-seen}
+use Rattle.questions.proofs.Framing.{numbered-some, this-one}
+
+-- A channel
+
+-- where the record stands that holds, in the file's own recordings
+held-place : (own : R.Recording → Bool) (place : R.Layout → ℕ) (r : Chosen) {ps : List R.Placed} → r .all ≡ ps →
+    let k = holder own (r .this .recording) (r .index) (map (λ (p : R.Placed). p .recording) ps) in
+    heldAt own place r ≡ 32 + bytesBefore k ps + place (getD ps k (r .this) .layout)
+unfolding heldAt
+held-place own place r e = rw (← e)
+
+pub channel-refused : (s : List ℕ) (i j : ℕ) {n p : ℕ} → recordingOf s i ≡ refusal n p → refusal n p ≡ channelOf s i j
+channel-refused s i j h = rw h
+
+module _ {s : List ℕ} {i : ℕ} {o : Order} {q : Places} {r : Chosen} (h : FoundIn s i o q r) (j : ℕ) where
+  pub channel-outside : R.between 1 (q .count) j ≡ false → refusal 19 0 ≡ channelOf s i j
+  channel-outside t = rw (h .is, numbered-out (r .this .recording .channels) j (rw (h .owned .0 .0) t))
+
+  -- its record 125 stands where the code looks for it
+  channel-seen : (c : R.Channel) → 1 ≤ j → One (r .this .recording .channels) (j - 1) c → (room : ℕ) × (end : ℕ) × (see o 0 s (at120 r + (32 + 256 * (j - 1))) (R.channel room j) ≡ goes c end)
+  channel-seen c l n =
+      let x = chosen-in s (h .bytes) i r (h .is) in
+      let e = this-one s (h .bytes) i r x in
+      let m : 1 + (j - 1) ≡ j = omega arith in
+      let g = rw (e, n .is c, m) at (channel-holds-at s (h .bytes) (x .judged) (r .this) (r .index) (x .one .inside) c (j - 1) (rw e (n .inside))) in
+      let f = found-at {q = at120 r + (32 + 256 * (j - 1))} (g .1) (omega (arith, held-place (λ (y : R.Recording). y .ownChannels) (λ (y : R.Layout). y .at120) r (x .all))) in
+      (g .0, at120 r + (32 + 256 * (j - 1)) + size (f .events), rw (h .order) (found-seen s (h .bytes) (x .judged) f))
+
+  pub channel-told : R.between 1 (q .count) j ≡ true → (d : Descriptor) →
+      ((room n : ℕ) (c : R.Channel) (e : ℕ) → see o 0 s (q .channels + 32 + 256 * (j - 1)) (R.channel room n) ≡ goes c e → d ≡ descriptorOf c (q .channels + 32 + 256 * (j - 1))) → value d ≡ channelOf s i j
+  channel-told t d told =
+      let y = numbered-some (r .this .recording .channels) j (rw (h .owned .0 .0) t) in
+      let n = numbered-one (r .this .recording .channels) j (y .1) in
+      let x = channel-seen (y .0) (n .0) (n .1) in
+      let a : q .channels ≡ at120 r = ap (λ (p : Places). p .channels) (h .same) in
+      let e : q .channels + 32 + 256 * (j - 1) ≡ at120 r + (32 + 256 * (j - 1)) = omega arith in
+      rw (h .is, y .1) (ap value (told (x .0) j (y .0) (x .1) (rw e (x .2)) ∙ ap (descriptorOf (y .0)) e))
+
+-- A clock
+
+pub clock-refused : (s : List ℕ) (i j : ℕ) {n p : ℕ} → frameOf s i j ≡ refusal n p → refusal n p ≡ clockOf s i j
+clock-refused s i j h = rw h
+
+pub clock-told : {s : List ℕ} {i j : ℕ} {o : Order} {q : Places} {at : ℕ} {f : ChosenFrame} → FrameIn s i j o q at f → (d : Time) →
+    ((size t : ℕ) (cs : List R.Channel) (room n : ℕ) (g : R.Frame) (e : ℕ) → see o 0 s at (R.frame size t cs room n) ≡ goes g e → d ≡ timeOf g) → value d ≡ clockOf s i j
+clock-told {q} {f} h d told =
+    rw (h .is) (ap value (told (q .frame) (q .seconds) (f .of .this .recording .channels) (h .room) _ (h .seen .value) (h .seen .end) (h .seen .is) ∙ ap timeOf (h .seen .kept)))
+
+-- Samples
+
+pub count-refused : (s : List ℕ) (i j k : ℕ) {n p : ℕ} → samplesOf s i j k ≡ refusal n p → refusal n p ≡ countOf s i j k
+count-refused s i j k h = rw h
+
+pub sample-refused : (s : List ℕ) (i j k m : ℕ) {n p : ℕ} → samplesOf s i j k ≡ refusal n p → refusal n p ≡ sampleOf s i j k m
+sample-refused s i j k m h = rw h
+
+pub view-refused : (s : List ℕ) (i j k : ℕ) {n p : ℕ} → samplesOf s i j k ≡ refusal n p → viewOf s i j k ≡ textAt 0 0
+view-refused s i j k h = rw h
+
+-- a part of the file, as the code makes it
+pub shown : (file : RefT (List ℕ)) (a e γ : ℕ) {p : Text} → p ≡ textAt a (e - a) → Shows file p (slPart file (a + file .ptr .1) a e γ)
+unfolding bytesAt
+shown file a e γ h = rw h (record { bytes = refl; block = refl; offset = omega arith })
+
+-- the answer of one of them
+abbrev said : Answer Value → Answer Number
+said a = a >>= λ v. value (numberIn v)
+
+-- sample m stands among them
+pub among : (at w m n L : ℕ) → m < n → at + w * n ≤ L → at + w * m + w ≤ L
+among at w m n L h l = omega (arith, mul-le-mul-left w h)
+
+module _ {s : List ℕ} {i j k : ℕ} {o : Order} {run : Run} {x : Samples} (h : RunIn s i j k o run x) where
+  pub count-told : value (run .count) ≡ countOf s i j k
+  count-told = rw (h .is) (ap (λ (r : Run). value (r .count)) (h .same))
+
+  many : length (x .values) ≡ run .count
+  many = sym (ap (λ (r : Run). r .count) (h .same))
+
+  pub sample-outside : (m : ℕ) → run .count ≤ m → refusal 19 0 ≡ sampleOf s i j k m
+  sample-outside m l = rw (h .is) (sym (ap said (indexed-out (x .values) m (omega (arith, many)))))
+
+  pub sample-told : (m w : ℕ) → w ≡ R.width (run .format) → m < run .count → (d : Number) →
+      d ≡ numberIn (valueOf (run .format) (R.width (run .format)) (numberAt o (R.width (run .format)) s (run .at + w * m))) → value d ≡ sampleOf s i j k m
+  sample-told m w e l d g = rw (h .is) (ap value (rw e at g) ∙ sym (ap said (h .each m l)))
+
+  pub view-none : run .count ≡ 0 → viewOf s i j k ≡ textAt 0 0
+  view-none e = rw (h .is, eq-eqb (length (x .values)) 0 (many ∙ e))
+
+  pub view-told : (w : ℕ) → w ≡ R.width (run .format) → (run .count ≡ 0 → ⊥) → viewOf s i j k ≡ textAt (run .at) (run .at + w * run .count - run .at)
+  view-told w e z =
+      let d : run .at + w * run .count - run .at ≡ R.width (run .format) * run .count = rw e (omega arith) in
+      rw (h .is, ne-eqb (length (x .values)) 0 (λ y. z (sym many ∙ y)), d) (sym (ap (λ (r : Run). textAt (r .at) (R.width (r .format) * r .count)) (h .same)))

@@ -1,0 +1,20 @@
+-- `questions::count` meets its contract: from the samples found, by the laws of Replies.
+-- Assumes nothing.
+use borrow.Author.Needs.{needs}
+use Rattle.questions.proofs.Replies.{count-refused, count-told}
+use Rattle.questions.proofs.count.Statement.{statement}
+use Rattle.questions.proofs.count.Tie as tie
+
+returns : tie.Need-returns
+returns c =
+    let x = c .before in
+    let y = rw (x .ran .given .1) at (x .before .before .samples-asked .ensures) in
+    count-told (y .1)
+
+returns-2 : tie.Need-returns-2
+returns-2 c =
+    let x = c .before in
+    count-refused _ _ _ _ (rw (x .ran2 .given .1) at (x .before .before .samples-asked .ensures))
+
+pub count-spec : {M : Type 1} → statement M
+count-spec = tie.close (tie.spec (λ c κs. search needs) (λ c. search needs) (λ c. search needs) returns returns-2)

@@ -1,0 +1,5 @@
+pub mod Answers
+pub mod Values
+pub mod Questions
+pub mod Meanings
+pub mod Found
