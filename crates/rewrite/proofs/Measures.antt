@@ -1,0 +1,328 @@
+-- The sizes of the canonical form; heads and the file header, written piece by piece; and that the code measures the shape of the recording that the walk accepted.
+-- Assumes nothing.
+use mathlib.Core.Path.{_≡_, refl, sym, ap, _∙_}
+use mathlib.Core.Bool.{Bool, true, false, _&&_, _||_}
+use mathlib.Core.List.{List, [], _∷_, _++_, append-assoc, append-nil}
+use Prim.Native.Nat.{ℕ, _+_, _-_, _*_, _/_, _%_, _≤_, _<_}
+use native.Mathlib.Nat.{mul-le-mul-left, mul-comm}
+use native.Mathlib.Omega.{arith}
+use borrow.Author.Tests.{leb-true, le-leb, lt-leb, lt-ltb, le-ltb, ltb-true, ltb-false, eqb-true}
+use lib.Dec.{leb, ltb, eqb}
+use lib.ListN.{length, take, drop, set, replicate, length-append, length-drop}
+use lib.Seq.{take-all, take-at, length-take-le}
+use Rattle.words.specs.Numbers.{bytesIn, numberAt}
+use Rattle.words.specs.declared.Order.{Order}
+use Rattle.words.proofs.Words.{length-bytesIn}
+use Rattle.words.proofs.Runs.{part-pasted, set-pasted}
+use Rattle.walk.specs.Walk as W
+use Rattle.walk.specs.Walk.{Letter, Text, laid, render, Walk, give, _>>=_, _>>_, require}
+use Rattle.walk.specs.See.{stops, goes, see, over}
+use Rattle.walk.proofs.Laid.{length-laid}
+use Rattle.walk.proofs.Seen.{over-goes, and-left, and-right, see-body, body-length}
+use Rattle.rules.specs.Rules as R
+use Rattle.rules.specs.Canonical as C
+use Rattle.rules.specs.declared.Head as At
+use Rattle.rules.proofs.Room.{stays-framesBody}
+use Rattle.rules.proofs.Sized.{sized, length-times, length-once, none-where-it-fits}
+use Rattle.records.specs.Says.{headOf, Headroom, headroom}
+use Rattle.judge.proofs.FramesBody.{between-most, size-fits}
+use Rattle.judge.proofs.Opened.{laid-text}
+use Rattle.table.proofs.Lists.{gate-went, went-first, goes-same, admit-went, require-went, frames-refused}
+use Rattle.rewrite.specs.Shapes.{sizedFor, limit, shapeFor, measure, Bounded, Given, ShapeOf}
+use Rattle.rewrite.specs.declared.shapes.Sized.{Sized}
+use Rattle.rewrite.specs.declared.shapes.Shape.{Shape}
+use Rattle.rewrite.specs.declared.shapes.Shaped.{Shaped}
+use Rattle.rewrite.specs.declared.shapes.Shaped.the-variants as Shaped
+use Rattle.rewrite.proofs.Lengths.{Accepted}
+use Rattle.copies.proofs.Pieces.{put}
+
+-- a product of two numbers of four bytes
+pub product : (n m : ℕ) → n < 4294967296 → m < 4294967296 → n * m ≤ 18446744065119617025
+product n m h k = let l : m ≤ 4294967295 = omega arith in omega (arith, mul-le-mul-left n l)
+
+-- sizes
+
+abbrev Serves : ℕ → Sized → Type 0
+Serves n r = (r ≡ sizedFor n) × (n ≤ r .length) × (r .length < n + 128)
+
+pub serves-once : (n : ℕ) → n ≤ C.most → Serves n (record { size = n; multiplier = 0; length = n })
+unfolding C.sizeFor
+serves-once n h =
+    let s : C.sizeFor n ≡ n = rw (C.sizeFor, le-leb n C.most h) in
+    (rw (none-where-it-fits n h, s, length-once), omega arith, omega arith)
+
+module _ (n : ℕ) (h : C.most < n) (k : n ≤ limit) where
+  abbrev times : ℕ
+  times = C.shares n C.most
+
+  is-times : C.multiplierFor n ≡ times
+  unfolding C.multiplierFor
+  is-times = rw (C.multiplierFor, lt-leb n C.most h)
+
+  is-share : C.sizeFor n ≡ C.shares n times
+  unfolding C.sizeFor
+  is-share = rw (C.sizeFor, lt-leb n C.most h, is-times)
+
+  pub share-small : C.shares n times ≤ C.most
+  share-small = rw (← is-share) (sized n .small)
+
+  times-low : (1 ≤ times) × (times ≤ 128)
+  times-low = (omega arith, rw (← is-times) (sized n .low k))
+
+  is-product : R.lengthOf (C.sizeFor n) (C.multiplierFor n) ≡ C.shares n times * times
+  is-product = rw (is-times, is-share) (length-times (C.shares n times) times (times-low .0))
+
+  pub serves-more : Serves n (record { size = C.shares n times; multiplier = times; length = C.shares n times * times })
+  serves-more =
+      let z = sized n in
+      let m = is-times in
+      let e = is-product in
+      let l = times-low .1 in
+      (rw (e, is-times, is-share), omega (arith, z .serves), omega (arith, z .close))
+
+-- what is measured
+
+module _ (at end last seconds size filled count : ℕ) where
+  abbrev frames : ℕ
+  frames = 32 + filled * count
+
+  abbrev whole : ℕ
+  whole = 16 + (at + sizedFor frames .length + (last - end))
+
+  pub measure-long : limit < frames → Shaped.Nothing ≡ measure at end last seconds size filled count
+  unfolding measure
+  measure-long h = rw (measure, lt-leb frames limit h)
+
+  pub measure-over : (s : Sized) → s ≡ sizedFor frames → frames ≤ limit → limit < 16 + (at + s .length + (last - end)) → Shaped.Nothing ≡ measure at end last seconds size filled count
+  unfolding measure
+  measure-over s e h k = rw (measure, le-leb frames limit h, lt-leb whole limit (rw e at k))
+
+  pub measure-on : (s w : Sized) → s ≡ sizedFor frames → w ≡ sizedFor (16 + (at + s .length + (last - end))) → frames ≤ limit → 16 + (at + s .length + (last - end)) ≤ limit →
+      Shaped.On (record { at = at; end = end; last = last; seconds = seconds; size = size; filled = filled; count = count; signals = s; whole = w }) ≡ measure at end last seconds size filled count
+  unfolding measure
+  measure-on s w e g h k = rw (measure, g, e, le-leb frames limit h, le-leb whole limit (rw e at k))
+
+  -- its bounds, whatever the bytes are
+  pub measure-bounded : (n : ℕ) → seconds ≤ 3600 → 24 ≤ filled → filled ≤ size → size < 4294967296 → at + 32 + size * count ≤ end → end ≤ last → last ≤ n → Bounded n (measure at end last seconds size filled count)
+  unfolding measure
+  measure-bounded n h₁ h₂ h₃ h₄ h₅ h₆ h₇ = go (leb frames limit) (leb whole limit) refl refl
+    where
+      go : (x y : Bool) → leb frames limit ≡ x → leb whole limit ≡ y → Bounded n (measure at end last seconds size filled count)
+      go true true p q =
+          let w = sized whole in
+          let l = leb-true whole limit q in
+          rw (measure, p, q) (record { seconds = h₁; low = h₂; fits = h₃; small = h₄; frames = h₅; end = h₆; last = h₇; signals = sized frames .serves; whole = w .serves; most = omega (arith, l, w .close, w .low l) })
+      go true false p q = rw (measure, p, q) tt
+      go false y p q = rw (measure, p) tt
+
+  pub measure-given : (P : Shape → Type 0) → frames ≤ limit → whole ≤ limit → P (shapeFor at end last seconds size filled count) → Given (measure at end last seconds size filled count) P
+  unfolding measure
+  measure-given P h k p = rw (measure, le-leb frames limit h, le-leb whole limit k) p
+
+-- the digits of a number
+
+pub one-digit : (k : ℕ) → k < 10 → C.digits k ≡ (48 + k) ∷ 32 ∷ 32 ∷ 32 ∷ []
+unfolding C.digits
+one-digit k h = rw (C.digits, lt-ltb k 10 h)
+
+pub two-digits : (k : ℕ) → 10 ≤ k → C.digits k ≡ (48 + k / 10) ∷ (48 + k % 10) ∷ 32 ∷ 32 ∷ []
+unfolding C.digits
+two-digits k h = rw (C.digits, le-ltb k 10 h)
+
+length-digits : (k : ℕ) → length (C.digits k) ≡ 4
+length-digits k = go (ltb k 10) refl
+  where
+    go : (x : Bool) → ltb k 10 ≡ x → length (C.digits k) ≡ 4
+    go true e = ap length (one-digit k (ltb-true k 10 e))
+    go false e = ap length (two-digits k (ltb-false k 10 e))
+
+-- bytes written front to back into a buffer of m bytes: those of `all`, but for what is left of them
+
+record Begun (m : ℕ) (all d : List ℕ) (n : ℕ) (rest : List ℕ) : Type 0 where
+  long : length d ≡ m
+  is : all ≡ take n d ++ rest
+
+module _ {m : ℕ} {all : List ℕ} where
+  begun : (d : List ℕ) → length d ≡ m → Begun m all d 0 all
+  begun d h = record { long = h; is = refl }
+
+  begun-more : (d : List ℕ) (n k : ℕ) (xs ys rest : List ℕ) → ys ≡ xs → length xs ≡ k → n + k ≤ m → Begun m all d n (xs ++ rest) → Begun m all (put n k d ys) (n + k) rest
+  begun-more d n k xs ys rest e h f b =
+      let i : length ys ≡ k = ap length e ∙ h in
+      let j : length (take n d) ≡ n = length-take-le n d (omega (arith, b .long)) in
+      let r : take (n + k) (put n k d ys) ≡ take n d ++ ys = rw (← append-assoc) (take-at (take n d ++ ys) (drop k (drop n d)) (n + k) (length-append (take n d) ys ∙ omega arith)) in
+      record {
+        long = length-append (take n d) (ys ++ drop k (drop n d)) ∙ omega (arith, length-append ys (drop k (drop n d)), length-drop k (drop n d), length-drop n d, b .long);
+        is = b .is ∙ rw (r, append-assoc, e);
+      }
+
+  -- up to the end
+  begun-end : (d : List ℕ) (n : ℕ) (xs ys : List ℕ) → ys ≡ xs → n + length xs ≡ m → Begun m all d n (xs ++ []) → put n (length d - n) d ys ≡ all
+  begun-end d n xs ys e h b =
+      let i : length xs ≡ length d - n = omega (arith, b .long) in
+      let g = begun-more d n (length d - n) xs ys [] e i (omega arith) b in
+      sym (g .is ∙ (append-nil _ ∙ take-all (n + (length d - n)) _ (omega (arith, g .long))))
+
+  -- a single byte
+  begun-byte : (d : List ℕ) (n v : ℕ) (xs rest : List ℕ) → xs ≡ v ∷ [] → n < m → Begun m all d n (xs ++ rest) → Begun m all (set d n v) (n + 1) rest
+  begun-byte d n v xs rest e h b =
+      let p : set d n v ≡ put n 1 d (v ∷ []) = set-pasted d n v (omega (arith, b .long)) ∙ sym (part-pasted d (v ∷ []) n 1 refl) in
+      rw p (begun-more d n 1 xs (v ∷ []) rest (sym e) (ap length e) (omega arith) b)
+
+  begun-text : (o : Order) (d : List ℕ) (n k : ℕ) (xs ys rest : List ℕ) → ys ≡ xs → length xs ≡ k → n + k ≤ m → Begun m all d n (laid o Text xs ++ rest) → Begun m all (put n k d ys) (n + k) rest
+  begun-text o d n k xs ys rest e h f b = begun-more d n k (laid o Text xs) ys rest (e ∙ sym (laid-text o xs)) (length-laid o Text xs ∙ h) f b
+
+pub head-written : (o : Order) (h : R.Head) (d y₁ y₂ y₃ y₄ : List ℕ) → length d ≡ 16 →
+    y₁ ≡ bytesIn o 4 (h .size) → y₂ ≡ bytesIn o 4 (h .code) → y₃ ≡ bytesIn o 4 (h .serial) → y₄ ≡ bytesIn o 4 (h .multiplier) →
+    let d₃ = put 8 4 (put 4 4 (put 0 4 d y₁) y₂) y₃ in
+    put 12 (length d₃ - 12) d₃ y₄ ≡ render o (C.numerals h)
+unfolding render
+head-written o h d y₁ y₂ y₃ y₄ l e₁ e₂ e₃ e₄ =
+    begun-end _ 12 _ y₄ e₄ (omega (arith, length-bytesIn o 4 (h .multiplier)))
+    (begun-more _ 8 4 _ y₃ _ e₃ (length-bytesIn o 4 (h .serial)) (omega arith)
+    (begun-more _ 4 4 _ y₂ _ e₂ (length-bytesIn o 4 (h .code)) (omega arith)
+    (begun-more d 0 4 _ y₁ _ e₁ (length-bytesIn o 4 (h .size)) (omega arith) (begun d l))))
+
+pub header-written : (o : Order) (script count letter : ℕ) (d y₁ y₂ y₃ y₄ y₅ : List ℕ) → length d ≡ 32 →
+    y₁ ≡ R.identifier → y₂ ≡ R.version → y₃ ≡ R.form → laid o Letter (76 ∷ []) ≡ letter ∷ [] → y₄ ≡ C.digits count → y₅ ≡ replicate 10 32 →
+    let d₆ = put 18 4 (set (set (put 14 2 (put 8 6 (put 0 8 d y₁) y₂) y₃) 16 letter) 17 script) y₄ in
+    put 22 (length d₆ - 22) d₆ y₅ ≡ render o (C.headerEvents script count)
+unfolding render C.headerEvents R.identifier R.version R.form
+header-written o script count letter d y₁ y₂ y₃ y₄ y₅ l e₁ e₂ e₃ e₄ e₅ e₆ =
+    begun-end _ 22 _ y₅ (e₆ ∙ sym (laid-text o (replicate 10 32))) (omega (arith, length-laid o Text (replicate 10 32)))
+    (begun-text o _ 18 4 (C.digits count) y₄ _ e₅ (length-digits count) (omega arith)
+    (begun-byte _ 17 script _ _ (laid-text o (script ∷ [])) (omega arith)
+    (begun-byte _ 16 letter _ _ e₄ (omega arith)
+    (begun-text o _ 14 2 R.form y₃ _ e₃ refl (omega arith)
+    (begun-text o _ 8 6 R.version y₂ _ e₂ refl (omega arith)
+    (begun-text o d 0 8 R.identifier y₁ _ e₁ refl (omega arith) (begun d l)))))))
+
+-- what the code's test of the frames says where it holds
+pub both-true : (a b c d : ℕ) (r : Bool) → r ≡ leb a b && leb c d → r ≡ true → (a ≤ b) × (c ≤ d)
+both-true a b c d r is holds =
+    let t : leb a b && leb c d ≡ true = sym is ∙ holds in
+    (leb-true a b (and-left (leb a b) (leb c d) t), leb-true c d (and-right (leb a b) (leb c d) t))
+
+-- the body of a 140 that the walk accepted: what its three numbers say
+pub record Fields (t size n : ℕ) (cs : List R.Channel) (counts : R.Basic) (f : R.Frames) (bytes : ℕ) : Type 0 where
+  pub seconds : f .seconds ≡ t
+  pub short : t ≤ 3600
+  pub long : 24 + R.sampleBytes t cs ≤ size
+  pub count : n ≡ counts .frames
+  pub fits : 32 + n * size ≤ bytes
+
+-- what is given behind a walk and padding
+padded-gave : {A B : Type 0} (o : Order) (b : ℕ) (s : List ℕ) (at : ℕ) (w : Walk A) (n : ℕ) (r : A → B) {y : B} {e : ℕ} → see o b s at (w >>= λ a. R.padding n >> give (r a)) ≡ goes y e → (a : A) × (y ≡ r a)
+unfolding see _>>_
+padded-gave o b s at w n r g =
+    let x = went-first o b s at w (λ a. R.padding n >> give (r a)) g in
+    let z = went-first o b s (x .end) (R.padding n) (λ _. give (r (x .value))) (x .kept) in
+    (x .value, sym (goes-same (z .kept) .0))
+
+fields-told : (o : Order) (b : ℕ) (s : List ℕ) (c : R.Basic) (cs : List R.Channel) (h : R.Head) {f : R.Frames} {e : ℕ} → see o b s b (R.framesBody c cs h) ≡ goes f e → Fields (numberAt o 4 s 0) (numberAt o 4 s 4) (numberAt o 4 s 8) cs c f (R.span h)
+unfolding R.framesBody see _>>=_ _>>_
+fields-told o b s c cs h g =
+    let t : ℕ = numberAt o 4 s 0 in
+    let size : ℕ = numberAt o 4 s 4 in
+    let n : ℕ = numberAt o 4 s 8 in
+    let z₀ : b - b ≡ 0 = omega arith in
+    let z₁ : b + 4 - b ≡ 4 = omega arith in
+    let z₂ : b + 4 + 4 - b ≡ 8 = omega arith in
+    let g₁ = gate-went _ _ _ _ (rw (z₀, z₁, z₂) at g) in
+    let g₂ = gate-went _ _ _ _ (g₁ .1) in
+    let g₃ = gate-went _ _ _ _ (g₂ .1) in
+    let g₄ = gate-went _ _ _ _ (g₃ .1) in
+    let g₅ = gate-went _ _ _ _ (g₄ .1) in
+    let w : Walk (List R.Frame) = R.series n 1 size (R.span h - 32) (R.frame size t cs) in
+    let r : List R.Frame → R.Frames = λ fs. record { seconds = t; frames = fs; size = size; padded = n * (size - (24 + R.sampleBytes t cs)) + (R.span h - (32 + n * size)) } in
+    record {
+      seconds = ap (λ (f : R.Frames). f .seconds) (padded-gave o b s (b + 4 + 4 + 4 + 4) w (R.span h - (32 + n * size)) r (g₅ .1) .1);
+      short = between-most 1 3600 t (g₁ .0);
+      long = size-fits (R.sampleBytes t cs) size (g₃ .0) .0;
+      count = eqb-true n (c .frames) (g₄ .0);
+      fits = leb-true _ _ (and-left _ _ (g₅ .0));
+    }
+
+-- a recording's body s that the walk accepted, with the 140 at byte `at` of it
+module _ {o : Order} {base : ℕ} {s : List ℕ} {x : R.Placed} (v : Accepted o base s x) (at : ℕ) (is : 16 + at ≡ x .layout .at140) where
+  stands : see o base s (base + at) (R.head (length s - at)) ≡ goes (v .top) (base + (at + 16))
+  stands = let e : v .at ≡ at = omega (arith, v .place) in rw e at (v .stands)
+
+  -- its head is read
+  pub shape-unread : {n p : ℕ} → see o base s (base + at) (R.head (length s - at)) ≡ stops n p → ⊥
+  shape-unread g = let k = stands in let z : _≡_ {A = ℕ} 0 1 = cc in omega arith
+
+  -- h: the code's head
+  module _ (h : At.Head) (found : see o base s (base + at) (R.head (length s - at)) ≡ goes (headOf h) (base + (h .at + 16))) (here : h .at ≡ at) where
+    same-head : v .top ≡ headOf h
+    same-head = goes-same (sym stands ∙ found) .0
+
+    went : see o base s (base + (h .at + 16)) (R.frames (v .counts) (v .own) (x .recording .channels) (v .back) (length s - h .at) (headOf h)) ≡ goes (v .value) (base + (h .at + R.span (headOf h)))
+    went = let e : v .at ≡ h .at = omega (arith, v .place) in rw (e, same-head) at (v .went)
+
+    -- it is admitted
+    pub shape-refused : {n p : ℕ} → see o base s (base + (h .at + 16)) (R.admit (length s - h .at) 128 (leb 32) (eqb 0) (headOf h)) ≡ stops n p → ⊥
+    shape-refused g = frames-refused o base s (v .counts) (v .own) (x .recording .channels) (v .back) (base + (h .at + 16)) (length s - h .at) (headOf h) g went
+
+    -- the 140 stops at q, and another head follows
+    module _ (q : ℕ) (stop : q ≡ h .at + R.span (headOf h)) where
+      behind : over headroom (see o base s (base + q) (R.next (v .fuel) (length s - q))) ≡ goes (headroom (v .after)) (v .end)
+      behind =
+          let e : v .at + R.span (v .top) ≡ q = omega (arith, v .place, ap (λ (t : R.Head). R.span t) same-head) in
+          ap (over headroom) (rw e at (v .behind)) ∙ over-goes headroom (v .after) (v .end)
+
+      enough : length s < q + v .fuel
+      enough = omega (arith, v .enough, v .place, ap (λ (t : R.Head). R.span t) same-head)
+
+      pub shape-alone : {n p : ℕ} → ((fuel : ℕ) → length s < q + fuel → over headroom (see o base s (base + q) (R.next fuel (length s - q))) ≡ stops n p) → ⊥
+      shape-alone g = let k = sym (g (v .fuel) enough) ∙ behind in let z : _≡_ {A = ℕ} 0 1 = cc in omega arith
+
+      module _ (inside : q ≤ length s) (least : 32 ≤ R.span (headOf h)) where
+        abbrev body : List ℕ
+        body = take (q - (at + 16)) (drop (at + 16) s)
+
+        in-body : see o (base + at + 16) body (base + at + 16) (R.framesBody (v .counts) (x .recording .channels) (headOf h)) ≡ goes (v .value) (base + q)
+        unfolding R.frames
+        in-body =
+            let w : Walk R.Frames = R.framesBody (v .counts) (x .recording .channels) (headOf h) in
+            let d = admit-went o base s (base + (h .at + 16)) (length s - h .at) 128 (leb 32) (eqb 0) (headOf h) (require (v .own || eqb (length (x .recording .channels)) (v .counts .channels)) 14 (v .back) >> w) went in
+            let t = require-went o base s (base + (h .at + 16)) (v .own || eqb (length (x .recording .channels)) (v .counts .channels)) 14 (v .back) w (d .rest) in
+            let z : base + at + 16 + (R.span (headOf h) - 16) ≡ base + q = omega arith in
+            see-body o base at q s w _ (omega arith) inside (rw z at (stays-framesBody (v .counts) (x .recording .channels) (headOf h) (base + at + 16) least)) ∙ (ap (λ (y : ℕ). see o base s (base + (y + 16)) w) (sym here) ∙ (t .1 ∙ ap (λ (y : ℕ). goes (v .value) (base + y)) (sym stop)))
+
+        module _ (t size n : ℕ) (e₁ : t ≡ numberAt o 4 body 0) (e₂ : size ≡ numberAt o 4 body 4) (e₃ : n ≡ numberAt o 4 body 8) where
+          pub shape-fields : Fields t size n (x .recording .channels) (v .counts) (v .value) (R.span (headOf h))
+          shape-fields = rw (e₁, e₂, e₃) (fields-told o (base + at + 16) body (v .counts) (x .recording .channels) (headOf h) in-body)
+
+          -- the code's test of these numbers passes
+          pub shape-fits : (bytes : ℕ) (r : Bool) → bytes ≡ R.sampleBytes t (x .recording .channels) → r ≡ leb (24 + bytes) size && leb (16 + size * n) (length body) → r ≡ false → ⊥
+          shape-fits bytes r i e f₀ =
+              let f = shape-fields in
+              let l : 16 + length body ≡ q - at = body-length at q s (omega arith) inside in
+              let y : leb (24 + bytes) size && leb (16 + size * n) (length body) ≡ true = rw (i, le-leb (24 + R.sampleBytes t (x .recording .channels)) size (f .long), le-leb (16 + size * n) (length body) (omega (arith, f .fits, mul-comm n size))) in
+              let z : _≡_ {A = ℕ} 0 1 = cc in
+              omega arith
+
+          -- and what is measured is the recording's shape; d: the head that follows
+          module _ (d : At.Head) (follows : (fuel : ℕ) → length s < q + fuel → over headroom (see o base s (base + q) (R.next fuel (length s - q))) ≡ goes (record { head = headOf d; room = length s - d .at }) (base + (d .at + 16))) (last : d .at + 16 ≤ length s) (bytes : ℕ) (many : bytes ≡ R.sampleBytes t (x .recording .channels)) where
+            abbrev frames-bytes : ℕ
+            frames-bytes = C.framesBytes (x .recording .seconds) (x .recording .channels) (x .recording .frames)
+
+            seconds-is : x .recording .seconds ≡ t
+            seconds-is = v .seconds ∙ shape-fields .seconds
+
+            frames-is : 32 + (24 + bytes) * n ≡ frames-bytes
+            frames-is = rw (seconds-is, v .count, ← shape-fields .count, many, mul-comm n (24 + R.sampleBytes t (x .recording .channels)))
+
+            rest-is : d .at + 16 - q ≡ v .makers + 16
+            rest-is =
+                let r : length s - d .at ≡ v .after .room = ap (λ (y : Headroom). y .room) (goes-same (sym (follows (v .fuel) enough) ∙ behind) .0) in
+                omega (arith, v .left, v .place, v .inside, ap (λ (y : R.Head). R.span y) same-head)
+
+            whole-is : 16 + (at + sizedFor (32 + (24 + bytes) * n) .length + (d .at + 16 - q)) ≡ 16 + W.size (C.content (x .recording))
+            whole-is = rw (frames-is, rest-is) (omega (arith, v .long, v .place))
+
+            pub shape-told : Given (measure at q (d .at + 16) t size (24 + bytes) n) (λ f. ShapeOf f x)
+            shape-told =
+                measure-given at q (d .at + 16) t size (24 + bytes) n (λ f. ShapeOf f x) (rw frames-is (v .few)) (rw whole-is (v .total))
+                (record { at = is; seconds = sym seconds-is; count = shape-fields .count ∙ sym (v .count); filled = rw (seconds-is, many); signals = ap sizedFor frames-is; whole = ap sizedFor whole-is })

@@ -1,0 +1,82 @@
+-- `whole::header` meets its contract: what is written piece by piece is the header.
+-- Assumes nothing.
+use mathlib.Core.Path.{sym}
+use native.Mathlib.Omega.{arith}
+use lib.ListN.{length-set}
+use lib.Seq.{length-take-le}
+use Rattle.rules.specs.Rules as R
+use Rattle.rewrite.proofs.Measures.{header-written}
+use borrow.Author.Needs.{needs}
+use Rattle.rewrite.proofs.recordings.header.Statement.{statement}
+use Rattle.rewrite.proofs.recordings.header.Tie as tie
+
+slice-aggregate-copy-run-2 : tie.Need-slice-aggregate-copy-run-2
+slice-aggregate-copy-run-2 c = sym (length-take-le 8 (c .before .before .before .args .d .now) (omega arith))
+
+copy-run-requires : tie.Need-copy-run-requires
+copy-run-requires c κs = length-take-le 8 (c .before .before .before .args .d .now) (omega arith)
+
+slice-write-d-2 : tie.Need-slice-write-d-2
+slice-write-d-2 c = simp length-set (omega arith)
+
+part-digits-end : tie.Need-part-digits-end
+part-digits-end c = simp length-set (omega arith)
+
+sub-copy-run-3 : tie.Need-sub-copy-run-3
+sub-copy-run-3 c = omega (arith, simp length-set at (c .before .before .d4 .given .1), c .before .before .before .before .before .before .before)
+
+part-copy-run-start-3 : tie.Need-part-copy-run-start-3
+part-copy-run-start-3 c = omega (arith, simp length-set at (c .before .before .d4 .given .1), c .before .before .before .before .before .before .before)
+
+copy-run-requires-4 : tie.Need-copy-run-requires-4
+copy-run-requires-4 c κs = omega (arith, simp length-set at (c .before .before .before .d4 .given .1), c .before .before .before .before .before .before .before .before)
+
+same-length : tie.Need-same-length
+same-length c = omega (arith, simp length-set at (c .before .before .before .before .before .before .d4 .given .1), c .before .before .before .before .before .before .before .before .before .before .before)
+
+returns : tie.Need-returns
+unfolding R.identifier R.version R.form
+returns c =
+    let start = c .before .before .before .before .before .before .before .before .before .before .before .before .before .before .before .before .before .before .before .before .before .before .before .before .before .before in
+    let a = start .args in
+    header-written (a .to) (a .script) (a .count) _ (a .d .now) _ _ _ _ _ (start .pre .2)
+    (c .before .before .before .before .before .before .before .before .before .before .before .before .before .before .before .before .before .before .before .before .before .before .copy-run .ensures)
+    (c .before .before .before .before .before .before .before .before .before .before .before .before .before .before .before .before .before .copy-run2 .ensures)
+    (c .before .before .before .before .before .before .before .before .before .before .before .before .copy-run3 .ensures)
+    (c .before .before .before .before .before .before .before .before .before .letter .ensures)
+    (c .before .before .before .before .before .before .before .digits .ensures)
+    (c .before .before .copy-run4 .ensures)
+
+pub header-spec : {M : Type 1} → statement M
+header-spec =
+    tie.close
+    (tie.spec
+    (λ c. search needs)
+    (λ c. search needs)
+    slice-aggregate-copy-run-2
+    copy-run-requires
+    (λ c. search needs)
+    (λ c. search needs)
+    (λ c. search needs)
+    (λ c. search needs)
+    (λ c κs. search needs)
+    (λ c. search needs)
+    (λ c. search needs)
+    (λ c. search needs)
+    (λ c. search needs)
+    (λ c κs. search needs)
+    (λ c κs. search needs)
+    (λ c. search needs)
+    (λ c. search needs)
+    slice-write-d-2
+    (λ c. search needs)
+    (λ c. search needs)
+    part-digits-end
+    (λ c κs. search needs)
+    (λ c. search needs)
+    sub-copy-run-3
+    part-copy-run-start-3
+    (λ c. search needs)
+    copy-run-requires-4
+    same-length
+    returns)
