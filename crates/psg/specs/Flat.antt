@@ -1,0 +1,119 @@
+-- Answers taken apart into numbers. Whatever a refusal does not say is 0.
+-- Assumes nothing.
+use Prim.Native.Nat.{ℕ}
+use lib.IntN.{ℤ, pos}
+use Rattle.words.specs.Floats.{bitsOf}
+use Rattle.words.specs.Values.{unsigned}
+use Rattle.table.specs.Table as Table
+use Rattle.turn.specs.Turn as Turn
+use Rattle.questions.specs.Answers.{Answer, value, refusal}
+use Rattle.questions.specs.declared.channels.Calibration.{Calibration}
+use Rattle.questions.specs.declared.channels.Calibration.the-variants as Calibration
+use Rattle.questions.specs.declared.channels.Descriptor.{Descriptor}
+use Rattle.questions.specs.declared.channels.Text.{Text}
+use Rattle.questions.specs.declared.find.Counts.{Counts}
+use Rattle.questions.specs.declared.frames.Number.{Number}
+use Rattle.questions.specs.declared.frames.Number.the-variants as Number
+use Rattle.questions.specs.declared.frames.Time.{Time}
+use Rattle.questions.specs.declared.items.Entry.{Entry}
+use Rattle.psg.specs.declared.answers.Channel.{Channel}
+use Rattle.psg.specs.declared.answers.Clock.{Clock}
+use Rattle.psg.specs.declared.answers.Counted.{Counted}
+use Rattle.psg.specs.declared.answers.Facts.{Facts}
+use Rattle.psg.specs.declared.answers.Item.{Item}
+use Rattle.psg.specs.declared.answers.Patterns.{Patterns}
+use Rattle.psg.specs.declared.answers.Sample.{Sample}
+use Rattle.psg.specs.declared.answers.View.{View}
+
+abbrev pub counted : ℕ → Counted
+counted n = record { refusal = 0; position = 0; count = n }
+
+abbrev pub stopped : ℕ → ℕ → Counted
+stopped n p = record { refusal = n; position = p; count = 0 }
+
+abbrev pub countedRows : Table.Answer → Counted
+countedRows (Table.rows n) = counted n
+countedRows (Table.refusal n p) = stopped n p
+
+abbrev pub countedBytes : Turn.Answer → Counted
+countedBytes (Turn.bytes n) = counted n
+countedBytes (Turn.refusal n p) = stopped n p
+
+abbrev pub flatFacts : Answer Counts → Facts
+flatFacts (value x) = record { refusal = 0; position = 0; channels = x .channels; frames = x .frames; seconds = x .seconds }
+flatFacts (refusal n p) = record { refusal = n; position = p; channels = 0; frames = 0; seconds = 0 }
+
+-- four calibration numbers, 32 bits each
+abbrev pub patternsOf : Calibration → Patterns
+patternsOf (Calibration.Floats a b c d) = record { «is_float» = 1; cal = bitsOf a; «cal_ad» = bitsOf b; «offset_ad» = bitsOf c; «offset_cal» = bitsOf d }
+patternsOf (Calibration.Numbers a b c d) = record { «is_float» = 0; cal = unsigned 4 a; «cal_ad» = unsigned 4 b; «offset_ad» = unsigned 4 c; «offset_cal» = unsigned 4 d }
+
+abbrev pub flatChannel : Answer Descriptor → Channel
+flatChannel (value x) = record {
+  refusal = 0;
+  position = 0;
+  number = x .number;
+  flags = x .flags;
+  kind = x .kind;
+  format = x .format;
+  rate = x .rate;
+  «is_float» = patternsOf (x .calibration) .«is_float»;
+  cal = patternsOf (x .calibration) .cal;
+  «cal_ad» = patternsOf (x .calibration) .«cal_ad»;
+  «offset_ad» = patternsOf (x .calibration) .«offset_ad»;
+  «offset_cal» = patternsOf (x .calibration) .«offset_cal»;
+  frequency = x .frequency;
+  «low_cut» = x .«low_cut»;
+  «high_cut» = x .«high_cut»;
+  sensitivity = x .sensitivity;
+  label = x .label .at;
+  «label_length» = x .label .length;
+  unit = x .unit .at;
+  «unit_length» = x .unit .length;
+  comment = x .comment .at;
+  «comment_length» = x .comment .length;
+}
+flatChannel (refusal n p) = record {
+  refusal = n;
+  position = p;
+  number = pos 0;
+  flags = pos 0;
+  kind = pos 0;
+  format = pos 0;
+  rate = pos 0;
+  «is_float» = 0;
+  cal = 0;
+  «cal_ad» = 0;
+  «offset_ad» = 0;
+  «offset_cal» = 0;
+  frequency = pos 0;
+  «low_cut» = pos 0;
+  «high_cut» = pos 0;
+  sensitivity = pos 0;
+  label = 0;
+  «label_length» = 0;
+  unit = 0;
+  «unit_length» = 0;
+  comment = 0;
+  «comment_length» = 0;
+}
+
+abbrev pub flatItem : Answer Entry → Item
+flatItem (value x) = record { refusal = 0; position = 0; code = x .code; text = x .text .at; «text_length» = x .text .length }
+flatItem (refusal n p) = record { refusal = n; position = p; code = pos 0; text = 0; «text_length» = 0 }
+
+abbrev pub flatClock : Answer Time → Clock
+flatClock (value x) = record { refusal = 0; position = 0; hour = x .hour; minute = x .minute; second = x .second }
+flatClock (refusal n p) = record { refusal = n; position = p; hour = 0; minute = 0; second = 0 }
+
+abbrev pub flatCount : Answer ℕ → Counted
+flatCount (value n) = counted n
+flatCount (refusal n p) = stopped n p
+
+abbrev pub flatSample : Answer Number → Sample
+flatSample (value (Number.Whole z)) = record { refusal = 0; position = 0; «is_float» = 0; value = z; bits = 0 }
+flatSample (value (Number.Float v)) = record { refusal = 0; position = 0; «is_float» = 1; value = pos 0; bits = bitsOf v }
+flatSample (refusal n p) = record { refusal = n; position = p; «is_float» = 0; value = pos 0; bits = 0 }
+
+abbrev pub flatView : Text → View
+flatView p = record { start = p .at; length = p .length }
