@@ -1,6 +1,6 @@
 //! Calls that write into a buffer lent to them: the answer, what they wrote, and that no other place was touched.
 
-use crate::psg;
+use crate::library::answer;
 use second::refusal::Refusal;
 use second::table;
 use std::fmt::Debug;
@@ -42,7 +42,7 @@ pub fn table_differs(file: &[u8]) -> Option<String> {
 fn table_differs_in(file: &[u8], room: usize) -> Option<String> {
     let before: Vec<i64> = marked(room).iter().map(|&b| i64::from(b) - 300).collect();
     let mut rows = before.clone();
-    let found = psg::table(file, &mut rows);
+    let found = answer(psg::table(file, &mut rows));
     let said = table::table(file, room as u64);
     let mut expected = before;
     if let Ok(rows) = &said {

@@ -5,7 +5,7 @@ mod buffers;
 mod corpus;
 mod draw;
 mod files;
-mod psg;
+mod library;
 mod questions;
 mod turned;
 

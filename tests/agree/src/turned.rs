@@ -1,7 +1,7 @@
 //! `turn`, with the library's `psg_turn`: what it writes, and there and back.
 
 use crate::buffers::{differs, marked, rooms};
-use crate::psg;
+use crate::library::answer;
 use second::refusal::Refusal;
 use second::turn;
 
@@ -38,7 +38,7 @@ fn turn_differs_in(file: &[u8], room: usize) -> Option<String> {
     let one = bytes_differ(
         "turn",
         room,
-        |out| psg::turn(file, out),
+        |out| answer(psg::turn(file, out)),
         |room| turn::turn(file, room),
     );
     if one.is_some() {
@@ -47,6 +47,6 @@ fn turn_differs_in(file: &[u8], room: usize) -> Option<String> {
     let mut there = marked(room);
     let length = psg::turn(file, &mut there).ok()?;
     let mut back = marked(room);
-    let again = psg::turn(&there[..length], &mut back);
+    let again = answer(psg::turn(&there[..length], &mut back));
     differs("turn back", (again, &back[..length]), (Ok(length), file))
 }

@@ -1,15 +1,18 @@
-//! The proved library's calls. The one module with `unsafe`: a slice is passed as its pointer and length.
+//! The calls of libpsg.a, as include/psg.h declares them. The one module with `unsafe`: a slice is passed as its pointer and length.
 
-use second::refusal::Refusal;
+use crate::Refusal;
 
-/// An answer of the library: its values, unless it is a refusal.
+/// An answer's values, unless it is a refusal.
 pub trait Answer: Sized {
     fn refusal(&self) -> (u32, u64);
 
     fn answer(self) -> Result<Self, Refusal> {
         match self.refusal() {
             (0, _) => Ok(self),
-            (number, position) => Err(Refusal::new(number as u8, position as usize)),
+            (number, position) => Err(Refusal {
+                number: number as u8,
+                position: position as usize,
+            }),
         }
     }
 }
@@ -60,16 +63,14 @@ extern "C" {
     fn psg_turn(file: *const u8, length: usize, out: *mut u8, room: usize) -> Counted;
 }
 
-pub fn table(file: &[u8], rows: &mut [i64]) -> Result<usize, Refusal> {
+pub fn table(file: &[u8], rows: &mut [i64]) -> Counted {
     // SAFETY: both are whole slices, and the call keeps neither.
-    let counted = unsafe { psg_table(file.as_ptr(), file.len(), rows.as_mut_ptr(), rows.len()) };
-    Ok(counted.answer()?.count as usize)
+    unsafe { psg_table(file.as_ptr(), file.len(), rows.as_mut_ptr(), rows.len()) }
 }
 
-pub fn turn(file: &[u8], out: &mut [u8]) -> Result<usize, Refusal> {
+pub fn turn(file: &[u8], out: &mut [u8]) -> Counted {
     // SAFETY: both are whole slices, and the call keeps neither.
-    let counted = unsafe { psg_turn(file.as_ptr(), file.len(), out.as_mut_ptr(), out.len()) };
-    Ok(counted.answer()?.count as usize)
+    unsafe { psg_turn(file.as_ptr(), file.len(), out.as_mut_ptr(), out.len()) }
 }
 
 /// A question of the library, and its safe call.

@@ -1,0 +1,124 @@
+/* The proved library for recordings in the JSSR PSG common format 3.00. Link libpsg.a, which `rt staticlib psg` writes.
+ *
+ * A file and a buffer are lent as pointer and length for the time of a call; nothing is kept. Every call judges the file
+ * itself, and every file and every argument is answered. An answer begins with the refusal: its number (document 01,
+ * 1 to 19), or 0 where there is an answer, and its position in the file (17: the length needed; 19: 0). What a refusal
+ * does not say is 0. A refused call leaves the buffer as it was; an answered one writes only what it says.
+ * Recordings, channels, items and frames are asked for from 1, samples from 0. Texts and views are positions in the file. */
+#ifndef PSG_H
+#define PSG_H
+
+#include <stddef.h>
+#include <stdint.h>
+
+#ifdef __cplusplus
+extern "C" {
+#endif
+
+/* How many rows, bytes or samples. */
+struct psg_counted {
+    uint32_t refusal;
+    uint64_t position;
+    uint64_t count;
+};
+
+/* M, F and T. */
+struct psg_facts {
+    uint32_t refusal;
+    uint64_t position;
+    uint32_t channels;
+    uint32_t frames;
+    uint32_t seconds;
+};
+
+/* Record 125. The four calibration numbers are 32 bits each: floats where is_float is 1, else signed numbers. */
+struct psg_channel {
+    uint32_t refusal;
+    uint64_t position;
+    int32_t number;
+    int32_t flags;
+    int32_t kind;
+    int32_t format;
+    int32_t rate;
+    uint32_t is_float;
+    uint32_t cal;
+    uint32_t cal_ad;
+    uint32_t offset_ad;
+    uint32_t offset_cal;
+    int32_t frequency;
+    int32_t low_cut;
+    int32_t high_cut;
+    int32_t sensitivity;
+    uint64_t label;
+    uint64_t label_length;
+    uint64_t unit;
+    uint64_t unit_length;
+    uint64_t comment;
+    uint64_t comment_length;
+};
+
+/* An item of a 130 or a 200. */
+struct psg_item {
+    uint32_t refusal;
+    uint64_t position;
+    int32_t code;
+    uint64_t text;
+    uint64_t text_length;
+};
+
+struct psg_clock {
+    uint32_t refusal;
+    uint64_t position;
+    uint32_t hour;
+    uint32_t minute;
+    uint32_t second;
+};
+
+/* A whole number, or the 32 bits of a float where is_float is 1. */
+struct psg_sample {
+    uint32_t refusal;
+    uint64_t position;
+    uint32_t is_float;
+    int32_t value;
+    uint32_t bits;
+};
+
+/* A part of the file. */
+struct psg_view {
+    uint64_t start;
+    uint64_t length;
+};
+
+/* Lists the records: four numbers a row (position, length, code, serial), by position. The count is of rows, the room of numbers. */
+struct psg_counted psg_table(const uint8_t *file, size_t length, int64_t *rows, size_t room);
+
+/* Writes the file in the other byte order: how many bytes. 18 where a maker's record stands in the way. */
+struct psg_counted psg_turn(const uint8_t *file, size_t length, uint8_t *out, size_t room);
+
+/* How many channels and frames a recording has, and the seconds of a frame. */
+struct psg_facts psg_facts(const uint8_t *file, size_t length, size_t recording);
+
+/* A channel that holds for a recording, its own or taken over. */
+struct psg_channel psg_channel(const uint8_t *file, size_t length, size_t recording, size_t channel);
+
+/* An item of the 130 that holds for a recording; of the recording's own 200. */
+struct psg_item psg_patient_item(const uint8_t *file, size_t length, size_t recording, size_t item);
+struct psg_item psg_event_item(const uint8_t *file, size_t length, size_t recording, size_t item);
+
+/* The clock time of a frame. */
+struct psg_clock psg_clock(const uint8_t *file, size_t length, size_t recording, size_t frame);
+
+/* How many samples of a channel a frame has. */
+struct psg_counted psg_count(const uint8_t *file, size_t length, size_t recording, size_t frame, size_t channel);
+
+/* One sample of a channel in a frame. */
+struct psg_sample psg_sample(const uint8_t *file, size_t length, size_t recording, size_t frame, size_t channel, size_t sample);
+
+/* The bytes of a channel in a frame; start 0 and length 0 for a refusal (psg_count tells which) and for a channel without samples. */
+struct psg_view psg_view(const uint8_t *file, size_t length, size_t recording, size_t frame, size_t channel);
+
+#ifdef __cplusplus
+}
+#endif
+
+#endif
