@@ -18,11 +18,11 @@ use Rattle.walk.specs.See.{goes, see, Goes}
 use Rattle.walk.specs.Trace.{trace, written}
 use Rattle.walk.specs.Walk.{Event, numeral, blank, Walk, give, text, _>>=_, _>>_, reserve, pick}
 use Rattle.walk.proofs.Seen.{stays-goes, yields, and-left, and-right}
+use Rattle.walk.proofs.Went.{gate-went, went-first, goes-same}
 use Rattle.walk.proofs.Tracing.{trace-bind, trace-give}
 use Rattle.rules.specs.Rules.{Item, item, itemSize, itemList, itemsBody, limit, numberList, Channel, width, samplesOf, samplesIn, sampleBytes, samples}
 use Rattle.rules.proofs.Room.{stays-item, stays-itemsBody}
 use Rattle.records.specs.Says.{Kept}
-use Rattle.table.proofs.Lists.{gate-went, went-first, goes-same}
 use Rattle.copies.specs.Copy.{copy, filling}
 use Rattle.copies.specs.declared.Way.{Way}
 use Rattle.copies.proofs.Copying.{copy-bind, copy-give, length-copy}

@@ -2,37 +2,36 @@
 -- Assumes nothing.
 use mathlib.Core.Path.{_≡_, refl, sym, ap, _∙_}
 use mathlib.Core.Bool.{Bool, true, false}
-use mathlib.Core.List.{List, [], _∷_, _++_, append-assoc, append-nil}
+use mathlib.Core.List.{List, [], _++_, append-assoc, append-nil}
 use mathlib.Core.Option.{Option, none, some}
 use Prim.Native.Nat.{ℕ, suc, _+_, _-_, _*_, _≤_, _<_}
 use native.Mathlib.Omega.{arith}
 use borrow.Author.Tests.{eq-eqb, ne-eqb}
 use lib.Dec.{leb, eqb}
-use lib.ListN.{length, take, drop, length-drop}
-use lib.Seq.{length-take-le}
+use lib.ListN.{length, take, drop}
 use Rattle.words.specs.Numbers.{bytesAt, numberAt}
 use Rattle.words.specs.declared.Order.{Order}
 use Rattle.words.proofs.Runs.{part-pasted}
 use Rattle.walk.specs.See.{stops, goes, see, Stays}
-use Rattle.walk.specs.Trace.{trace, written}
-use Rattle.walk.specs.Walk.{laid, Text, Event, numeral, piece, blank, row, size, render, cleared, Walk, give, refuse, check, number, read, skip, list, text, _>>=_, _>>_}
-use Rattle.walk.proofs.Laid.{length-laid}
+use Rattle.walk.specs.Trace.{trace}
+use Rattle.walk.specs.Walk.{laid, Text, Walk, give, text, _>>=_, _>>_}
 use Rattle.walk.proofs.Seen.{part-bytes, stays-goes, see-body, body-length}
-use Rattle.walk.proofs.Tracing.{length-written}
+use Rattle.walk.proofs.Went.{went-first, goes-same}
+use Rattle.walk.proofs.Tracing.{written-none, written-row}
 use Rattle.rules.specs.Rules as R
 use Rattle.rules.specs.Rules.{head, admit, span, fixed, basicBody, numberList, next, makerCode, more, part}
 use Rattle.rules.specs.declared.Head.{Head}
 use Rattle.rules.proofs.Room.{Rests, stays-basic, stays-itemsBody, stays-itemsRest, stays-channelsBody, stays-channelsRest}
 use Rattle.records.specs.Says.{headOf}
 use Rattle.judge.specs.Halves.{Tables, tables}
-use Rattle.judge.proofs.Opened.{laid-text}
 use Rattle.table.specs.Rows.{Marks}
 use Rattle.table.proofs.Makers.{Listing, listing-none, listing-done, listing-more}
 use Rattle.table.proofs.Written.{wrote-counted}
-use Rattle.table.proofs.Lists.{goes-same, went-first, admit-went, part-found, absent-lists, not-admitted, channels-found}
+use Rattle.table.proofs.Lists.{admit-went, part-found, absent-lists, not-admitted, channels-found}
 use Rattle.copies.specs.Copy.{copy, Pastes, PartCopied, RecordCopied}
 use Rattle.copies.specs.declared.Way.{Way}
 use Rattle.copies.proofs.Copying.{copy-bind, copy-give, copy-body, length-copy, pastes-join, pastes-nothing}
+use Rattle.copies.proofs.Pieces.{Takes, copy-within, length-within, copy-text}
 
 -- a part of the buffer that a call wrote whole
 pub pastes-whole : (out ys xs : List ℕ) (k e : ℕ) → ys ≡ xs → e ≡ k + length xs → Pastes out (take k out ++ (ys ++ drop (e - k) (drop k out))) k e xs
@@ -42,90 +41,28 @@ pastes-whole out ys xs k e same ends h = (ends, rw same (part-pasted out xs k (e
 pub pastes-full : (out out′ : List ℕ) (k k′ : ℕ) (xs : List ℕ) → length out - k < length xs → Pastes out out′ k k′ xs
 pastes-full out out′ k k′ xs full h = absurd (omega (arith, full, h))
 
--- the walk takes the bytes from a position up to e, whatever they are and whatever its tests say
-module _ {A : Type 0} where
-  abbrev pub Takes : ℕ → ℕ → Walk A → Type 0
-  Takes e at (give a) = at ≡ e
-  Takes e at (refuse n p) = at ≡ e
-  Takes e at (check c n p v) = Takes e at v
-  Takes e at (number n f) = (x : ℕ) → Takes e (at + n) (f x)
-  Takes e at (read k n f) = (bs : List ℕ) → Takes e (at + n) (f bs)
-  Takes e at (skip n v) = Takes e (at + n) v
-  Takes e at (list p l c m v) = Takes e at v
+-- a walk that takes m bytes, from byte p on
+module _ {A : Type 0} (w : Way) (b : ℕ) (s : List ℕ) (c p m : ℕ) (stands : c ≡ b + p) (fit : p + m ≤ length s) (v : Walk A) (takes : Takes m v) where
+  takes-length : length (copy w b s c v) ≡ m
+  takes-length = length-within w b s m v takes c (omega arith) (omega arith)
 
-  takes-on : (e at : ℕ) (v : Walk A) → Takes e at v → at ≤ e
-  takes-on e at (give a) t = omega (arith, t)
-  takes-on e at (refuse n p) t = omega (arith, t)
-  takes-on e at (check c n p v) t = takes-on e at v t
-  takes-on e at (number n f) t = omega (arith, takes-on e (at + n) (f 0) (t 0))
-  takes-on e at (read k n f) t = omega (arith, takes-on e (at + n) (f []) (t []))
-  takes-on e at (skip n v) t = omega (arith, takes-on e (at + n) v t)
-  takes-on e at (list p l c m v) t = takes-on e at v t
+  takes-part : copy w c (take m (drop p s)) c v ≡ copy w b s c v
+  takes-part = rw stands (copy-within w b s m v takes p)
 
-  module _ (o : Order) (b : ℕ) (s : List ℕ) (e : ℕ) where
-    -- so its events are so many bytes
-    size-takes : (v : Walk A) (at : ℕ) → Takes e at v → b ≤ at → e ≤ b + length s → at + size (trace o b s at v) ≡ e
-    unfolding trace size bytesAt
-    size-takes (give a) at t g f = omega (arith, t)
-    size-takes (refuse n p) at t g f = omega (arith, t)
-    size-takes (check c n p v) at t g f = size-takes v at t g f
-    size-takes (number n k) at t g f = omega (arith, size-takes (k (numberAt o n s (at - b))) (at + n) (t _) (omega arith) f)
-    size-takes (read κ n k) at t g f =
-        let r : at + n ≤ e = takes-on e (at + n) (k (laid o κ (bytesAt n s (at - b)))) (t _) in
-        let l = length-laid o κ (take n (drop (at - b) s)) in
-        let i : length (take n (drop (at - b) s)) ≡ n = length-take-le n (drop (at - b) s) (rw length-drop (omega arith)) in
-        omega (arith, l, i, size-takes (k (laid o κ (bytesAt n s (at - b)))) (at + n) (t _) (omega arith) f)
-    size-takes (skip n v) at t g f =
-        let r : at + n ≤ e = takes-on e (at + n) v t in
-        let i : length (take n (drop (at - b) s)) ≡ n = length-take-le n (drop (at - b) s) (rw length-drop (omega arith)) in
-        omega (arith, i, size-takes v (at + n) t (omega arith) f)
-    size-takes (list p l c m v) at t g f = size-takes v at t g f
+  -- written where there is room, and not where there is none
+  takes-written : (out ys : List ℕ) (k : ℕ) → ys ≡ copy w c (take m (drop p s)) c v → Pastes out (take k out ++ (ys ++ drop (k + m - k) (drop k out))) k (k + m) (copy w b s c v)
+  takes-written out ys k same = pastes-whole out ys _ k (k + m) (same ∙ takes-part) (ap (λ (n : ℕ). k + n) (sym takes-length))
 
-    -- and a part's are those of the whole
-    module _ (c a m : ℕ) (stands : c ≡ b + a) (inside : e ≤ c + m) where
-      trace-takes : (v : Walk A) (at : ℕ) → Takes e at v → c ≤ at → trace o c (take m (drop a s)) at v ≡ trace o b s at v
-      unfolding trace numberAt bytesAt
-      trace-takes (give x) at t g = refl
-      trace-takes (refuse n p) at t g = refl
-      trace-takes (check x n p v) at t g = trace-takes v at t g
-      trace-takes (number n f) at t g =
-          let r : at + n ≤ e = takes-on e (at + n) (f 0) (t 0) in
-          let d : a + (at - c) ≡ at - b = omega arith in
-          rw (part-bytes s a m (at - c) n (omega arith), d) (ap (λ (l : List Event). numeral n (numberAt o n s (at - b)) ∷ l) (trace-takes (f (numberAt o n s (at - b))) (at + n) (t _) (omega arith)))
-      trace-takes (read k n f) at t g =
-          let r : at + n ≤ e = takes-on e (at + n) (f []) (t []) in
-          let d : a + (at - c) ≡ at - b = omega arith in
-          rw (part-bytes s a m (at - c) n (omega arith), d) (ap (λ (l : List Event). piece k (laid o k (bytesAt n s (at - b))) ∷ l) (trace-takes (f (laid o k (bytesAt n s (at - b)))) (at + n) (t _) (omega arith)))
-      trace-takes (skip n v) at t g =
-          let r : at + n ≤ e = takes-on e (at + n) v t in
-          let d : a + (at - c) ≡ at - b = omega arith in
-          rw (part-bytes s a m (at - c) n (omega arith), d) (ap (λ (l : List Event). blank (bytesAt n s (at - b)) ∷ l) (trace-takes v (at + n) t (omega arith)))
-      trace-takes (list p l x y v) at t g = ap (λ (u : List Event). row p l x y ∷ u) (trace-takes v at t g)
+  takes-full : (out : List ℕ) (k : ℕ) → length out - k < m → Pastes out out k k (copy w b s c v)
+  takes-full out k full = pastes-full out out k k _ (rw takes-length full)
 
-  module _ (w : Way) (b : ℕ) (s : List ℕ) (c p m : ℕ) (stands : c ≡ b + p) (fit : p + m ≤ length s) (v : Walk A) (takes : Takes (c + m) c v) where
-    takes-length : length (copy w b s c v) ≡ m
-    takes-length =
-        let i = size-takes (w .from) b s (c + m) v c takes (omega arith) (omega arith) in
-        let j = length-written (w .keep) (w .to) (trace (w .from) b s c v) in
-        omega (arith, i, j)
-
-    takes-part : copy w c (take m (drop p s)) c v ≡ copy w b s c v
-    takes-part = ap (written (w .keep) (w .to)) (trace-takes (w .from) b s (c + m) c p m stands (omega arith) v c takes (omega arith))
-
-    -- written where there is room, and not where there is none
-    pub takes-written : (out ys : List ℕ) (k : ℕ) → ys ≡ copy w c (take m (drop p s)) c v → Pastes out (take k out ++ (ys ++ drop (k + m - k) (drop k out))) k (k + m) (copy w b s c v)
-    takes-written out ys k same = pastes-whole out ys _ k (k + m) (same ∙ takes-part) (ap (λ (n : ℕ). k + n) (sym takes-length))
-
-    pub takes-full : (out : List ℕ) (k : ℕ) → length out - k < m → Pastes out out k k (copy w b s c v)
-    takes-full out k full = pastes-full out out k k _ (rw takes-length full)
-
-takes-head : (at room : ℕ) → Takes (at + 16) at (head room)
+takes-head : (room : ℕ) → Takes 16 (head room)
 unfolding head _>>=_ _>>_
-takes-head at room = λ _ _ _ _. omega arith
+takes-head room at = λ _ _ _ _. omega arith
 
-takes-basic : (at room : ℕ) → Takes (at + 128) at (R.basic room)
+takes-basic : (room : ℕ) → Takes 128 (R.basic room)
 unfolding fixed head admit basicBody _>>=_ _>>_
-takes-basic at room = λ _ _ _ _ _ _ _ _ _ _ _ _ _ _ _ _. omega arith
+takes-basic room at = λ _ _ _ _ _ _ _ _ _ _ _ _ _ _ _ _. omega arith
 
 -- a head is four numbers
 module _ (w : Way) (b : ℕ) (s : List ℕ) (p room : ℕ) (fit : p + 16 ≤ length s) (out : List ℕ) (k : ℕ) where
@@ -133,39 +70,19 @@ module _ (w : Way) (b : ℕ) (s : List ℕ) (p room : ℕ) (fit : p + 16 ≤ len
   unfolding head numberList trace _>>=_ _>>_
   head-written ys same =
       let n : p + 16 - p ≡ 16 = omega arith in
-      takes-written w b s (b + p) p 16 refl fit (head room) (takes-head (b + p) room) out ys k (same ∙ ap (λ (m : ℕ). copy w (b + p) (take m (drop p s)) (b + p) (numberList 4 4)) n)
+      takes-written w b s (b + p) p 16 refl fit (head room) (takes-head room) out ys k (same ∙ ap (λ (m : ℕ). copy w (b + p) (take m (drop p s)) (b + p) (numberList 4 4)) n)
 
   pub head-full : length out - k < 16 → Pastes out out k k (copy w b s (b + p) (head room))
-  head-full = takes-full w b s (b + p) p 16 refl fit (head room) (takes-head (b + p) room) out k
+  head-full = takes-full w b s (b + p) p 16 refl fit (head room) (takes-head room) out k
 
 module _ (w : Way) (b : ℕ) (s : List ℕ) (room : ℕ) (fit : 128 ≤ length s) (out : List ℕ) (k : ℕ) where
   pub basic-written : (ys : List ℕ) → ys ≡ copy w b (take 128 s) b (R.basic room) → Pastes out (take k out ++ (ys ++ drop (k + 128 - k) (drop k out))) k (k + 128) (copy w b s b (R.basic room))
-  basic-written ys = takes-written w b s b 0 128 (omega arith) fit (R.basic room) (takes-basic b room) out ys k
+  basic-written ys = takes-written w b s b 0 128 (omega arith) fit (R.basic room) (takes-basic room) out ys k
 
   pub basic-full : length out - k < 128 → Pastes out out k k (copy w b s b (R.basic room))
-  basic-full = takes-full w b s b 0 128 (omega arith) fit (R.basic room) (takes-basic b room) out k
-
--- a text's bytes stand as they are; no event and a row are no byte
-written-none : (keep : Bool) (o : Order) → written keep o [] ≡ []
-unfolding render cleared
-written-none true o = refl
-written-none false o = refl
-
-written-text : (keep : Bool) (o : Order) (bs : List ℕ) → written keep o (piece Text bs ∷ []) ≡ bs
-unfolding render cleared
-written-text true o bs = append-nil (laid o Text bs) ∙ laid-text o bs
-written-text false o bs = append-nil (laid o Text bs) ∙ laid-text o bs
-
-written-row : (keep : Bool) (o : Order) (p l c m : ℕ) (t : List Event) → written keep o (row p l c m ∷ t) ≡ written keep o t
-unfolding render cleared
-written-row true o p l c m t = refl
-written-row false o p l c m t = refl
+  basic-full = takes-full w b s b 0 128 (omega arith) fit (R.basic room) (takes-basic room) out k
 
 module _ (w : Way) (b : ℕ) (s : List ℕ) where
-  pub copy-text : (at n : ℕ) → copy w b s at (text n) ≡ bytesAt n s (at - b)
-  unfolding trace
-  copy-text at n = written-text (w .keep) (w .to) (laid (w .from) Text (bytesAt n s (at - b))) ∙ laid-text (w .from) (bytesAt n s (at - b))
-
   -- a head that is admitted is written already
   pub copy-admit : {A : Type 0} (at room most : ℕ) (fits serial : ℕ → Bool) (h : R.Head) (v : Walk A) → copy w b s at (admit room most fits serial h >> v) ≡ copy w b s at v
   unfolding admit trace _>>=_ _>>_

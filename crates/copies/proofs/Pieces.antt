@@ -17,8 +17,9 @@ use Rattle.words.proofs.Words.{bytes-take, bytes-drop, bytesIn-wordIn}
 use Rattle.words.proofs.Runs.{bytesIn-other}
 use Rattle.walk.specs.Trace.{trace, written}
 use Rattle.walk.specs.Walk.{Text, laid, Event, numeral, piece, blank, row, render, cleared, size, Walk, give, refuse, check, number, read, skip, list, _>>=_, _>>_, pick, text, reserve}
+use Rattle.walk.proofs.Laid.{laid-text}
 use Rattle.walk.proofs.Seen.{part-bytes, length-bytesAt}
-use Rattle.walk.proofs.Tracing.{trace-give, written-append, length-written}
+use Rattle.walk.proofs.Tracing.{trace-give, written-append, written-none, written-piece, length-written}
 use Rattle.rules.specs.Rules as R
 use Rattle.copies.specs.Copy.{copy, sameOrder}
 use Rattle.copies.specs.declared.Way.{Way}
@@ -127,11 +128,6 @@ module _ {A : Type 0} (w : Way) (b : ℕ) (s : List ℕ) (n : ℕ) (v : Walk A) 
   unfolding _>>_
   copy-next at u = copy-follows at (λ _. u) u (λ _. refl)
 
-written-nothing : (keep : Bool) (o : Order) → written keep o [] ≡ []
-unfolding render cleared
-written-nothing true o = refl
-written-nothing false o = refl
-
 -- a buffer with ys in the place of its m bytes from n on
 abbrev pub put : ℕ → ℕ → List ℕ → List ℕ → List ℕ
 put n m d ys = take n d ++ (ys ++ drop m (drop n d))
@@ -167,7 +163,7 @@ module _ {A : Type 0} (w : Way) (b : ℕ) (s d : List ℕ) (u : Walk A) where
   -- nothing is left
   pub left-nothing : {B : Type 0} (n : ℕ) (x : B) → n ≡ length s → Left w b s d n u (give x) → d ≡ copy w b s b u
   unfolding trace
-  left-nothing n x e l = sym (l .is ∙ rw (written-nothing, append-nil) (take-all n d (omega (arith, l .long))))
+  left-nothing n x e l = sym (l .is ∙ rw (written-none, append-nil) (take-all n d (omega (arith, l .long))))
 
 -- the two orders are one
 
@@ -220,7 +216,7 @@ written-number false o k v t = refl
 module _ (w : Way) (b : ℕ) (s : List ℕ) (k : ℕ) (bytes : Bytes s) where
   numbers-anew : (n at : ℕ) → b ≤ at → at + n * k ≤ b + length s → copy w b s at (R.numberList k n) ≡ anew (sameOrder (w .from) (w .to)) k n (drop (at - b) s)
   unfolding R.numberList trace numberAt _>>=_
-  numbers-anew zero at g l = rw (written-nothing, anew-none)
+  numbers-anew zero at g l = rw (written-none, anew-none)
   numbers-anew (suc n) at g l =
       let i : at + k + n * k ≤ b + length s = omega (arith, suc-mul n k) in
       let x = take k (drop (at - b) s) in
@@ -259,30 +255,23 @@ reserve-cleared w b s n l e = sym (copy-reserve w b s ∙ rw (e, l))
 pub takes-text : (n : ℕ) → Takes n (text n)
 takes-text n at = λ _. refl
 
-laid-text : (o : Order) (x : List ℕ) → laid o Text x ≡ x
-unfolding laid
-laid-text Little x = refl
-laid-text Big x = refl
-
-copy-text : (w : Way) (b : ℕ) (s : List ℕ) (n at : ℕ) → copy w b s at (text n) ≡ take n (drop (at - b) s)
-unfolding trace bytesAt render cleared
-copy-text w b s n at = rw (laid-text (w .from)) (text-written (w .keep) (take n (drop (at - b) s)))
-  where
-    text-written : (keep : Bool) (x : List ℕ) → written keep (w .to) (piece Text x ∷ []) ≡ x
-    text-written true x = rw (append-nil, laid-text (w .to))
-    text-written false x = rw (append-nil, laid-text (w .to))
+pub copy-text : (w : Way) (b : ℕ) (s : List ℕ) (at n : ℕ) → copy w b s at (text n) ≡ bytesAt n s (at - b)
+unfolding trace
+copy-text w b s at n = written-piece (w .keep) (w .to) Text (laid (w .from) Text (bytesAt n s (at - b))) [] ∙ rw (written-none, append-nil, laid-text (w .to), laid-text (w .from))
 
 pub text-whole : (w : Way) (b : ℕ) (s : List ℕ) (n : ℕ) → length s ≡ n → s ≡ copy w b s b (text n)
-text-whole w b s n l = sym (copy-text w b s n b ∙ rw sub-self (take-all n s (omega arith)))
+unfolding bytesAt
+text-whole w b s n l = sym (copy-text w b s b n ∙ rw sub-self (take-all n s (omega arith)))
 
 pub takes-texts : (m n : ℕ) → Takes (m + n) (text m >> text n)
 unfolding _>>_ _>>=_
 takes-texts m n at = λ _ _. omega arith
 
 pub texts-whole : (w : Way) (b : ℕ) (s : List ℕ) (m n : ℕ) → length s ≡ m + n → s ≡ copy w b s b (text m >> text n)
+unfolding bytesAt
 texts-whole w b s m n l =
     let d : b + m - b ≡ m = omega arith in
-    sym (copy-next w b s m (text m) (takes-text m) b (text n) ∙ rw (copy-text w b s m b, copy-text w b s n (b + m), sub-self, d, ← take-add) (take-all (m + n) s (omega arith)))
+    sym (copy-next w b s m (text m) (takes-text m) b (text n) ∙ rw (copy-text w b s b m, copy-text w b s (b + m) n, sub-self, d) (sym (take-add m n s) ∙ take-all (m + n) s (omega arith)))
 
 -- events that are written the same
 same-written : (keep : Bool) (o : Order) (t u : List Event) → render o t ≡ render o u → render o (cleared t) ≡ render o (cleared u) → written keep o t ≡ written keep o u

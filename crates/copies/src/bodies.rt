@@ -1,8 +1,9 @@
 // The bodies of records, written anew into parts of the same length.
 ghost use mathlib.Core.Path.{_≡_};
-ghost use mathlib.Core.Bool.{Bool};
+ghost use mathlib.Core.Bool.{Bool, _&&_};
 ghost use mathlib.Core.List.{List, _∷_};
-ghost use Prim.Native.Nat.{ℕ, _+_, _-_, _*_, _≤_};
+ghost use Prim.Native.Nat.{ℕ, _+_, _-_, _*_, _≤_, _<_};
+ghost use lib.Dec.{leb};
 ghost use lib.ListN.{length};
 ghost use Rattle.words.specs.Numbers.{numberAt};
 ghost use Rattle.words.specs.Runs.{pasted};
@@ -17,6 +18,7 @@ use rules::Basic;
 use rules::Channel;
 use rules::Channels;
 use rules::Frame;
+use rules::Frames;
 use rules::Item;
 use rules::Items;
 use words::copy_run;
@@ -178,4 +180,18 @@ pub fn frame_body(w: Way, file: &[u8], cs: Channels, t: u32, s: &[u8], d: &mut [
         q += Channel::LENGTH;
         i += 1;
     }
+}
+
+// So many frames of this size, each with so many bytes of samples, have room in a body of so many bytes.
+pub fn fits(bytes: usize, size: usize, count: u32, length: usize) -> bool
+    requires { ⌜ size < 4294967296 ⌝ }
+    ensures { λ r. ⌜ r ≡ leb (24 + bytes) size && leb (16 + size * count) length ⌝ }
+{
+    if size < Frame::SAMPLES {
+        return false;
+    }
+    if size - Frame::SAMPLES < bytes {
+        return false;
+    }
+    Frames::BODY_FIRST + size * count as usize <= length
 }

@@ -1,8 +1,9 @@
-// Runs of numbers and reserve areas, written anew.
+// Runs of numbers, reserve areas and the letter of an order, written anew.
 ghost use mathlib.Core.Path.{_≡_};
+ghost use mathlib.Core.List.{[], _∷_};
 ghost use Prim.Native.Nat.{ℕ, _*_, _≤_};
 ghost use lib.ListN.{length};
-ghost use Rattle.walk.specs.Walk.{reserve};
+ghost use Rattle.walk.specs.Walk.{laid, Letter, reserve};
 ghost use Rattle.rules.specs.Rules as R;
 ghost use Rattle.words.specs.declared.Order.the-variants.{Little};
 ghost use Rattle.copies.specs.Copy.{copy, sameOrder};
@@ -28,6 +29,16 @@ fn is_little(a: Order) -> bool
     match a {
         Order::Little => true,
         Order::Big => false,
+    }
+}
+
+// The letter of an order.
+pub fn letter(o: Order) -> u8
+    ensures { λ r. ⌜ laid o Letter (76 ∷ []) ≡ r ∷ [] ⌝ }
+{
+    match o {
+        Order::Little => 76,
+        Order::Big => 66,
     }
 }
 

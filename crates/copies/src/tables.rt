@@ -36,19 +36,6 @@ pub struct Marked {
     pub k: usize,
 }
 
-// No record's head, at byte p.
-fn nothing(p: usize) -> Head
-    ensures { λ r. ⌜ r .at ≡ p ⌝ }
-{
-    Head {
-        at: p,
-        size: 0,
-        code: 0,
-        serial: 0,
-        multiplier: 0,
-    }
-}
-
 // Bytes as they stand, if there is room for them.
 pub fn text(s: &[u8], out: &mut [u8], k: usize) -> usize
     requires { ⌜ k ≤ length (now out) ⌝ }
@@ -87,7 +74,7 @@ pub fn next(w: Way, s: &[u8], base: usize, from: usize, out: &mut [u8], k: usize
         let found = records::head_at(o, s, base, p);
         let Headed::At(h) = found else {
             return Marked {
-                next: nothing(p),
+                next: records::nothing(p),
                 k: at,
             };
         };
@@ -105,7 +92,7 @@ pub fn next(w: Way, s: &[u8], base: usize, from: usize, out: &mut [u8], k: usize
         );
         let Step::On(end) = room else {
             return Marked {
-                next: nothing(p),
+                next: records::nothing(p),
                 k: at,
             };
         };
@@ -197,7 +184,7 @@ pub fn tables(w: Way, s: &[u8], base: usize, out: &mut [u8], k: usize) -> Marked
 {
     if s.len() < Basic::LENGTH {
         return Marked {
-            next: nothing(0),
+            next: records::nothing(0),
             k,
         };
     }

@@ -8,4 +8,5 @@ pub mod Tabled
 pub mod Signaled
 pub mod Recorded
 pub mod Recordings
+pub mod Led
 pub mod Verdicts

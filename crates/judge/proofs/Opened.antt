@@ -8,7 +8,7 @@ use Prim.Native.Nat.{ℕ, zero, suc, _+_, _*_, _-_, _^_, _≤_, _<_}
 use native.Mathlib.Nat.{add-zero}
 use native.Mathlib.Numerals.{add-one}
 use native.Mathlib.Omega.{arith, pow-step}
-use borrow.Author.Tests.{eq-eqb, ne-eqb, eqb-true, leb-true}
+use borrow.Author.Tests.{eq-eqb, ne-eqb, eqb-true}
 use lib.Dec.{leb, eqb}
 use lib.ListN.{length, getD, drop, drop-of-length-le}
 use lib.Seq.{drop-cons, getD-take, getD-drop}
@@ -16,8 +16,8 @@ use Rattle.words.specs.Numbers.{bytesAt}
 use Rattle.words.specs.declared.Order.{Order}
 use Rattle.words.specs.declared.Order.the-variants.{Little, Big}
 use Rattle.walk.specs.See.{gate, see, goes}
-use Rattle.walk.specs.Walk.{pick, swap, laid, Letter, Text, _>>=_, _>>_}
-use Rattle.walk.proofs.Seen.{and-left, and-right}
+use Rattle.walk.specs.Walk.{pick, swap, laid, Letter, _>>=_, _>>_}
+use Rattle.walk.proofs.Laid.{laid-text}
 use Rattle.rules.specs.Rules.{between, sameBytes, identifier, version, form, allSpaces, isDigit, decimal, countOf, countFits, countIs, isScript, fileHeader, orderOf}
 use Rattle.judge.specs.Opened.{lettered, names}
 use Rattle.judge.specs.declared.header.Lettered.{Lettered}
@@ -70,11 +70,6 @@ module _ (s : List ℕ) (i v b : ℕ) (h : i < length s) (is : b ≡ getD s i 0)
       let d : isDigit (getD s i 0) ≡ false = rw is at e in
       rw (drop-cons s i 0 h, decimal, d, rw (drop-cons s i 0 h) at f) (elim x as (λ y. countIs (elim y [ true ↦ some v | false ↦ none ]) ≡ pick y v 0) [ true ↦ refl | false ↦ refl ])
 
--- a number in a range
-pub within : (low high n : ℕ) → between low high n ≡ true → (low ≤ n) × (n ≤ high)
-unfolding between
-within low high n h = (leb-true low n (and-left (leb low n) (leb n high) h), leb-true n high (and-right (leb low n) (leb n high) h))
-
 -- the value of fewer than 4 digits, and one more
 pub digits-short : (i n v : ℕ) → i < n → n ≤ 4 → v < 10 ^ i → v < 1000
 digits-short i n v h k l = go i (omega arith) l
@@ -93,11 +88,6 @@ digits-more i v b h k = rw add-one (omega (arith, pow-step 10 i))
 byte-at : (s : List ℕ) (k : ℕ) → getD (bytesAt 1 s k) 0 0 ≡ getD s k 0
 unfolding bytesAt
 byte-at s k = getD-take 1 (drop k s) 0 0 (omega arith) ∙ (getD-drop k s 0 0 ∙ ap (λ (n : ℕ). getD s n 0) (add-zero k))
-
-pub laid-text : (o : Order) (bs : List ℕ) → laid o Text bs ≡ bs
-unfolding laid
-laid-text Little bs = refl
-laid-text Big bs = refl
 
 swap-first : (bs : List ℕ) → getD (map swap bs) 0 0 ≡ swap (getD bs 0 0)
 unfolding swap

@@ -1,29 +1,31 @@
 -- A recording: what the walk comes to, from what the code finds of its head, its tables and its signals.
 -- Assumes nothing.
 use mathlib.Core.Path.{_≡_, refl, sym, ap, _∙_}
-use mathlib.Core.Bool.{Bool}
+use mathlib.Core.Bool.{Bool, true, _&&_}
 use mathlib.Core.List.{List}
 use mathlib.Core.Option.{Option}
 use Prim.Native.Nat.{ℕ, _+_, _*_, _-_, _≤_, _<_}
 use native.Mathlib.Nat.{zero-add}
 use native.Mathlib.Omega.{arith}
-use borrow.Author.Tests.{eq-eqb, ne-eqb}
-use lib.Dec.{leb, eqb}
+use borrow.Author.Tests.{leb-true, eqb-true, eq-eqb, ne-eqb}
+use lib.Dec.{leb, ltb, eqb}
 use lib.ListN.{length, take, drop, length-drop}
 use lib.Seq.{length-take-le}
+use Rattle.words.specs.Numbers.{numberAt}
 use Rattle.words.specs.declared.Order.{Order}
-use Rattle.walk.specs.Walk.{pick}
-use Rattle.walk.specs.See.{Verdict, stops, goes, see, Goes, onward}
-use Rattle.walk.proofs.Seen.{walks, see-part, body-length, see-bind, see-after, see-check, see-give, gate-true}
+use Rattle.walk.specs.Walk.{pick, _>>=_, _>>_}
+use Rattle.walk.specs.See.{Verdict, stops, goes, gate, see, Goes, onward}
+use Rattle.walk.proofs.Seen.{and-left, and-right, see-part, body-length, see-bind, see-after, see-check, see-give, then-gate, gate-true, gate-false, stays-goes, yields}
+use Rattle.walk.proofs.Went.{goes-same, gate-went, onward-went}
 use Rattle.rules.specs.Rules as R
-use Rattle.rules.specs.Rules.{recording}
+use Rattle.rules.specs.Rules.{admit, recording}
 use Rattle.rules.specs.declared.Channels.{Channels}
 use Rattle.rules.specs.declared.Frames.{Frames}
 use Rattle.rules.specs.declared.Refusal.{Refusal}
 use Rattle.rules.proofs.Room.{stays-recordingBody}
 use Rattle.records.specs.Says.{halts}
 use Rattle.judge.specs.Halves as H
-use Rattle.judge.specs.Recorded.{placesOf, Places-of, recorded, Continues}
+use Rattle.judge.specs.Recorded.{placesOf, placesFor, Places-of, recorded, Continues}
 use Rattle.judge.specs.Signaled.{Known, Whole, Signaled}
 use Rattle.judge.specs.Tabled.{Within, Room, placeOf, channelsIn, patientIn, heldAt, Keeps, Bounds, tabled}
 use Rattle.judge.specs.declared.frames.Framed.{Framed}
@@ -35,6 +37,7 @@ use Rattle.judge.specs.declared.tables.Places.{Places}
 use Rattle.judge.specs.declared.tables.Tabled.the-variants as Tabled
 use Rattle.judge.specs.declared.tables.Tables.{Tables}
 use Rattle.judge.proofs.Halves.{halves}
+use Rattle.judge.proofs.Signaled.{yields-signals}
 
 -- the place of a part of a recording at `start`, whose body has n bytes: by the room, as the tables have it, and as the layout has it
 part-place : (start n room bytes at : ℕ) → bytes ≡ 16 + n → at ≡ bytes - room → placeOf (start + 16) n room ≡ start + at
@@ -48,10 +51,6 @@ frames-place start n room bytes at p e d r l = omega arith
 picked : (x y : Bool) (v a b other : ℕ) → v ≡ pick x a other → y ≡ x → a ≡ b → v ≡ pick y b other
 picked x y v a b other k e d = rw (e, ← d) k
 
--- what the code makes of its parts
-abbrev placesFor : ℕ → ℕ → Tables → Channels → Frames → Places
-placesFor at n t cs f = record { start = at; end = at + 16 + n; channels = t .channels; count = cs .count; patient = t .patient; «has_events» = t .«has_events»; events = t .events; frames = at + 16 + t .next .at; frame = f .size; total = t .basic .frames; seconds = f .seconds }
-
 -- what `channels_of` says
 abbrev ChannelsOf : Tables → Channels → Type 0
 ChannelsOf t cs = (cs .subs ≡ t .channels + 32) × (cs .count ≡ t .count)
@@ -62,15 +61,15 @@ alike : {a a' b b' c c' d d' e e' g g' k k' l l' m m' n n' : ℕ} {x x' : Bool} 
 alike e₁ e₂ e₃ e₄ e₅ e₆ e₇ e₈ e₉ e₁₀ e₁₁ = cc
 
 -- the code's places are the walk's
-places-same : (o : Order) (file : List ℕ) (at n : ℕ) (before : Before) (t : Tables) (cs : Channels) (f : Frames) (X : H.Tables) (e : ℕ) (h : R.Head) (x : R.Placed) → Keeps o file (at + 16) n before t X e → Whole X h f x → ChannelsOf t cs → R.span h ≡ 16 + n → t .next .at + 16 ≤ n → placesFor at n t cs f ≡ placesOf at before x
-places-same o file at n before t cs f X e h x k w c s l =
+places-same : (o : Order) (file : List ℕ) (at n : ℕ) (before : Before) (t : Tables) (f : Frames) (X : H.Tables) (e : ℕ) (h : R.Head) (x : R.Placed) → Keeps o file (at + 16) n before t X e → Whole X h f x → R.span h ≡ 16 + n → t .next .at + 16 ≤ n → placesFor at n t (f .size) (f .seconds) ≡ placesOf at before x
+places-same o file at n before t f X e h x k w s l =
     let bytes : x .layout .bytes ≡ R.span h = ap (λ (y : R.Layout). y .bytes) (w .layout) in
     let at120 : x .layout .at120 ≡ R.span h - X .next .room = ap (λ (y : R.Layout). y .at120) (w .layout) in
     let at130 : x .layout .at130 ≡ R.span h - X .channels .next .room = ap (λ (y : R.Layout). y .at130) (w .layout) in
     let at200 : x .layout .at200 ≡ R.span h - X .patient .next .room = ap (λ (y : R.Layout). y .at200) (w .layout) in
     let at140 : x .layout .at140 ≡ R.span h - X .events .next .room = ap (λ (y : R.Layout). y .at140) (w .layout) in
     let total : x .recording .basic .frames ≡ t .basic .frames = ap (λ (y : R.Basic). y .frames) (w .basic) ∙ k .frames in
-    let count : length (x .recording .channels) ≡ cs .count = ap length (w .channels) ∙ k .stand .0 ∙ sym (c .1) in
+    let count : length (x .recording .channels) ≡ t .count = ap length (w .channels) ∙ k .stand .0 in
     alike
     refl
     (omega (arith, bytes, s))
@@ -99,39 +98,54 @@ module _ (o : Order) (file : List ℕ) (at : ℕ) (s : List ℕ) (before : Befor
   pub tables-stop : {r : Refusal} → tabled o file (at + 16) held s before (Tabled.Stop r) → body ≡ halts r
   tables-stop k = opened ∙ rw k
 
-  module _ {t : Tables} {cs : Channels} {m : ℕ} (kept : tabled o file (at + 16) held s before (Tabled.On t)) (chan : ChannelsOf t cs) (times : h .multiplier ≡ m) where
-    known : Known o file cs (t .own) (t .basic) (t .next) s m (kept .value) h
-    known = record {
-      channels = kept .kept .channels;
-      frames = kept .kept .frames;
-      own = kept .kept .own;
-      count = kept .kept .stand .0 ∙ sym (chan .1);
-      kept = rw (chan .0) (kept .kept .stand .1);
-      head = kept .kept .head;
-      room = kept .kept .room;
-      bytes = fills;
-      multiplier = times;
-    }
-
+  module _ {t : Tables} (kept : tabled o file (at + 16) held s before (Tabled.On t)) where
     reached : body ≡ see o (at + 16) s (at + 16 + (t .next .at + 16)) (H.signals (kept .value) h)
     reached = opened ∙ rw (kept .is, kept .kept .end)
 
-    pub signals-stop : {r : Refusal} → Signals o file at s m t cs (Framed.Stop r) → body ≡ halts r
-    signals-stop k = reached ∙ k (kept .value) h known
+    -- the second half is whole, with a 140 of which the code keeps f
+    placed : (f : Frames) {x : R.Placed} {e : ℕ} → body ≡ goes x e → e ≡ at + 16 + length s → Whole (kept .value) h f x → t .next .at + 16 ≤ length s → Goes body (Places-of o file at before (placesFor at (length s) t (f .size) (f .seconds)))
+    placed f {x} {e} g i w l = record { value = x; end = e; is = g; kept = record { end = i; same = places-same o file at (length s) before t f (kept .value) (kept .end) h x (kept .kept) w fills l; held = rw (w .channels) (kept .kept .stand) } }
 
-    pub body-holds : {f : Frames} (q : ℕ) → Signals o file at s m t cs (Framed.On f q) → t .next .at + 16 ≤ length s → Goes body (Places-of o file at before (placesFor at (length s) t cs f))
-    body-holds {f} q k l =
-        let g : Goes (see o (at + 16) s (at + 16 + (t .next .at + 16)) (H.signals (kept .value) h)) (λ p e. (e ≡ at + 16 + length s) × Whole (kept .value) h f p) = k (kept .value) h known in
-        record {
-          value = g .value;
-          end = g .end;
-          is = reached ∙ g .is;
-          kept = record {
-            end = g .kept .0;
-            same = places-same o file at (length s) before t cs f (kept .value) (kept .end) h (g .value) (kept .kept) (g .kept .1) chan fills l;
-            held = rw (g .kept .1 .channels, chan .1) (kept .kept .stand);
-          };
-        }
+    module _ {cs : Channels} {m : ℕ} (chan : ChannelsOf t cs) (times : h .multiplier ≡ m) where
+      known : Known o file cs (t .own) (t .basic) (t .next) s m (kept .value) h
+      known = record {
+        channels = kept .kept .channels;
+        frames = kept .kept .frames;
+        own = kept .kept .own;
+        count = kept .kept .stand .0 ∙ sym (chan .1);
+        kept = rw (chan .0) (kept .kept .stand .1);
+        head = kept .kept .head;
+        room = kept .kept .room;
+        bytes = fills;
+        multiplier = times;
+      }
+
+      pub signals-stop : {r : Refusal} → Signals o file at s m t cs (Framed.Stop r) → body ≡ halts r
+      signals-stop k = reached ∙ k (kept .value) h known
+
+      pub body-holds : {f : Frames} (q : ℕ) → Signals o file at s m t cs (Framed.On f q) → t .next .at + 16 ≤ length s → Goes body (Places-of o file at before (placesFor at (length s) t (f .size) (f .seconds)))
+      body-holds {f} q k l =
+          let g : Goes (see o (at + 16) s (at + 16 + (t .next .at + 16)) (H.signals (kept .value) h)) (λ p e. (e ≡ at + 16 + length s) × Whole (kept .value) h f p) = k (kept .value) h known in
+          placed f (reached ∙ g .is) (g .kept .0) (g .kept .1) l
+
+    -- of a body that the walk accepted
+    module _ {x : R.Placed} {e : ℕ} (g : body ≡ goes x e) where
+      abbrev numbers : Frames
+      numbers = record { seconds = numberAt o 4 s (t .next .at + 16); size = numberAt o 4 s (t .next .at + 20); padded = 0 }
+
+      told : (32 ≤ kept .value .events .next .room) × Whole (kept .value) h numbers x
+      told =
+          let i : at + 16 + (t .next .at + 16) - (at + 16) ≡ t .next .at + 16 = omega arith in
+          let j : at + 16 + (t .next .at + 16) + 4 - (at + 16) ≡ t .next .at + 20 = omega arith in
+          rw (i, j) at (yields o (at + 16) s (H.signals (kept .value) h) (at + 16 + (t .next .at + 16)) _ (yields-signals o (at + 16) s (at + 16 + (t .next .at + 16)) (kept .value) h) (sym reached ∙ g))
+
+      pub again-short : length s < t .next .at + 32 → ⊥
+      again-short l = omega (arith, told .0, kept .kept .room)
+
+      pub again-holds : (frame seconds : ℕ) → seconds ≡ numberAt o 4 s (t .next .at + 16) → frame ≡ numberAt o 4 s (t .next .at + 20) → t .next .at + 16 ≤ length s → Goes body (Places-of o file at before (placesFor at (length s) t frame seconds))
+      again-holds frame seconds i j l =
+          let z = stays-goes o (at + 16) s (at + 16 + (R.span h - 16)) (omega arith) (R.recordingBody held h) (at + 16) _ (omega arith) (stays-recordingBody held h (at + 16) (omega arith)) g in
+          rw (i, j) (placed numbers g (omega (arith, z .1)) (told .1) l)
 
 -- the bounds that hold whatever the walk holds, and what the functions that are called ask: in a file of L bytes
 module _ (at n L : ℕ) (before : Before) (t : Tables) (b : Bounds (at + 16) n before t) (fits : at + 16 + n ≤ L) (short : L < 9223372036854775808) (within : Within L before) where
@@ -143,8 +157,20 @@ module _ (at n L : ℕ) (before : Before) (t : Tables) (b : Bounds (at + 16) n b
       let r : Room L (t .channels) (t .count) = b .room L fits within in
       (b .low, b .fits, omega arith, omega arith, b .short, rw (c .1) (r .1), rw (c .0, c .1) (r .0))
 
-  pub body-continues : (cs : Channels) (f : Frames) → ChannelsOf t cs → Continues at L (Recorded.On (placesFor at n t cs f))
-  body-continues cs f c = (omega arith, fits, rw (c .1) (b .room L fits within))
+-- the bounds of its places
+pub body-continues : (at n L : ℕ) (before : Before) (t : Tables) → Bounds (at + 16) n before t → at + 16 + n ≤ L → Within L before → (frame seconds : ℕ) → Continues at L (Recorded.On (placesFor at n t frame seconds))
+body-continues at n L before t b fits within frame seconds = (omega arith, fits, b .room L fits within)
+
+-- what an admitted head says; it is admitted with any serial
+pub admit-passed : (o : Order) (b : ℕ) (s : List ℕ) (at room most : ℕ) (fits serial : ℕ → Bool) (h : R.Head) {e : ℕ} → see o b s at (R.admit room most fits serial h) ≡ goes tt e →
+    (e ≡ at) × (fits (R.span h) ≡ true) × (serial (h .serial) ≡ true) × (R.span h ≤ room) × (see o b s at (R.admit room most fits (λ _. true) h) ≡ goes tt at)
+unfolding admit see _>>=_ _>>_
+admit-passed o b s at room most fits serial h g =
+    let g₁ = gate-went _ _ _ _ g in
+    let g₂ = gate-went _ _ _ _ (g₁ .1) in
+    let g₃ = gate-went _ _ _ _ (g₂ .1) in
+    let y : fits (R.span h) && leb (R.span h) room ≡ true = and-right (ltb (h .size) R.limit) _ (g₂ .0) in
+    (sym (goes-same (g₃ .1) .1), and-left (fits (R.span h)) _ y, g₃ .0, leb-true (R.span h) room (and-right (fits (R.span h)) _ y), simp (g₁ .0, g₂ .0, gate-true))
 
 -- a recording at byte p of the file
 module _ (o : Order) (file : List ℕ) (p i : ℕ) (held : Option R.Held) where
@@ -160,14 +186,20 @@ module _ (o : Order) (file : List ℕ) (p i : ℕ) (held : Option R.Held) where
     begins : see o 0 file p (R.head (length file - p)) ≡ goes h (p + 16)
     begins = rw (zero-add p, zero-add (k + 16), is) at found
 
-    pub other-code : (h .code ≡ 10 → ⊥) → walk ≡ stops 9 (p + 4)
+    -- what stands behind the test of its code
+    abbrev behind : Verdict R.Placed
+    behind = onward (see o 0 file (p + 16) (R.admit (length file - p) 128 (leb 16) (eqb i) h)) (λ _ e. see o 0 file e (R.recordingBody held h))
+
+    gated : walk ≡ gate (eqb (h .code) 10) behind 9 (p + 4)
     unfolding recording
-    other-code c = simp (walks, begins, ne-eqb _ _ c)
+    gated = let z : p + 16 - 12 ≡ p + 4 = omega arith in simp (see-bind, see-after, see-check, see-give, then-gate, begins, z)
+
+    pub other-code : (h .code ≡ 10 → ⊥) → walk ≡ stops 9 (p + 4)
+    other-code c = gated ∙ rw (ne-eqb _ _ c, gate-false)
 
     module _ (code : h .code ≡ 10) where
-      coded : walk ≡ onward (see o 0 file (p + 16) (R.admit (length file - p) 128 (leb 16) (eqb i) h)) (λ _ e. see o 0 file e (R.recordingBody held h))
-      unfolding recording
-      coded = simp (see-bind, see-after, see-check, see-give, begins, eq-eqb _ _ code, gate-true)
+      coded : walk ≡ behind
+      coded = gated ∙ rw (eq-eqb _ _ code, gate-true)
 
       pub room-stop : {n q : ℕ} → see o 0 file (0 + (k + 16)) (R.admit (length file - k) 128 (leb 16) (eqb i) h) ≡ stops n q → walk ≡ stops n q
       room-stop a = coded ∙ rw (rw (zero-add, is) at a)
@@ -180,10 +212,31 @@ module _ (o : Order) (file : List ℕ) (p i : ℕ) (held : Option R.Held) where
             see-part o 0 (p + 16) (p + 16) (q - (p + 16)) file (sym (zero-add (p + 16))) (omega arith) (R.recordingBody held h) (p + 16) (λ x e. (x .layout .bytes ≡ R.span h) × (e ≡ p + 16 + (q - (p + 16)))) (omega arith) (rw z at (stays-recordingBody held h (p + 16) least)) ∙ sym (coded ∙ rw (rw (zero-add, is) at a))
 
         -- what `recording_body` says, of this head
-        pub recorded-body : (before : Before) (x : Recorded) → ((d : R.Head) → R.span d ≡ 16 + length (take (q - (p + 16)) (drop (p + 16) file)) → d .multiplier ≡ h .multiplier → recorded o file p before (see o (p + 16) (take (q - (p + 16)) (drop (p + 16) file)) (p + 16) (R.recordingBody held d)) x) → recorded o file p before walk x
+        pub recorded-body : (before : Before) (x : Recorded) → (R.span h ≡ 16 + length (take (q - (p + 16)) (drop (p + 16) file)) → see o (p + 16) (take (q - (p + 16)) (drop (p + 16) file)) (p + 16) (R.recordingBody held h) ≡ walk → recorded o file p before (see o (p + 16) (take (q - (p + 16)) (drop (p + 16) file)) (p + 16) (R.recordingBody held h)) x) → recorded o file p before walk x
         recorded-body before x r =
             let l : 16 + length (take (q - (p + 16)) (drop (p + 16) file)) ≡ q - p = body-length p q file (omega arith) fits in
-            rw in-body at (r h (omega arith) refl)
+            rw in-body at (r (omega arith) in-body)
+
+    -- a recording that the walk accepted: its head says so, whatever its serial
+    module _ {x : R.Placed} {e : ℕ} (g : walk ≡ goes x e) where
+      tested : (eqb (h .code) 10 ≡ true) × (behind ≡ goes x e)
+      tested = gate-went _ behind 9 (p + 4) (sym gated ∙ g)
+
+      pub code-is : h .code ≡ 10
+      code-is = eqb-true (h .code) 10 (tested .0)
+
+      admits : Goes (see o 0 file (p + 16) (R.admit (length file - p) 128 (leb 16) (eqb i) h)) (λ _ m. see o 0 file m (R.recordingBody held h) ≡ goes x e)
+      admits = onward-went _ _ (tested .1)
+
+      pub admitted : see o 0 file (0 + (k + 16)) (R.admit (length file - k) 128 (leb 16) (eqb i) h) ≡ goes tt (0 + (k + 16))
+      admitted = rw (zero-add, is) (admits .is ∙ ap (λ (m : ℕ). goes tt m) (admit-passed o 0 file (p + 16) _ _ _ _ h (admits .is) .0))
+
+      pub not-refused : {n q : ℕ} → see o 0 file (0 + (k + 16)) (R.admit (length file - k) 128 (leb 16) (λ _. true) h) ≡ stops n q → ⊥
+      not-refused a =
+          let u = rw (zero-add, is) at a in
+          let v = admit-passed o 0 file (p + 16) _ _ _ _ h (admits .is) .4 in
+          let z : _≡_ {A = ℕ} 0 1 = cc in
+          omega arith
 
 -- the part of the file from byte p on, up to q: what `recording_body` asks of it
 module _ (file : List ℕ) (p q : ℕ) (low : p ≤ q) (fits : q ≤ length file) where

@@ -9,25 +9,20 @@ use native.Mathlib.Numerals.{add-one}
 use native.Mathlib.Omega.{arith}
 use lib.ListN.{length}
 use Rattle.words.specs.declared.Order.{Order}
-use Rattle.walk.specs.See.{Verdict, stops, goes, see, over, ends, onward, Goes, Yields}
-use Rattle.words.specs.Numbers.{bytesAt, numberAt}
-use Rattle.walk.specs.Walk.{laid, Walk, give, refuse, check, number, read, skip, list, _>>=_}
+use Rattle.walk.specs.See.{stops, goes, see, over, ends, onward, Goes, Yields}
+use Rattle.walk.specs.Walk.{give, _>>=_}
 use Rattle.walk.proofs.Seen.{see-bind, over-then, stays-goes, yields-bind}
 use Rattle.rules.specs.Rules.{Held, Placed, recording, recordings}
 use Rattle.rules.proofs.Room.{stays-recording}
 use Rattle.records.specs.Says.{halts}
+use Rattle.records.proofs.Steps.{ends-cons}
 use Rattle.judge.specs.Recorded.{leaves, Places-of}
 use Rattle.judge.specs.Tabled.{HeldAs}
 use Rattle.rules.specs.declared.Refusal.{Refusal}
 use Rattle.judge.specs.declared.tables.Before.{Before}
 use Rattle.judge.specs.declared.tables.Before.the-variants as Before
 use Rattle.judge.specs.declared.tables.Places.{Places}
-
--- an answer put before a list that follows, of which only the place is kept
-ends-give : {A B : Type 0} (f : A → B) (v : Verdict A) → ends (onward v (λ l e. goes (f l) e)) ≡ ends v
-unfolding over
-ends-give f (stops n p) = refl
-ends-give f (goes l e) = refl
+use Rattle.judge.proofs.Stands.{yields-past}
 
 module _ (o : Order) (b : ℕ) (s : List ℕ) where
   recordings-suc : (at n : ℕ) (held : Option Held) (room i : ℕ) →
@@ -35,7 +30,7 @@ module _ (o : Order) (b : ℕ) (s : List ℕ) where
   unfolding recordings see
   recordings-suc at n held room i =
       rw see-bind (over-then (λ _. tt) (see o b s at (recording held room i)) (λ x e. see o b s e (recordings n (leaves x) (room - x .layout .bytes) (suc i) >>= λ l. give (x ∷ l))) (λ x e. ends (see o b s e (recordings n (leaves x) (room - x .layout .bytes) (suc i))))
-      (λ x e. ap ends (see-bind o b s e (recordings n (leaves x) (room - x .layout .bytes) (suc i)) (λ l. give (x ∷ l))) ∙ ends-give (λ l. x ∷ l) (see o b s e (recordings n (leaves x) (room - x .layout .bytes) (suc i)))))
+      (λ x e. ap ends (see-bind o b s e (recordings n (leaves x) (room - x .layout .bytes) (suc i)) (λ l. give (x ∷ l))) ∙ ends-cons (λ l. x ∷ l) (see o b s e (recordings n (leaves x) (room - x .layout .bytes) (suc i)))))
 
   recordings-none : (at room n i k : ℕ) (held : Option Held) → n ≤ i → ends (see o b s at (recordings (n - i) held room k)) ≡ goes tt at
   unfolding recordings see over
@@ -46,23 +41,13 @@ module _ (o : Order) (b : ℕ) (s : List ℕ) where
       let d : n - i ≡ suc (n - (i + 1)) = omega arith in
       rw (d, recordings-suc at (n - (i + 1)) held room (i + 1), k)
 
-  -- of any walk nothing need be said
-  yields-any : {A : Type 0} (w : Walk A) (at : ℕ) → Yields o b s at w (λ _ _. Unit {0})
-  yields-any (give x) at = tt
-  yields-any (refuse n p) at = tt
-  yields-any (check c n p w) at = λ _. yields-any w at
-  yields-any (number n f) at = yields-any (f (numberAt o n s (at - b))) (at + n)
-  yields-any (read k n f) at = yields-any (f (laid o k (bytesAt n s (at - b)))) (at + n)
-  yields-any (skip n w) at = yields-any w (at + n)
-  yields-any (list p l c m w) at = yields-any w at
-
   -- how many there are
   pub yields-recordings : (n : ℕ) (held : Option Held) (room i at : ℕ) → Yields o b s at (recordings n held room i) (λ rs e. length rs ≡ n)
   unfolding recordings
   yields-recordings zero held room i at = refl
   yields-recordings (suc n) held room i at =
-      yields-bind o b s (recording held room i) _ at (λ _ _. Unit {0}) _ (yields-any (recording held room i) at)
-      (λ x e _. yields-bind o b s (recordings n (leaves x) (room - x .layout .bytes) (suc i)) _ e _ _ (yields-recordings n (leaves x) (room - x .layout .bytes) (suc i) e)
+      yields-past o b s (recording held room i) _ at _
+      (λ x e. yields-bind o b s (recordings n (leaves x) (room - x .layout .bytes) (suc i)) _ e _ _ (yields-recordings n (leaves x) (room - x .layout .bytes) (suc i) e)
       (λ rs _ q. ap suc q))
 
 -- the room that is left behind a recording is what is left of the file

@@ -9,10 +9,11 @@ use native.Mathlib.Omega.{arith}
 use borrow.Author.Tests.{eq-eqb, ne-eqb}
 use lib.Dec.{leb, eqb}
 use lib.ListN.{length}
+use Rattle.words.specs.Numbers.{numberAt}
 use Rattle.words.specs.declared.Order.{Order}
 use Rattle.walk.specs.Walk.{Walk, give, _>>=_, _>>_, require}
-use Rattle.walk.specs.See.{Verdict, stops, goes, gate, see, onward, over, Goes}
-use Rattle.walk.proofs.Seen.{see-bind, see-after, see-check, see-give, then-gate, gate-true, gate-false, stopped, went, stays-goes}
+use Rattle.walk.specs.See.{Verdict, stops, goes, gate, see, onward, over, Goes, Yields}
+use Rattle.walk.proofs.Seen.{see-bind, see-after, see-check, see-give, then-gate, gate-true, gate-false, stopped, went, stays-goes, yields-bind}
 use Rattle.rules.specs.Rules as R
 use Rattle.rules.specs.declared.Basic.{Basic}
 use Rattle.rules.specs.declared.Channels.{Channels}
@@ -23,6 +24,8 @@ use Rattle.records.specs.Says.{headOf, Headroom, headroom}
 use Rattle.judge.specs.Framed.{framesOf}
 use Rattle.judge.specs.Halves.{Tables, signals}
 use Rattle.judge.specs.Signaled.{Known, Whole}
+use Rattle.judge.proofs.FramesBody.{yields-frames}
+use Rattle.judge.proofs.Stands.{yields-past}
 
 -- what is given at the end
 unfoldable pub placed : Tables → R.Head → R.Frames → R.Next → R.Placed
@@ -46,6 +49,10 @@ placed t r f d = record {
   layout = record { bytes = R.span r; at120 = R.span r - t .next .room; at130 = R.span r - t .channels .next .room; at200 = R.span r - t .patient .next .room; at140 = R.span r - t .events .next .room; frame = f .size };
 }
 
+whole : (t : Tables) (r : R.Head) (a : R.Frames) (d : R.Next) (f : Frames) → a .size ≡ f .size → a .seconds ≡ f .seconds → Whole t r f (placed t r a d)
+unfolding placed
+whole t r a d f i j = record { layout = rw i; seconds = j; basic = refl; ownChannels = refl; channels = refl; ownPatient = refl; patient = refl; ownEvents = refl }
+
 -- behind the delimiter: so many bytes of the recording are used, and so many are left
 unfoldable pub closing : R.Head → ℕ → ℕ → ℕ → R.Placed → Walk R.Placed
 closing r used left padded p = require (leb (used - padded) R.contentLimit) 14 used >> (require (R.padOk r left) 10 0 >> (R.padding left >> give p))
@@ -58,6 +65,18 @@ signals-split : (t : Tables) (r : R.Head) → signals t r ≡
     R.next (R.span r) (t .events .next .room - R.span (t .events .next .head)) >>= behind t r f))
 unfolding signals behind closing placed
 signals-split t r = refl
+
+-- of a second half that the walk accepted: the 140 has room for its numbers, and they are in its bytes
+pub yields-signals : (o : Order) (b : ℕ) (s : List ℕ) (at : ℕ) (t : Tables) (r : R.Head) → Yields o b s at (signals t r) (λ x _. (32 ≤ t .events .next .room) × Whole t r (record { seconds = numberAt o 4 s (at - b); size = numberAt o 4 s (at + 4 - b); padded = 0 }) x)
+unfolding behind closing _>>=_ _>>_
+yields-signals o b s at t r =
+    let last : R.Next = t .events .next in
+    rw signals-split (λ _.
+    yields-bind o b s (R.frames (t .basic) (t .channels .own) (t .channels .value) (R.span r - last .room - 20) (last .room) (last .head)) _ at _ _ (yields-frames o b s at (t .basic) (t .channels .own) (t .channels .value) (R.span r - last .room - 20) (last .room) (last .head))
+    (λ f e q. yields-past o b s (R.next (R.span r) (last .room - R.span (last .head))) _ e _
+    (λ d e₂. yields-past o b s (R.delimiter (d .head)) _ e₂ _
+    (λ _ e₃ _ _. yields-past o b s (R.padding (d .room - 16)) _ e₃ _
+    (λ _ _. (q .0, whole t r f d _ (q .1 .each) (q .1 .seconds)))))))
 
 closed-open : (o : Order) (b : ℕ) (s : List ℕ) (at : ℕ) (r : R.Head) (used left padded : ℕ) (p : R.Placed) → see o b s at (closing r used left padded p) ≡
     onward (gate (leb (used - padded) R.contentLimit) (gate (R.padded (r .multiplier) left) (see o b s at (R.padding left)) 10 at) 14 (at - used)) (λ _ e. goes p e)
@@ -141,8 +160,7 @@ module _ {o : Order} {base : ℕ} {s : List ℕ} {t : Tables} {r : R.Head} {v : 
     closed-stop e = closed-as ∙ rw e
 
     pub closed-on : {p : ℕ} → x ≡ goes tt p → Goes v (λ y e. (e ≡ p) × Whole t r f y)
-    unfolding placed
     closed-on {p} e =
         let i : a .value .size ≡ f .size = ap (λ (u : Frames). u .size) (a .kept) in
         let j : a .value .seconds ≡ f .seconds = ap (λ (u : Frames). u .seconds) (a .kept) in
-        record { value = placed t r (a .value) (a .next); end = p; is = closed-as ∙ rw e; kept = (refl, record { layout = rw i; seconds = j; basic = refl; ownChannels = refl; channels = refl; ownPatient = refl; patient = refl; ownEvents = refl }) }
+        record { value = placed t r (a .value) (a .next); end = p; is = closed-as ∙ rw e; kept = (refl, whole t r (a .value) (a .next) f i j) }

@@ -7,33 +7,28 @@ use mathlib.Core.Option.{Option, none, some}
 use Prim.Native.Nat.{ℕ, _+_, _*_, _-_, _≤_}
 use native.Mathlib.Nat.{add-assoc}
 use native.Mathlib.Omega.{arith}
-use borrow.Author.Tests.{leb-true, eqb-true}
-use lib.Dec.{leb}
+use borrow.Author.Tests.{eqb-true}
 use lib.ListN.{length, take, drop}
 use Rattle.words.specs.declared.Order.{Order}
-use Rattle.words.specs.Numbers.{wordIn, numberAt}
-use Rattle.walk.specs.Walk.{Walk, give, refuse, check, number, read, skip, list, pick, _>>=_, _>>_}
+use Rattle.words.specs.Numbers.{wordIn, bytesAt, numberAt}
+use Rattle.walk.specs.Walk.{laid, Walk, give, refuse, check, number, read, skip, list, pick, _>>=_, _>>_}
 use Rattle.walk.specs.See.{goes, see, Yields}
-use Rattle.walk.proofs.Seen.{yields, part-bytes, and-left, and-right}
+use Rattle.walk.proofs.Seen.{yields, yields-bind, part-bytes}
 use Rattle.rules.specs.Rules as R
-use Rattle.rules.specs.Rules.{between, fixed, head, admit, basicBody, channels, channelsBody, channel, series}
+use Rattle.rules.specs.Rules.{fixed, head, admit, basicBody, channels, channelsBody, channel, series}
 use Rattle.records.specs.Says.{Kept}
+use Rattle.records.proofs.Facts.{between-in}
 use Rattle.records.proofs.Steps.{yields-channels}
 use Rattle.judge.specs.Tabled.{HeldIs, HeldAs, Within, Stand, Room, Owned, Value, heldAt, channelsIn, countIn}
 use Rattle.judge.specs.declared.tables.Before.{Before}
 use Rattle.judge.specs.declared.tables.Before.the-variants as Before
 
--- the two bounds of a test
-low-high : (low high n : ℕ) → between low high n ≡ true → (low ≤ n) × (n ≤ high)
-unfolding between
-low-high low high n e = (leb-true low n (and-left (leb low n) (leb n high) e), leb-true n high (and-right (leb low n) (leb n high) e))
-
 pub yields-basic : (o : Order) (b : ℕ) (s : List ℕ) (room at : ℕ) → Yields o b s at (R.basic room) (λ x e. (1 ≤ x .channels) × (x .channels ≤ 128) × (x .frames ≤ 1000000))
 unfolding fixed head admit basicBody _>>=_ _>>_
-yields-basic o b s room at _ _ _ _ _ _ c f _ _ _ _ _ _ _ = (low-high 1 128 _ c .0, low-high 1 128 _ c .1, low-high 1 1000000 _ f .1)
+yields-basic o b s room at _ _ _ _ _ _ c f _ _ _ _ _ _ _ = (between-in 1 128 _ c .0, between-in 1 128 _ c .1, between-in 1 1000000 _ f .1)
 
 -- less may be said of the answer
-yields-weaken : {A : Type 0} (o : Order) (b : ℕ) (s : List ℕ) (w : Walk A) (at : ℕ) (Q R : A → ℕ → Type 0) → ((a : A) (e : ℕ) → Q a e → R a e) → Yields o b s at w Q → Yields o b s at w R
+pub yields-weaken : {A : Type 0} (o : Order) (b : ℕ) (s : List ℕ) (w : Walk A) (at : ℕ) (Q R : A → ℕ → Type 0) → ((a : A) (e : ℕ) → Q a e → R a e) → Yields o b s at w Q → Yields o b s at w R
 yields-weaken o b s (give x) at Q R i h = i x at h
 yields-weaken o b s (refuse n p) at Q R i h = tt
 yields-weaken o b s (check c n p w) at Q R i h = λ e. yields-weaken o b s w at Q R i (h e)
@@ -42,13 +37,27 @@ yields-weaken o b s (read k n f) at Q R i h = yields-weaken o b s (f _) (at + n)
 yields-weaken o b s (skip n w) at Q R i h = yields-weaken o b s w (at + n) Q R i h
 yields-weaken o b s (list p l c m w) at Q R i h = yields-weaken o b s w at Q R i h
 
+-- of any walk nothing need be said
+yields-any : {A : Type 0} (o : Order) (b : ℕ) (s : List ℕ) (w : Walk A) (at : ℕ) → Yields o b s at w (λ _ _. Unit {0})
+yields-any o b s (give x) at = tt
+yields-any o b s (refuse n p) at = tt
+yields-any o b s (check c n p w) at = λ _. yields-any o b s w at
+yields-any o b s (number n f) at = yields-any o b s (f (numberAt o n s (at - b))) (at + n)
+yields-any o b s (read k n f) at = yields-any o b s (f (laid o k (bytesAt n s (at - b)))) (at + n)
+yields-any o b s (skip n w) at = yields-any o b s w (at + n)
+yields-any o b s (list p l c m w) at = yields-any o b s w at
+
+-- so of a step, where what follows does not ask
+pub yields-past : {A B : Type 0} (o : Order) (b : ℕ) (s : List ℕ) (w : Walk A) (k : A → Walk B) (at : ℕ) (R : B → ℕ → Type 0) → ((a : A) (e : ℕ) → Yields o b s e (k a) R) → Yields o b s at (w >>= k) R
+yields-past o b s w k at R g = yields-bind o b s w k at (λ _ _. Unit {0}) R (yields-any o b s w at) (λ a e _. g a e)
+
 -- the rest of the 120 at byte p
 yields-rest : (o : Order) (b : ℕ) (s : List ℕ) (x : R.Basic) (room : ℕ) (h : R.Head) (p : ℕ) → Yields o b s (b + (p + 16)) (channels x room h) (λ cs e. Stand o s p (x .channels) cs × (x .channels ≤ 128) × (e ≡ b + (p + 32 + 256 * x .channels)))
 unfolding channels channelsBody admit _>>=_ _>>_
 yields-rest o b s x room h p _ _ _ c₁ c₂ _ _ =
     let m : ℕ = numberAt o 4 s (b + (p + 16) - b) in
     let d : m ≡ x .channels = eqb-true m (x .channels) c₂ in
-    let l : m ≤ 128 = low-high 1 128 m c₁ .1 in
+    let l : m ≤ 128 = between-in 1 128 m c₁ .1 in
     let z : b + (p + 16) + 4 + 4 + 8 ≡ b + (p + 32) = omega arith in
     rw z (yields-weaken o b s (series m 1 256 (R.span h - 32) channel) (b + (p + 32)) _ _
     (λ cs e q. ((q .1 ∙ d, q .0), omega arith, rw d at (q .2)))

@@ -11,9 +11,10 @@ use lib.Dec.{eqb}
 use lib.ListN.{length}
 use borrow.Author.Tests.{eqb-true, eqb-false}
 use Rattle.words.specs.declared.Order.{Order}
-use Rattle.walk.specs.See.{Verdict, stops, goes, see, ends, Goes, Holds, onward}
+use Rattle.walk.specs.See.{Verdict, stops, goes, see, ends, Goes, Holds}
 use Rattle.walk.specs.Walk.{Event, Walk, Outcome, refused, passed}
-use Rattle.walk.proofs.Seen.{walks, see-give, see-bind, stopped, went, yields, stays-holds, stays-goes}
+use Rattle.walk.proofs.Seen.{walks, see-give, stopped, went, yields, stays-holds, stays-goes}
+use Rattle.walk.proofs.Went.{went-first}
 use Rattle.rules.specs.Rules.{FileHeader, Placed, File, fileHeader, recordings, file, orderOf, judge}
 use Rattle.rules.specs.declared.FileHeader as Declared
 use Rattle.rules.proofs.Refusals.{Told, judge-told}
@@ -123,18 +124,14 @@ pub record Accepted-seen (s : List ℕ) (h : Declared.FileHeader) (x : AcceptedA
   pub header : see (orderOf s) 0 s 0 (fileHeader (length s)) ≡ goes (record { script = h .script; count = h .count }) 32
   pub recordings : see (orderOf s) 0 s 32 (recordings (h .count) none (length s - 32) 1) ≡ goes (x .file .recordings) (length s)
 
-onward-went : {A B : Type 0} (v : Verdict A) (k : A → ℕ → Verdict B) {b : B} {x : ℕ} → onward v k ≡ goes b x → Goes v (λ a e. k a e ≡ goes b x)
-onward-went (stops n p) k h = absurd (let z : _≡_ {A = ℕ} 0 1 = cc in omega arith)
-onward-went (goes a e) k h = record { value = a; end = e; is = refl; kept = h }
-
 pub accepted-seen : (s : List ℕ) (h : Declared.FileHeader) (x : AcceptedAs s h) → Accepted-seen s h x
 unfolding file
 accepted-seen s h x =
     let o : Order = orderOf s in
-    let g = onward-went (see o 0 s 0 (fileHeader (length s))) _ (sym (see-bind o 0 s 0 (fileHeader (length s)) _) ∙ judge-went s (x .judged)) in
+    let g = went-first o 0 s 0 (fileHeader (length s)) _ (judge-went s (x .judged)) in
     let f : FileHeader = g .value in
     let w : Walk (List Placed) = recordings (f .count) none (length s - 32) 1 in
-    let r = onward-went (see o 0 s (g .end) w) _ (sym (see-bind o 0 s (g .end) w _) ∙ g .kept) in
+    let r = went-first o 0 s (g .end) w _ (g .kept) in
     let q = stays-goes o 0 s (0 + length s) (omega arith) (fileHeader (length s)) 0 _ (omega arith) (stays-fileHeader (length s) 0) (g .is) in
     let d : g .end ≡ 32 = omega (arith, q .0) in
     let k : goes (record { script = f .script; recordings = r .value }) (r .end) ≡ goes (x .file) (length s) = sym (see-give o 0 s (r .end) (record { script = f .script; recordings = r .value })) ∙ r .kept in

@@ -13,6 +13,7 @@ use Rattle.records.specs.Says.{halts}
 use Rattle.judge.specs.declared.tables.Before.{Before}
 use Rattle.judge.specs.declared.tables.Before.the-variants as Before
 use Rattle.judge.specs.declared.tables.Places.{Places}
+use Rattle.judge.specs.declared.tables.Tables.{Tables}
 use Rattle.judge.specs.declared.recording.Recorded.{Recorded}
 use Rattle.judge.specs.declared.recording.Recorded.the-variants as Recorded
 use Rattle.judge.specs.Tabled.{channelsIn, patientIn, heldAt, Within, HeldAs}
@@ -31,6 +32,22 @@ placesOf start before x = record {
   frame = x .layout .frame;
   total = x .recording .basic .frames;
   seconds = x .recording .seconds;
+}
+
+-- as the code has it: a body of n bytes with these tables, and frames that are so long and of so many seconds
+abbrev pub placesFor : ℕ → ℕ → Tables → ℕ → ℕ → Places
+placesFor start n t frame seconds = record {
+  start = start;
+  end = start + 16 + n;
+  channels = t .channels;
+  count = t .count;
+  patient = t .patient;
+  «has_events» = t .«has_events»;
+  events = t .events;
+  frames = start + 16 + t .next .at;
+  frame = frame;
+  total = t .basic .frames;
+  seconds = seconds;
 }
 
 -- what a recording leaves to hold

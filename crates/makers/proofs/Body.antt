@@ -14,6 +14,7 @@ use Rattle.walk.specs.Walk.{Row, Walk, check, list, _>>=_, _>>_, require}
 use Rattle.walk.specs.See.{goes, see}
 use Rattle.walk.specs.Tell.{tell}
 use Rattle.walk.proofs.Seen.{stays-goes}
+use Rattle.walk.proofs.Went.{went-first}
 use Rattle.walk.proofs.Told.{tell-bind}
 use Rattle.rules.specs.Rules as R
 use Rattle.rules.specs.Rules.{span, admit, makerCode, basic, next, part, channels, channelsBody, items, itemsBody, patientCode, eventCode, frames, framesBody, delimiter, padding, heldChannels, heldPatient, recordingBody}
@@ -21,7 +22,7 @@ use Rattle.rules.specs.declared.Head.{Head}
 use Rattle.rules.proofs.Room.{Rests, stays-basic, stays-channelsRest, stays-itemsRest, stays-framesRest}
 use Rattle.records.specs.Says.{headOf}
 use Rattle.table.specs.Rows.{Marks}
-use Rattle.table.proofs.Lists.{went-first, require-went, admit-went, items-lists, channels-found, frames-found, part-found, absent-lists, silent, silent-then, silent-padding}
+use Rattle.table.proofs.Lists.{require-went, admit-went, items-lists, channels-found, frames-found, part-found, absent-lists, silent, silent-then, silent-padding}
 use Rattle.table.proofs.Body.{basic-lists}
 use Rattle.makers.specs.Makers.{firstMaker, found, foundP, Comes, Behind, Past}
 use Rattle.makers.specs.declared.Found.{Found}

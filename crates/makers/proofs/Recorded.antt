@@ -19,9 +19,11 @@ use Rattle.walk.proofs.Seen.{see-bind, stays-goes, see-part, body-length}
 use Rattle.walk.proofs.Told.{tell-bind, tell-part}
 use Rattle.rules.specs.Rules.{Head, head, span, coded, admit, makerCode, Held, Placed, recordingBody, recording, recordings}
 use Rattle.rules.proofs.Room.{stays-recordingBody}
+use Rattle.judge.specs.Recorded.{leaves}
+use Rattle.judge.proofs.Led.{Led, led}
 use Rattle.table.proofs.Lists.{require-went, admit-went}
 use Rattle.table.proofs.Makers.{tell-head}
-use Rattle.table.proofs.Recorded.{leaves, Led, led}
+use Rattle.table.proofs.Recorded.{led-rows}
 use Rattle.makers.specs.Makers.{firstMaker, found}
 use Rattle.makers.specs.declared.Found.{Found}
 use Rattle.makers.specs.declared.Found.the-variants as Found
@@ -81,7 +83,7 @@ module _ {o : Order} {s : List ℕ} {count : ℕ} where
       one : count - i ≡ suc (count - (i + 1))
       one = omega arith
 
-      next : Led o s p (count - (i + 1)) (g .held) (i + 1)
+      next : Led o s p (count - (i + 1)) (g .held) (i + 1) (g .value) (g .end)
       next = led o s p (count - (i + 1)) (g .held) (i + 1) fit (rw one at (g .on))
 
       -- r is what was found in the next recording, which ends at q
@@ -89,7 +91,7 @@ module _ {o : Order} {s : List ℕ} {count : ℕ} where
           (finds : (held : Option Held) (j : ℕ) (x : Placed) (e : ℕ) → see o 0 s p (recording held (length s - p) j) ≡ goes x e → (e ≡ q) × (found r ≡ firstMaker (tell o 0 s p (recording held (length s - p) j)))) where
         -- the first of all: this, or one of the others
         split : firstMaker (tell o 0 s 32 (recordings count none (length s - 32) 1)) ≡ else (found r) (firstMaker (tell o 0 s (next .mid) (recordings (count - (i + 1)) (leaves (next .one)) (length s - next .mid) (suc (i + 1)))))
-        split = g .first ∙ rw (one, next .rows, first-append, ← finds (g .held) (i + 1) (next .one) (next .mid) (next .is) .1)
+        split = g .first ∙ rw (one, led-rows next, first-append, ← finds (g .held) (i + 1) (next .one) (next .mid) (next .is) .1)
 
         pub sofar-found : {k : ℕ} → r ≡ Found.At k → found r ≡ firstMaker (tell o 0 s 32 (recordings count none (length s - 32) 1))
         sofar-found e = sym (split ∙ rw e)
@@ -97,4 +99,4 @@ module _ {o : Order} {s : List ℕ} {count : ℕ} where
         pub sofar-next : r ≡ Found.Nothing → Sofar o s count q (i + 1)
         sofar-next e =
             let u : next .mid ≡ q = finds (g .held) (i + 1) (next .one) (next .mid) (next .is) .0 in
-            record { held = leaves (next .one); value = next .value; end = next .end; on = rw (← u, add-one (i + 1)) (next .on); first = split ∙ rw (e, ← u, add-one (i + 1)) }
+            record { held = leaves (next .one); value = next .rest; end = g .end; on = rw (← u, add-one (i + 1)) (next .on); first = split ∙ rw (e, ← u, add-one (i + 1)) }

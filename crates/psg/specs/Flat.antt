@@ -5,7 +5,7 @@ use lib.IntN.{ℤ, pos}
 use Rattle.words.specs.Floats.{bitsOf}
 use Rattle.words.specs.Values.{unsigned}
 use Rattle.table.specs.Table as Table
-use Rattle.turn.specs.Turn as Turn
+use Rattle.permit.specs.Permit as Permit
 use Rattle.questions.specs.Answers.{Answer, value, refusal}
 use Rattle.questions.specs.declared.channels.Calibration.{Calibration}
 use Rattle.questions.specs.declared.channels.Calibration.the-variants as Calibration
@@ -35,9 +35,9 @@ abbrev pub countedRows : Table.Answer → Counted
 countedRows (Table.rows n) = counted n
 countedRows (Table.refusal n p) = stopped n p
 
-abbrev pub countedBytes : Turn.Answer → Counted
-countedBytes (Turn.bytes n) = counted n
-countedBytes (Turn.refusal n p) = stopped n p
+abbrev pub countedBytes : Permit.Answer → Counted
+countedBytes (Permit.bytes n) = counted n
+countedBytes (Permit.refusal n p) = stopped n p
 
 abbrev pub flatFacts : Answer Counts → Facts
 flatFacts (value x) = record { refusal = 0; position = 0; channels = x .channels; frames = x .frames; seconds = x .seconds }

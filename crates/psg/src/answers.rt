@@ -2,9 +2,11 @@
 ghost use mathlib.Core.Path.{_≡_};
 ghost use Rattle.words.specs.Floats.{bitsOf};
 ghost use Rattle.words.specs.Values.{unsigned};
+ghost use Rattle.permit.specs.Permit.{meaning};
 ghost use Rattle.questions.specs.Answers.{value, refusal};
 ghost use Rattle.questions.specs.Meanings.{meaningF, meaningD, meaningI, meaningT, meaningC, meaningS};
-ghost use Rattle.psg.specs.Flat.{counted, stopped, flatFacts, patternsOf, flatChannel, flatItem, flatClock, flatCount, flatSample};
+ghost use Rattle.psg.specs.Flat.{counted, stopped, countedBytes, flatFacts, patternsOf, flatChannel, flatItem, flatClock, flatCount, flatSample};
+use permit::Written;
 use questions::channels::Calibration;
 use questions::channels::Described;
 use questions::channels::Descriptor;
@@ -303,6 +305,15 @@ pub fn clock_of(a: Timed) -> Clock
             minute: 0,
             second: 0,
         },
+    }
+}
+
+pub fn written_of(a: Written) -> Counted
+    ensures { λ r. ⌜ r ≡ countedBytes (meaning a) ⌝ }
+{
+    match a {
+        Written::Bytes(n) => answered(n),
+        Written::Refused(r) => refused(r),
     }
 }
 

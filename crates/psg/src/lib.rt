@@ -5,6 +5,7 @@ ghost use mathlib.Core.Path.{_≡_};
 ghost use lib.ListN.{length};
 ghost use Rattle.table.specs.Table as Table;
 ghost use Rattle.turn.specs.Turn as Turn;
+ghost use Rattle.rewrite.specs.Rewrite as Rewrite;
 ghost use Rattle.questions.specs.Questions.{factsOf, channelOf, patientItemOf, eventItemOf, clockOf, countOf, sampleOf, viewOf};
 ghost use Rattle.psg.specs.Flat.{countedRows, countedBytes, flatFacts, flatChannel, flatItem, flatClock, flatCount, flatSample, flatView};
 use crate::answers::Channel;
@@ -16,7 +17,6 @@ use crate::answers::Sample;
 use crate::answers::View;
 use questions::frames::Ran;
 use table::Listed;
-use turn::Turned;
 
 // The table: how many rows of four numbers were written.
 #[no_mangle]
@@ -35,11 +35,15 @@ pub extern "C" fn psg_table(file: &[u8], rows: &mut [i64]) -> Counted
 pub extern "C" fn psg_turn(file: &[u8], out: &mut [u8]) -> Counted
     ensures { λ a. ⌜ (a ≡ countedBytes (Turn.answerOf (now (file .entry)) (length (now (out .entry))))) × (now (out .exit) ≡ Turn.afterwards (now (file .entry)) (now (out .entry))) ⌝ }
 {
-    let turned = turn::turn(file, out);
-    match turned {
-        Turned::Bytes(n) => answers::answered(n),
-        Turned::Refused(r) => answers::refused(r),
-    }
+    answers::written_of(turn::turn(file, out))
+}
+
+// The canonical form of the file, in the order that a letter names: how many bytes were written.
+#[no_mangle]
+pub extern "C" fn psg_rewrite(file: &[u8], order: u8, out: &mut [u8]) -> Counted
+    ensures { λ a. ⌜ (a ≡ countedBytes (Rewrite.answerOf (now (file .entry)) order (length (now (out .entry))))) × (now (out .exit) ≡ Rewrite.afterwards (now (file .entry)) order (now (out .entry))) ⌝ }
+{
+    answers::written_of(rewrite::rewrite(file, order, out))
 }
 
 // The questions, in the order of crate `questions`.

@@ -10,17 +10,13 @@ use lib.Dec.{leb}
 use lib.ListN.{length, getD}
 use Rattle.words.specs.Numbers.{Bytes}
 use Rattle.walk.specs.Walk.{Event, Outcome, refused, passed}
-use Rattle.walk.proofs.Seen.{and-left, and-right}
 use Rattle.rules.specs.Rules as R
 use Rattle.rules.proofs.Turn.{nothing-left}
+use Rattle.records.proofs.Facts.{between-in}
 use Rattle.questions.specs.Answers.{Answer, value, refusal, outside, _>>=_, indexed, numbered}
 use Rattle.questions.specs.Questions.{Chosen, judged, recordingOf}
 
 -- a number from `low` to `high`
-pub between-in : (low high n : ℕ) → R.between low high n ≡ true → (low ≤ n) × (n ≤ high)
-unfolding R.between
-between-in low high n h = (leb-true low n (and-left (leb low n) (leb n high) h), leb-true n high (and-right (leb low n) (leb n high) h))
-
 pub in-between : (low high n : ℕ) → low ≤ n → n ≤ high → R.between low high n ≡ true
 unfolding R.between
 in-between low high n l m = rw (R.between, le-leb low n l, le-leb n high m)

@@ -14,12 +14,13 @@ use Rattle.rules.specs.Rules as R
 use Rattle.rules.specs.Places.{bytesBefore}
 use Rattle.rules.proofs.Places.{Found, frame-found}
 use Rattle.rules.proofs.Asked.{frame-at}
+use Rattle.records.proofs.Facts.{between-in}
 use Rattle.judge.specs.declared.tables.Places.{Places}
 use Rattle.questions.specs.Answers.{value, refusal, numbered}
 use Rattle.questions.specs.Found.{FoundIn, FramedAs}
 use Rattle.questions.specs.Questions.{Chosen, recordingOf, startOf, frameOf}
 use Rattle.questions.specs.declared.frames.Framed.the-variants as Framed
-use Rattle.questions.proofs.Chosen.{between-in, numbered-in, numbered-out, numbered-one, One, ChosenIn, chosen-in}
+use Rattle.questions.proofs.Chosen.{numbered-in, numbered-out, numbered-one, One, ChosenIn, chosen-in}
 use Rattle.questions.proofs.Standing.{found-seen, found-ends}
 
 -- a number inside its range has its element

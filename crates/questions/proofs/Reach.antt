@@ -12,9 +12,9 @@ use lib.ListN.{length, getD, drop, List·getD-map, length-map}
 use lib.Seq.{drop-cons}
 use Rattle.words.specs.Numbers.{Bytes}
 use Rattle.words.specs.declared.Order.{Order}
-use Rattle.walk.specs.See.{Verdict, stops, goes, see, onward, Goes}
-use Rattle.walk.specs.Walk.{pick, Walk, give, _>>=_, refused}
-use Rattle.walk.proofs.Seen.{see-bind, see-give, stays-goes}
+use Rattle.walk.specs.See.{goes, see, Goes}
+use Rattle.walk.specs.Walk.{pick, refused}
+use Rattle.walk.proofs.Went.{goes-same}
 use Rattle.rules.specs.Rules as R
 use Rattle.rules.specs.Places.{bytesBefore, holder}
 use Rattle.rules.specs.declared.FileHeader.{FileHeader}
@@ -22,9 +22,9 @@ use Rattle.rules.specs.declared.Refusal.{Refusal}
 use Rattle.rules.proofs.Canon.{RecordingsOk, readings, file-ok}
 use Rattle.rules.proofs.Holders.{channels-hold, patient-holds}
 use Rattle.rules.proofs.Renewed.{RecordingOk}
-use Rattle.rules.proofs.Room.{stays-recording}
 use Rattle.rules.proofs.Turn.{accepted}
 use Rattle.records.specs.Says.{halts}
+use Rattle.records.proofs.Facts.{between-in}
 use Rattle.judge.specs.Judged.{AcceptedAs}
 use Rattle.judge.specs.Recorded.{placesOf, leaves, Places-of}
 use Rattle.judge.specs.Tabled.{Room, HeldAs, channelsIn, patientIn}
@@ -33,11 +33,12 @@ use Rattle.judge.specs.declared.tables.Before.{Before}
 use Rattle.judge.specs.declared.tables.Before.the-variants as Before
 use Rattle.judge.specs.declared.tables.Held.{Held}
 use Rattle.judge.specs.declared.tables.Places.{Places}
+use Rattle.judge.proofs.Led.{Led, led, led-stop}
 use Rattle.judge.proofs.Verdicts.{accepted-seen}
 use Rattle.questions.specs.Answers.{value, refusal}
 use Rattle.questions.specs.Questions.{Chosen, heldAt, at120, at130, recordingOf, factsOf}
 use Rattle.questions.specs.Found.{countsOf, placesAt, Standing, Reached, FoundIn}
-use Rattle.questions.proofs.Chosen.{One, between-in, in-between, numbered-in, numbered-out, numbered-one}
+use Rattle.questions.proofs.Chosen.{One, in-between, numbered-in, numbered-out, numbered-one}
 
 -- Inside a list it does not matter what would stand outside
 
@@ -107,42 +108,6 @@ module _ (own : R.Recording → Bool) where
             later j (getD ps j x) refl q ∙ sym (held-before j x (getD ps j x) o q e)
 
 -- The walk over the recordings, from one of them on
-
-went-on : {A B : Type 0} (v : Verdict A) (k : A → ℕ → Verdict B) {b : B} {x : ℕ} → onward v k ≡ goes b x → Goes v (λ a e. k a e ≡ goes b x)
-went-on (stops n p) k h = absurd (let z : _≡_ {A = ℕ} 0 1 = cc in omega arith)
-went-on (goes a e) k h = record { value = a; end = e; is = refl; kept = h }
-
-went-first : {A B : Type 0} (o : Order) (b : ℕ) (s : List ℕ) (at : ℕ) (w : Walk A) (k : A → Walk B) {y : B} {e : ℕ} → see o b s at (w >>= k) ≡ goes y e → Goes (see o b s at w) (λ a m. see o b s m (k a) ≡ goes y e)
-went-first o b s at w k h = went-on (see o b s at w) (λ a m. see o b s m (k a)) (sym (see-bind o b s at w k) ∙ h)
-
-goes-same : {A : Type 0} {a b : A} {e f : ℕ} → goes a e ≡ goes b f → (a ≡ b) × (e ≡ f)
-goes-same h = (cc, cc)
-
--- a list with an answer put before it
-behind : {A : Type 0} (o : Order) (b : ℕ) (s : List ℕ) (at : ℕ) (w : Walk (List A)) (a : A) {l : List A} {e : ℕ} → see o b s at (w >>= λ r. give (a ∷ r)) ≡ goes l e → Goes (see o b s at w) (λ r m. (l ≡ a ∷ r) × (m ≡ e))
-behind o b s at w a h =
-    let x = went-first o b s at w (λ r. give (a ∷ r)) h in
-    let y = goes-same (sym (see-give o b s (x .end) (a ∷ x .value)) ∙ x .kept) in
-    record { value = x .value; end = x .end; is = x .is; kept = (sym (y .0), y .1) }
-
--- the first of them, and the others
-record Led (o : Order) (s : List ℕ) (p n : ℕ) (held : Option R.Held) (i : ℕ) (l : List R.Placed) (e : ℕ) : Type 0 where
-  one : R.Placed
-  mid : ℕ
-  rest : List R.Placed
-  is : see o 0 s p (R.recording held (length s - p) i) ≡ goes one mid
-  place : mid ≡ p + one .layout .bytes
-  on : see o 0 s mid (R.recordings n (leaves one) (length s - mid) (suc i)) ≡ goes rest e
-  all : l ≡ one ∷ rest
-
-led : (o : Order) (s : List ℕ) (p n : ℕ) (held : Option R.Held) (i : ℕ) {l : List R.Placed} {e : ℕ} → p ≤ length s → see o 0 s p (R.recordings (suc n) held (length s - p) i) ≡ goes l e → Led o s p n held i l e
-unfolding R.recordings
-led o s p n held i f g =
-    let x = went-first o 0 s p (R.recording held (length s - p) i) _ g in
-    let z = stays-goes o 0 s (p + (length s - p)) (omega arith) (R.recording held (length s - p) i) p _ (omega arith) (stays-recording held i p (length s - p)) (x .is) in
-    let u : length s - p - x .value .layout .bytes ≡ length s - x .end = omega (arith, z .0) in
-    let y = behind o 0 s (x .end) (R.recordings n (leaves (x .value)) (length s - x .end) (suc i)) (x .value) (rw u at (x .kept)) in
-    record { one = x .value; mid = x .end; rest = y .value; is = x .is; place = z .0; on = rw (y .kept .1) at (y .is); all = y .kept .0 }
 
 -- i of the recordings are read, and the walk goes on at byte p of the file
 pub record Going (o : Order) (s : List ℕ) (ps : List R.Placed) (p i : ℕ) (before : Before) : Type 0 where
@@ -219,12 +184,15 @@ module _ (o : Order) (s : List ℕ) (ps : List R.Placed) (ok : RecordingsOk none
       }
 
 module _ {o : Order} {s : List ℕ} {ps : List R.Placed} {p i : ℕ} {before : Before} (g : Going o s ps p i before) (l : i < length ps) (f : p ≤ length s) where
-  next-led : Led o s p (length ps - (i + 1)) (g .held) (i + 1) (drop i ps) (length s)
-  next-led = let d : length ps - i ≡ suc (length ps - (i + 1)) = omega arith in led o s p (length ps - (i + 1)) (g .held) (i + 1) f (rw d at (g .walk))
+  next-walk : see o 0 s p (R.recordings (suc (length ps - (i + 1))) (g .held) (length s - p) (i + 1)) ≡ goes (drop i ps) (length s)
+  next-walk = let d : length ps - i ≡ suc (length ps - (i + 1)) = omega arith in rw d at (g .walk)
+
+  pub next-led : Led o s p (length ps - (i + 1)) (g .held) (i + 1) (drop i ps) (length s)
+  next-led = led o s p (length ps - (i + 1)) (g .held) (i + 1) f next-walk
 
   -- it was accepted
   pub going-stop : {r : Refusal} → see o 0 s p (R.recording (g .held) (length s - p) (i + 1)) ≡ halts r → ⊥
-  going-stop h = let k = next-led .is in let z : _≡_ {A = ℕ} 0 1 = cc in omega arith
+  going-stop h = led-stop o s p (length ps - (i + 1)) (g .held) (i + 1) next-walk h
 
   -- it is the next of the recordings
   next-one : One ps i (next-led .one)

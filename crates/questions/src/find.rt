@@ -70,7 +70,7 @@ fn recordings_to(o: Order, file: &[u8], n: u32) -> Before
     let mut i: u32 = 0;
     let mut before = Before::Nothing;
     while i < n {
-        let step = judge::recording::recording_at(o, file, p, i + 1, before);
+        let step = judge::recording::recording_again(o, file, p, before);
         let Recorded::On(places) = step else {
             return Before::Nothing;
         };

@@ -27,6 +27,11 @@ use words::int4;
 use words::number2;
 use words::number4;
 
+// Frames are asked for from 1, samples from 0.
+pub const FIRST_FRAME: usize = 1;
+
+pub const FIRST_SAMPLE: usize = 0;
+
 pub struct Time {
     pub hour: u32,
     pub minute: u32,
@@ -101,7 +106,8 @@ pub fn frame_asked(file: &[u8], recording: usize, frame: usize) -> Framed
     if !crate::find::within(frame, q.total) {
         return Framed::Refused(Refusal(19, 0));
     }
-    let at = q.frames + Frames::FIRST + q.frame * (frame - 1);
+    let before = records::less(frame, FIRST_FRAME);
+    let at = q.frames + Frames::FIRST + q.frame * before;
     Framed::At(order, q, at)
 }
 

@@ -94,7 +94,8 @@ pub fn sample(file: &[u8], recording: usize, frame: usize, channel: usize, sampl
     if run.count <= sample {
         return Sampled::Refused(Refusal(19, 0));
     }
-    let at = run.at + records::width(run.format) * sample;
+    let before = records::less(sample, frames::FIRST_SAMPLE);
+    let at = run.at + records::width(run.format) * before;
     Sampled::Value(frames::number_at(order, file, at, run.format))
 }
 

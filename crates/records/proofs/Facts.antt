@@ -1,6 +1,6 @@
 -- Facts on the rules that the code's proofs cite.
 -- Assumes nothing.
-use mathlib.Core.Path.{_≡_, refl, ap}
+use mathlib.Core.Path.{_≡_, refl, sym, ap, _∙_}
 use mathlib.Core.Bool.{Bool, true, false, _&&_}
 use mathlib.Core.List.{List, [], _∷_}
 use Prim.Native.Nat.{ℕ, zero, suc, _+_, _*_, _-_, _≤_, _<_, max}
@@ -9,9 +9,28 @@ use native.Mathlib.Omega.{arith}
 use native.Mathlib.Numerals.{add-one}
 use lib.ListN.{length, getD, drop, drop-of-length-le}
 use lib.Seq.{drop-cons}
-use borrow.Author.Tests.{eq-eqb, ne-eqb}
-use lib.Dec.{eqb}
-use Rattle.rules.specs.Rules.{lengthOf, isIn, sameBytes}
+use borrow.Author.Tests.{leb-true, le-leb, eq-eqb, ne-eqb}
+use lib.Dec.{leb, eqb}
+use Rattle.walk.proofs.Seen.{and-left, and-right}
+use Rattle.rules.specs.Rules.{between, lengthOf, isIn, sameBytes}
+
+-- a number in a range
+pub between-in : (low high n : ℕ) → between low high n ≡ true → (low ≤ n) × (n ≤ high)
+unfolding between
+between-in low high n h = (leb-true low n (and-left (leb low n) (leb n high) h), leb-true n high (and-right (leb low n) (leb n high) h))
+
+-- two tests of the code, r, where they hold and where one does not
+module _ (a b c d : ℕ) (r : Bool) (is : r ≡ leb a b && leb c d) where
+  pub both-true : r ≡ true → (a ≤ b) × (c ≤ d)
+  both-true h =
+      let t : leb a b && leb c d ≡ true = sym is ∙ h in
+      (leb-true a b (and-left (leb a b) (leb c d) t), leb-true c d (and-right (leb a b) (leb c d) t))
+
+  pub both-false : r ≡ false → a ≤ b → c ≤ d → ⊥
+  both-false h i j =
+      let t : leb a b && leb c d ≡ true = rw (le-leb a b i, le-leb c d j) in
+      let z : _≡_ {A = ℕ} 0 1 = cc in
+      omega arith
 
 pub length-none : (size m : ℕ) → m ≡ 0 → size ≡ lengthOf size m
 unfolding lengthOf
@@ -66,6 +85,9 @@ same-length (x ∷ a) (y ∷ b) h = rw (same-length a b (λ e. h (ap suc e))) (a
     and-false false = refl
 
 -- bounds of products
+pub product : (n m : ℕ) → n < 4294967296 → m < 4294967296 → n * m ≤ 18446744065119617025
+product n m h k = let l : m ≤ 4294967295 = omega arith in omega (arith, mul-le-mul-left n l)
+
 pub samples-short : (rate t : ℕ) → rate < 4294967296 → t ≤ 3600 → rate * t ≤ 15461882265600
 samples-short rate t h k = omega (arith, mul-le-mul-left rate k)
 

@@ -13,19 +13,17 @@ use lib.Dec.{leb, eqb}
 use borrow.Author.Tests.{eq-eqb, ne-eqb}
 use Rattle.words.specs.Numbers.{numberAt, bytesAt}
 use Rattle.words.specs.declared.Order.{Order}
-use Rattle.words.specs.declared.Order.the-variants.{Little, Big}
 use Rattle.walk.specs.See.{Yields, gate, ends, Verdict, stops, goes, Goes, see, over, onward}
-use Rattle.walk.specs.Walk.{laid, Padding, Text, Walk, give, number, _>>=_, _>>_}
+use Rattle.walk.specs.Walk.{laid, Text, Walk, give, number, _>>=_, _>>_}
+use Rattle.walk.proofs.Laid.{laid-padding}
 use Rattle.walk.proofs.Seen.{yields-bind, yields-then, places, back, add-sub-add, eqb-add, then-gate, over-gate, over-goes, see-bind, then-skip, over-then, went, stopped, stays-goes, walks, see-read, see-check, over-give}
 use Rattle.rules.specs.Rules.{itemsBody, Head, head, admit, span, makerCode, next, zeros, padding, more, series, Item, item, itemSize, itemBytes, itemList, between, dated, daysIn, isMains, basicBody, Channel, width, samplesIn, samplesOf, sampleBytes, numberList, samples, coded, fixed, channelBody, channel, channels, frames, padOk, channelsBody, items, frameBody, frame, Basic}
 use Rattle.rules.proofs.Room.{stays-item, stays-itemList}
 use Rattle.records.specs.Says.{Kept, headroom}
 
 -- an answer put before a list that follows, of which only the place is kept
-ends-cons : {A B : Type 0} (f : A → B) (v : Verdict A) → ends (onward v (λ l e. goes (f l) e)) ≡ ends v
-unfolding over
-ends-cons f (stops n p) = refl
-ends-cons f (goes l e) = refl
+pub ends-cons : {A B : Type 0} (f : A → B) (v : Verdict A) → ends (onward v (λ l e. goes (f l) e)) ≡ ends v
+ends-cons f v = over-give (λ _. tt) f v
 
 -- items, one more and none. The room is what is left of the part from p on
 module _ (o : Order) (b : ℕ) (s : List ℕ) (ok : ℕ → Bool) where
@@ -79,11 +77,6 @@ module _ {A : Type 0} (o : Order) (b : ℕ) (s : List ℕ) (step : ℕ) (w : ℕ
       let e : length s - p - step ≡ length s - q = omega arith in
       let g : Goes (see o b s (b + p) (w (length s - p) (i + 1))) (λ _ x. (tt ≡ tt) × (x ≡ b + q)) = went (λ _. tt) (see o b s (b + p) (w (length s - p) (i + 1))) k in
       rw (d, add-one (i + 1), series-suc (b + p) (n - (i + 1)) (i + 1) (length s - p), g .is, e, g .kept .1)
-
-laid-padding : (o : Order) (bs : List ℕ) → laid o Padding bs ≡ bs
-unfolding laid
-laid-padding Little bs = refl
-laid-padding Big bs = refl
 
 -- padding, byte by byte: the walk stands behind it, and each byte is so many back
 module _ (o : Order) (b p to : ℕ) (s : List ℕ) where

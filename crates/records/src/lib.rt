@@ -117,6 +117,19 @@ pub fn head_at(o: Order, s: &[u8], base: usize, p: usize) -> Headed
     })
 }
 
+// No record's head, at byte p.
+pub fn nothing(p: usize) -> Head
+    ensures { λ r. ⌜ r .at ≡ p ⌝ }
+{
+    Head {
+        at: p,
+        size: 0,
+        code: 0,
+        serial: 0,
+        multiplier: 0,
+    }
+}
+
 // A record's length.
 pub fn span(h: Head) -> usize
     requires { ⌜ (h .size < 2147483648) × (h .multiplier ≤ 128) ⌝ }

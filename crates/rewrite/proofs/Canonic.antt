@@ -16,10 +16,11 @@ use Rattle.walk.specs.Trace.{trace}
 use Rattle.walk.specs.Walk.{laid, Text, Event, numeral, cleared, Walk, give, refuse, check, number, read, skip, list, _>>=_, _>>_}
 use Rattle.walk.proofs.Seen.{stays-goes, yields, length-bytesAt, and-left, and-right}
 use Rattle.walk.proofs.Tracing.{trace-bind, trace-give, cleared-append}
+use Rattle.walk.proofs.Went.{gate-went, went-first, goes-same}
 use Rattle.rules.specs.Canonical.{numerals, rowOf, plainHead, recordOf, basicFields, channelFields, channelEvents, channelsHead, channelsWritten, itemEvents, itemsHead, itemsWritten, sampleEvents, blanks}
 use Rattle.rules.specs.Rules.{limit, lengthOf, Head, head, span, admit, coded, fixed, Basic, basicBody, basic, Channel, channelBody, channel, series, channelsBody, channels, Item, item, itemSize, itemBytes, itemList, itemsBody, items, numberList, samples, samplesIn, width, Frame}
 use Rattle.rules.proofs.Room.{stays-channel, stays-item}
-use Rattle.table.proofs.Lists.{gate-went, went-first, goes-same, admit-went, require-went, head-went}
+use Rattle.table.proofs.Lists.{admit-went, require-went, head-went}
 use Rattle.copies.specs.Copy.{filling}
 use Rattle.rewrite.specs.Shapes.{FrameIn}
 

@@ -15,11 +15,12 @@ use Rattle.walk.specs.See.{goes, see}
 use Rattle.walk.specs.Trace.{trace}
 use Rattle.walk.specs.Walk.{Text, Event, piece, cleared, Walk, give, refuse, pick, text, _>>=_, _>>_}
 use Rattle.walk.proofs.Seen.{stays-goes}
+use Rattle.walk.proofs.Went.{went-first, by-went, goes-same}
 use Rattle.rules.specs.Canonical.{numerals, rowOf, plainHead, recordOf, basicFields, channelsHead, channelsWritten, itemsHead, itemsWritten, framesHead, framesWritten, makerEvents, optional, delimiterEvents, content}
 use Rattle.rules.specs.Rules.{Head, head, span, admit, basic, channels, items, patientCode, eventCode, Frame, makerCode, Maker, Next, more, next, Part, part, Held, heldChannels, heldPatient}
 use Rattle.rules.proofs.Room.{Rests, stays-basic, stays-channelsRest, stays-itemsRest}
 use Rattle.judge.specs.Halves.{Tables, tables}
-use Rattle.table.proofs.Lists.{went-first, goes-same, admit-went, head-went}
+use Rattle.table.proofs.Lists.{admit-went, head-went}
 use Rattle.rewrite.proofs.Canonic.{bare, bare-bind, both, head-bare, admit-bare, basic-bare, Rest, channels-bare, items-bare}
 
 -- the head of the record that follows stands 16 bytes before e, and its room ends at L
@@ -137,10 +138,10 @@ module _ (o : Order) (b : ℕ) (s : List ℕ) where
           go true i h = part-there (eqb-true (n .head .code) code i) h
           go false i h = part-absent held h
 
--- one walk after the other, with what is found bound by a λ
-by-went : {A B C : Type 0} (o : Order) (b : ℕ) (s : List ℕ) (at : ℕ) (w : Walk A) (k : A → Walk B) {x : B} {e : ℕ} → see o b s at (w >>= k) ≡ goes x e →
-    ((a : A) (m : ℕ) → see o b s at w ≡ goes a m → see o b s m (k a) ≡ goes x e → bare o b s at (w >>= k) ≡ bare o b s at w ++ bare o b s m (k a) → C) → C
-by-went o b s at w k h f = let y = went-first o b s at w k h in f (y .value) (y .end) (y .is) (y .kept) (bare-bind o b s at w k (y .is))
+-- one walk after the other, with their events
+by-bare : {A B X : Type 0} (o : Order) (b : ℕ) (s : List ℕ) (at : ℕ) (w : Walk A) (k : A → Walk B) {x : B} {e : ℕ} → see o b s at (w >>= k) ≡ goes x e →
+    ((a : A) (m : ℕ) → see o b s at w ≡ goes a m → see o b s m (k a) ≡ goes x e → bare o b s at (w >>= k) ≡ bare o b s at w ++ bare o b s m (k a) → X) → X
+by-bare o b s at w k h f = by-went o b s at w k h λ a m g r. f a m g r (bare-bind o b s at w k g)
 
 -- what stands before a part goes behind it
 pass : (n c p m t : List Event) → n ++ c ≡ p ++ m → n ++ (c ++ t) ≡ p ++ (m ++ t)
@@ -159,11 +160,11 @@ module _ (o : Order) (b : ℕ) (s : List ℕ) where
   tables-bare held bytes t e l g =
       let L : ℕ = b + (bytes - 16) in
       let fit : L ≤ b + length s = omega arith in
-      by-went o b s b (basic (bytes - 16)) _ g λ x e₁ g₁ g j₁.
-      by-went o b s e₁ (next bytes (bytes - 144)) _ g λ n e₂ g₂ g j₂.
-      by-went o b s e₂ (part bytes 120 (channels x) (heldChannels held) n) _ g λ c e₃ g₃ g j₃.
-      by-went o b s e₃ (part bytes 130 (items patientCode) (heldPatient held) (c .next)) _ g λ p e₄ g₄ g j₄.
-      by-went o b s e₄ (part bytes 200 (items eventCode) (some []) (p .next)) _ g λ q e₅ g₅ g j₅.
+      by-bare o b s b (basic (bytes - 16)) _ g λ x e₁ g₁ g j₁.
+      by-bare o b s e₁ (next bytes (bytes - 144)) _ g λ n e₂ g₂ g j₂.
+      by-bare o b s e₂ (part bytes 120 (channels x) (heldChannels held) n) _ g λ c e₃ g₃ g j₃.
+      by-bare o b s e₃ (part bytes 130 (items patientCode) (heldPatient held) (c .next)) _ g λ p e₄ g₄ g j₄.
+      by-bare o b s e₄ (part bytes 200 (items eventCode) (some []) (p .next)) _ g λ q e₅ g₅ g j₅.
       let z : (e₁ ≡ b + 128) × (e₁ ≤ L) = stays-goes o b s L fit (basic (bytes - 16)) b _ (omega arith) (stays-basic b (bytes - 16)) g₁ in
       let r₁ = basic-bare o b s b (bytes - 16) (omega arith) fit g₁ in
       let r₂ = next-bare o b s bytes (bytes - 144) L e₁ n e₂ (omega (arith, z .0)) (omega (arith, z .0, z .1)) g₂ in

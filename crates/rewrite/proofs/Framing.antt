@@ -18,13 +18,14 @@ use Rattle.walk.specs.See.{goes, see}
 use Rattle.walk.specs.Walk.{laid, Event, numeral, render, Walk, give, _>>=_, _>>_}
 use Rattle.walk.proofs.Seen.{part-bytes, stays-goes, and-left}
 use Rattle.walk.proofs.Tracing.{render-append}
+use Rattle.walk.proofs.Went.{gate-went, went-first, goes-same}
 use Rattle.rules.specs.Canonical.{blanks, zeroes, numerals, rowOf, plainHead, recordOf, sampleEvents, frameWritten, frameSize, frameEvents, framesBytes, framesHead, framesWritten}
 use Rattle.rules.specs.Rules.{Head, head, span, admit, coded, between, padOk, padding, series, Basic, Channel, width, samplesIn, sampleBytes, numberList, samples, Frame, frameBody, frame, Frames, framesBody}
 use Rattle.rules.specs.declared.Channels.{Channels}
 use Rattle.rules.proofs.Room.{stays-frame}
 use Rattle.records.specs.Says.{Kept}
 use Rattle.judge.proofs.Parts.{bind-goes}
-use Rattle.table.proofs.Lists.{gate-went, went-first, goes-same, admit-went, require-went, head-went}
+use Rattle.table.proofs.Lists.{admit-went, require-went, head-went}
 use Rattle.copies.specs.Copy.{copy, filling}
 use Rattle.rewrite.specs.Shapes.{FrameIn}
 use Rattle.copies.specs.declared.Way.{Way}
@@ -104,7 +105,7 @@ module _ (o : Order) where
 
 -- a record's bytes, and those of events with padding behind them
 
-render-record : (o : Order) (h : Head) (t : List Event) → render o (recordOf h t) ≡ render o (numerals h) ++ render o t
+pub render-record : (o : Order) (h : Head) (t : List Event) → render o (recordOf h t) ≡ render o (numerals h) ++ render o t
 unfolding recordOf render
 render-record o h t = render-append o (numerals h) (rowOf h ∷ t)
 
@@ -113,7 +114,7 @@ unfolding render laid
 render-zeroes Little n = append-nil (replicate n 0)
 render-zeroes Big n = append-nil (replicate n 0)
 
-padded-events : (o : Order) (t : List Event) (n : ℕ) → render o (t ++ (zeroes n ∷ [])) ≡ render o t ++ replicate n 0
+pub padded-events : (o : Order) (t : List Event) (n : ℕ) → render o (t ++ (zeroes n ∷ [])) ≡ render o t ++ replicate n 0
 padded-events o t n = render-append o t (zeroes n ∷ []) ∙ rw (render-zeroes o n)
 
 -- One frame

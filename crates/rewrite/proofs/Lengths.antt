@@ -6,7 +6,7 @@ use mathlib.Core.List.{List, [], _++_}
 use mathlib.Core.Option.{Option, some}
 use Prim.Native.Nat.{ℕ, _+_, _-_, _*_, _≤_, _<_}
 use native.Mathlib.Omega.{arith}
-use borrow.Author.Tests.{leb-true}
+use borrow.Author.Tests.{leb-true, eqb-true}
 use lib.Dec.{leb, eqb}
 use lib.ListN.{length, take, drop}
 use Rattle.words.specs.Numbers.{Bytes}
@@ -14,34 +14,22 @@ use Rattle.words.specs.declared.Order.{Order}
 use Rattle.words.proofs.Words.{bytes-take, bytes-drop}
 use Rattle.walk.specs.Walk.{Event, size, Walk, _>>=_, _>>_, Outcome, refused, passed, run}
 use Rattle.walk.specs.Plays.{Plays}
-use Rattle.walk.specs.See.{Verdict, stops, goes, see, Stays, onward}
+use Rattle.walk.specs.See.{goes, see, Stays}
 use Rattle.walk.specs.Trace.{trace}
 use Rattle.walk.proofs.Laws.{read-of, size-append, size-cleared}
 use Rattle.walk.proofs.Seen.{seen, stays-goes, stays-bind, see-part, body-length}
 use Rattle.walk.proofs.Tracing.{size-trace}
+use Rattle.walk.proofs.Went.{gate-went, goes-same, by-onward, by-went, by-then}
 use Rattle.rules.specs.Rules.{Head, head, span, padOk, padding, Basic, basic, channels, items, patientCode, eventCode, Frame, Frames, frames, Maker, Next, next, Held, heldChannels, heldPatient, Placed, contentLimit, delimiter, recordingBody, recording}
-use Rattle.rules.specs.Canonical.{recordOf, framesBytes, framesHead, framesWritten, makerEvents, delimiterEvents, content, most, sizeFor, multiplierFor}
+use Rattle.rules.specs.Canonical.{recordOf, framesBytes, framesHead, framesWritten, makerEvents, delimiterHead, delimiterEvents, content, most, sizeFor, multiplierFor}
 use Rattle.rules.proofs.Room.{Behind, stays-basic, stays-next, stays-part, stays-channelsRest, stays-itemsRest, stays-framesRest, stays-recordingBody}
 use Rattle.rules.proofs.Renew.{FramesOk, frames-ok, frames-size, next-ok}
 use Rattle.rules.proofs.Sized.{sized}
 use Rattle.judge.specs.Halves.{Tables, tables, signals}
 use Rattle.judge.proofs.Halves.{halves}
-use Rattle.table.proofs.Lists.{went-first, goes-same, head-went, admit-went, require-went}
+use Rattle.table.proofs.Lists.{head-went, admit-went, require-went}
 use Rattle.rewrite.specs.Shapes.{limit}
 use Rattle.rewrite.proofs.Chained.{Stands, tablesEvents, tables-bare, content-tables}
-
--- one walk after the other that went on
-module _ {A B X : Type 0} (o : Order) (b : ℕ) (s : List ℕ) (at : ℕ) where
-  by-went : (w : Walk A) (k : A → Walk B) {x : B} {e : ℕ} → see o b s at (w >>= k) ≡ goes x e → ((a : A) (m : ℕ) → see o b s at w ≡ goes a m → see o b s m (k a) ≡ goes x e → X) → X
-  by-went w k g f = let y = went-first o b s at w k g in f (y .value) (y .end) (y .is) (y .kept)
-
-  by-then : (w : Walk A) (v : Walk B) {x : B} {e : ℕ} → see o b s at (w >> v) ≡ goes x e → ((m : ℕ) → see o b s m v ≡ goes x e → X) → X
-  unfolding _>>_
-  by-then w v g f = by-went w (λ _. v) g (λ _ m _ k. f m k)
-
-by-onward : {A B X : Type 0} (v : Verdict A) (k : A → ℕ → Verdict B) {x : B} {e : ℕ} → onward v k ≡ goes x e → ((a : A) (m : ℕ) → v ≡ goes a m → k a m ≡ goes x e → X) → X
-by-onward (stops n p) k g f = absurd (let z : _≡_ {A = ℕ} 0 1 = cc in omega arith)
-by-onward (goes a m) k g f = f a m refl g
 
 -- a walk that went on over bytes: what holds of its answer, and that it accepts the events that it read
 record Heard {A : Type 0} (w : Walk A) (Q : A → ℕ → Type 0) (a : A) (e : ℕ) : Type 0 where
@@ -72,6 +60,8 @@ stays-tables held n at =
 
 -- what they came to: how long their canonical form is, and where the head stands that follows
 record Told (o : Order) (b : ℕ) (s : List ℕ) (n : ℕ) (t : Tables) (m : ℕ) : Type 0 where
+  held : Option Held
+  went : see o b s b (tables held n) ≡ goes t m
   long : b + 16 + size (tablesEvents t) ≡ m
   behind : Behind (b + (n - 16)) n (t .events .next) m
   stands : Stands o b s (b + (n - 16)) (t .events .next) m
@@ -83,15 +73,33 @@ tables-told o b s held n {t} {m} l g =
     let r = tables-bare o b s held n t m l g in
     let e = size-trace o b s (b + (n - 16)) fit (tables held n) b _ (omega arith) (stays-tables held n b) g in
     let z = sym (size-cleared (trace o b s b (tables held n))) ∙ (ap size (r .0) ∙ size-append (tablesEvents t) _) in
-    record { long = omega (arith, e, z); behind = stays-goes o b s (b + (n - 16)) fit (tables held n) b _ (omega arith) (stays-tables held n b) g; stands = r .1 }
+    record { held = held; went = g; long = omega (arith, e, z); behind = stays-goes o b s (b + (n - 16)) fit (tables held n) b _ (omega arith) (stays-tables held n b) g; stands = r .1 }
 
 -- a walk by the room that it is given, said otherwise
 moved : {A : Type 0} (o : Order) (b : ℕ) (s : List ℕ) (w : ℕ → Walk A) {a : A} (p p′ r r′ q q′ : ℕ) → p ≡ p′ → r ≡ r′ → q ≡ q′ → see o b s p (w r) ≡ goes a q → see o b s p′ (w r′) ≡ goes a q′
 moved o b s w p p′ r r′ q q′ i j k g = rw (i, j, k) at g
 
--- a recording's body that the walk accepted: its 140, which stands at byte `at` of the body, what follows it, and how long the canonical form is
+-- a delimiter that the walk accepted
+
+no-head : (size code serial multiplier : ℕ) → size ≡ 0 → code ≡ 0 → serial ≡ 0 → multiplier ≡ 0 → _≡_ {A = Head} (record { size = size; code = code; serial = serial; multiplier = multiplier }) delimiterHead
+no-head size code serial multiplier p q r t = rw (p, q, r, t)
+
+delimiter-is : (o : Order) (b : ℕ) (s : List ℕ) (at : ℕ) (h : Head) {u : Unit {0}} {e : ℕ} → see o b s at (delimiter h) ≡ goes u e → h ≡ delimiterHead
+unfolding delimiter see _>>=_ _>>_
+delimiter-is o b s at h g =
+    let g₁ = gate-went _ _ _ _ g in
+    let g₂ = gate-went _ _ _ _ (g₁ .1) in
+    let g₃ = gate-went _ _ _ _ (g₂ .1) in
+    let g₄ = gate-went _ _ _ _ (g₃ .1) in
+    no-head (h .size) (h .code) (h .serial) (h .multiplier) (eqb-true (h .size) 0 (g₃ .0)) (eqb-true (h .code) 0 (g₁ .0)) (eqb-true (h .serial) 0 (g₄ .0)) (eqb-true (h .multiplier) 0 (g₂ .0))
+
+-- a recording's body that the walk accepted: the tables before its 140, which stands at byte `at` of the body, what follows it, and how long the canonical form is
 pub record Accepted (o : Order) (b : ℕ) (s : List ℕ) (x : Placed) : Type 0 where
   pub at : ℕ
+  pub held : Option Held
+  pub before : Tables
+  pub begins : see o b s b (tables held (16 + length s)) ≡ goes before (b + (at + 16))
+  pub front : size (tablesEvents before) ≡ at
   pub place : 16 + at ≡ x .layout .at140
   pub inside : at + 16 ≤ length s
   pub top : Head
@@ -106,10 +114,16 @@ pub record Accepted (o : Order) (b : ℕ) (s : List ℕ) (x : Placed) : Type 0 w
   pub after : Next
   pub end : ℕ
   pub behind : see o b s (b + (at + span top)) (next fuel (length s - (at + span top))) ≡ goes after end
+  pub closes : after .head ≡ delimiterHead
   pub seconds : x .recording .seconds ≡ value .seconds
+  pub frames : x .recording .frames ≡ value .frames
   pub count : length (x .recording .frames) ≡ counts .frames
   pub makers : ℕ
+  pub wide : size (makerEvents (after .makers)) ≡ makers
   pub left : makers + after .room ≡ length s - (at + span top)
+  pub events :
+      content (x .recording) ≡
+      tablesEvents before ++ (recordOf (framesHead (x .recording .seconds) (x .recording .channels) (x .recording .frames)) (framesWritten (x .recording .seconds) (x .recording .channels) (x .recording .frames)) ++ (makerEvents (after .makers) ++ delimiterEvents))
   pub long : size (content (x .recording)) ≡ at + span (framesHead (x .recording .seconds) (x .recording .channels) (x .recording .frames)) + (makers + 16)
   pub few : framesBytes (x .recording .seconds) (x .recording .channels) (x .recording .frames) ≤ limit
   pub total : 16 + size (content (x .recording)) ≤ limit
@@ -153,9 +167,9 @@ module _ (o : Order) (b : ℕ) (s : List ℕ) (bytes : Bytes s) (h : Head) (fill
       let v : ℕ → Walk Frames = λ r. frames (t .basic) (t .channels .own) (t .channels .value) back r top in
       by-went o b s m (v (last .room)) _ (require-went o b s m (eqb (top .code) 140) 9 12 _ g .1) λ f m₁ f₀ g₁.
       by-went o b s m₁ (next (span h) (last .room - span top)) _ g₁ λ d m₂ d₀ g₂.
-      by-then o b s m₂ (delimiter (d .head)) _ g₂ λ m₃ g₃.
+      by-then o b s m₂ (delimiter (d .head)) _ g₂ λ _ m₃ c₃ g₃.
       let l = require-went o b s m₃ (leb (span h - (d .room - 16) - f .padded) contentLimit) 14 _ _ g₃ in
-      by-then o b s m₃ (padding (d .room - 16)) _ (require-went o b s m₃ (padOk h (d .room - 16)) 10 0 _ (l .1) .1) λ m₄ g₄.
+      by-then o b s m₃ (padding (d .room - 16)) _ (require-went o b s m₃ (padOk h (d .room - 16)) 10 0 _ (l .1) .1) λ _ m₄ _ g₄.
       let q = k .behind in
       let at : ℕ = size (tablesEvents t) in
       let p : at + last .room ≡ length s = omega (arith, k .long, q .2) in
@@ -168,6 +182,10 @@ module _ (o : Order) (b : ℕ) (s : List ℕ) (bytes : Bytes s) (h : Head) (fill
       rw (← goes-same g₄ .0)
       (record {
         at = at;
+        held = k .held;
+        before = t;
+        begins = moved o b s (tables (k .held)) b b (span h) (16 + length s) m (b + (at + 16)) refl fills (sym (k .long) ∙ omega arith) (k .went);
+        front = refl;
         place = omega arith;
         inside = omega (arith, q .0);
         top = top;
@@ -182,10 +200,14 @@ module _ (o : Order) (b : ℕ) (s : List ℕ) (bytes : Bytes s) (h : Head) (fill
         after = d;
         end = m₂;
         behind = moved o b s (next (span h)) m₁ (b + (at + span top)) (last .room - span top) (length s - (at + span top)) m₂ m₂ (omega (arith, z)) (omega arith) refl d₀;
+        closes = delimiter-is o b s m₂ (d .head) c₃;
         seconds = refl;
+        frames = refl;
         count = f₂ .0 .count;
         makers = size (makerEvents (d .makers));
+        wide = refl;
         left = omega (arith, d₂ .left);
+        events = content-tables t (f .seconds) (f .frames) (d .makers);
         long = n;
         few = f₂ .0 .total;
         total = total-sum (span h) (length s) (last .room) at _ _ _ _ _ _ _ fills p (f₂ .1) (f₂ .2) (d₂ .left) (d₂ .enough) (leb-true _ contentLimit (l .0)) n (pad-short _ (f₂ .0 .total));

@@ -1,6 +1,10 @@
-pub mod Numerals
 pub mod Canonic
 pub mod Chained
-pub mod Measures
 pub mod Lengths
+pub mod Measures
 pub mod Framing
+pub mod Bodied
+pub mod Placed
+pub mod Files
+pub mod Answers
+pub mod Demands

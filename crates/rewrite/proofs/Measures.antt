@@ -3,10 +3,10 @@
 use mathlib.Core.Path.{_≡_, refl, sym, ap, _∙_}
 use mathlib.Core.Bool.{Bool, true, false, _&&_, _||_}
 use mathlib.Core.List.{List, [], _∷_, _++_, append-assoc, append-nil}
-use Prim.Native.Nat.{ℕ, _+_, _-_, _*_, _/_, _%_, _≤_, _<_}
-use native.Mathlib.Nat.{mul-le-mul-left, mul-comm}
+use Prim.Native.Nat.{ℕ, _+_, _-_, _*_, _≤_, _<_}
+use native.Mathlib.Nat.{mul-comm}
 use native.Mathlib.Omega.{arith}
-use borrow.Author.Tests.{leb-true, le-leb, lt-leb, lt-ltb, le-ltb, ltb-true, ltb-false, eqb-true}
+use borrow.Author.Tests.{leb-true, le-leb, lt-leb, ltb-true, ltb-false}
 use lib.Dec.{leb, ltb, eqb}
 use lib.ListN.{length, take, drop, set, replicate, length-append, length-drop}
 use lib.Seq.{take-all, take-at, length-take-le}
@@ -15,30 +15,28 @@ use Rattle.words.specs.declared.Order.{Order}
 use Rattle.words.proofs.Words.{length-bytesIn}
 use Rattle.words.proofs.Runs.{part-pasted, set-pasted}
 use Rattle.walk.specs.Walk as W
-use Rattle.walk.specs.Walk.{Letter, Text, laid, render, Walk, give, _>>=_, _>>_, require}
+use Rattle.walk.specs.Walk.{Letter, Text, laid, render, Walk, _>>_, require}
 use Rattle.walk.specs.See.{stops, goes, see, over}
-use Rattle.walk.proofs.Laid.{length-laid}
-use Rattle.walk.proofs.Seen.{over-goes, and-left, and-right, see-body, body-length}
+use Rattle.walk.proofs.Laid.{laid-text, length-laid}
+use Rattle.walk.proofs.Seen.{over-goes, see-body, body-length, yields}
+use Rattle.walk.proofs.Went.{goes-same}
 use Rattle.rules.specs.Rules as R
 use Rattle.rules.specs.Canonical as C
 use Rattle.rules.specs.declared.Head as At
+use Rattle.rules.proofs.Canon.{one-digit, two-digits}
 use Rattle.rules.proofs.Room.{stays-framesBody}
 use Rattle.rules.proofs.Sized.{sized, length-times, length-once, none-where-it-fits}
 use Rattle.records.specs.Says.{headOf, Headroom, headroom}
-use Rattle.judge.proofs.FramesBody.{between-most, size-fits}
-use Rattle.judge.proofs.Opened.{laid-text}
-use Rattle.table.proofs.Lists.{gate-went, went-first, goes-same, admit-went, require-went, frames-refused}
-use Rattle.rewrite.specs.Shapes.{sizedFor, limit, shapeFor, measure, Bounded, Given, ShapeOf}
+use Rattle.records.proofs.Facts.{both-false}
+use Rattle.judge.proofs.FramesBody.{Fields, yields-framesBody}
+use Rattle.table.proofs.Lists.{admit-went, require-went, frames-refused}
+use Rattle.rewrite.specs.Shapes.{sizedFor, limit, shapeFor, measure, Bounded, Each, Given, ShapeOf}
 use Rattle.rewrite.specs.declared.shapes.Sized.{Sized}
 use Rattle.rewrite.specs.declared.shapes.Shape.{Shape}
 use Rattle.rewrite.specs.declared.shapes.Shaped.{Shaped}
 use Rattle.rewrite.specs.declared.shapes.Shaped.the-variants as Shaped
 use Rattle.rewrite.proofs.Lengths.{Accepted}
 use Rattle.copies.proofs.Pieces.{put}
-
--- a product of two numbers of four bytes
-pub product : (n m : ℕ) → n < 4294967296 → m < 4294967296 → n * m ≤ 18446744065119617025
-product n m h k = let l : m ≤ 4294967295 = omega arith in omega (arith, mul-le-mul-left n l)
 
 -- sizes
 
@@ -55,7 +53,7 @@ module _ (n : ℕ) (h : C.most < n) (k : n ≤ limit) where
   abbrev times : ℕ
   times = C.shares n C.most
 
-  is-times : C.multiplierFor n ≡ times
+  pub is-times : C.multiplierFor n ≡ times
   unfolding C.multiplierFor
   is-times = rw (C.multiplierFor, lt-leb n C.most h)
 
@@ -63,22 +61,23 @@ module _ (n : ℕ) (h : C.most < n) (k : n ≤ limit) where
   unfolding C.sizeFor
   is-share = rw (C.sizeFor, lt-leb n C.most h, is-times)
 
-  pub share-small : C.shares n times ≤ C.most
-  share-small = rw (← is-share) (sized n .small)
-
-  times-low : (1 ≤ times) × (times ≤ 128)
+  pub times-low : (1 ≤ times) × (times ≤ 128)
   times-low = (omega arith, rw (← is-times) (sized n .low k))
 
   is-product : R.lengthOf (C.sizeFor n) (C.multiplierFor n) ≡ C.shares n times * times
   is-product = rw (is-times, is-share) (length-times (C.shares n times) times (times-low .0))
 
-  pub serves-more : Serves n (record { size = C.shares n times; multiplier = times; length = C.shares n times * times })
-  serves-more =
-      let z = sized n in
-      let m = is-times in
-      let e = is-product in
-      let l = times-low .1 in
-      (rw (e, is-times, is-share), omega (arith, z .serves), omega (arith, z .close))
+  -- by the smallest multiplier
+  module _ (m : ℕ) (is : m ≡ C.multiplierFor n) where
+    pub share-small : C.shares n m ≤ C.most
+    share-small = rw (is ∙ is-times, ← is-share) (sized n .small)
+
+    pub serves-more : Serves n (record { size = C.shares n m; multiplier = m; length = C.shares n m * m })
+    serves-more =
+        let z = sized n in
+        let e = is-product in
+        let l = times-low .1 in
+        rw (is ∙ is-times) (rw (e, is-times, is-share), omega (arith, z .serves, is-times), omega (arith, z .close, is-times))
 
 -- what is measured
 
@@ -115,19 +114,19 @@ module _ (at end last seconds size filled count : ℕ) where
       go true false p q = rw (measure, p, q) tt
       go false y p q = rw (measure, p) tt
 
+  pub measure-each : (P : Shape → Type 0) → P (shapeFor at end last seconds size filled count) → Each (measure at end last seconds size filled count) P
+  unfolding measure
+  measure-each P p = go (leb frames limit && leb whole limit) refl
+    where
+      go : (x : Bool) → (leb frames limit && leb whole limit) ≡ x → Each (measure at end last seconds size filled count) P
+      go true e = rw (measure, e) p
+      go false e = rw (measure, e) tt
+
   pub measure-given : (P : Shape → Type 0) → frames ≤ limit → whole ≤ limit → P (shapeFor at end last seconds size filled count) → Given (measure at end last seconds size filled count) P
   unfolding measure
   measure-given P h k p = rw (measure, le-leb frames limit h, le-leb whole limit k) p
 
 -- the digits of a number
-
-pub one-digit : (k : ℕ) → k < 10 → C.digits k ≡ (48 + k) ∷ 32 ∷ 32 ∷ 32 ∷ []
-unfolding C.digits
-one-digit k h = rw (C.digits, lt-ltb k 10 h)
-
-pub two-digits : (k : ℕ) → 10 ≤ k → C.digits k ≡ (48 + k / 10) ∷ (48 + k % 10) ∷ 32 ∷ 32 ∷ []
-unfolding C.digits
-two-digits k h = rw (C.digits, le-ltb k 10 h)
 
 length-digits : (k : ℕ) → length (C.digits k) ≡ 4
 length-digits k = go (ltb k 10) refl
@@ -197,55 +196,17 @@ header-written o script count letter d y₁ y₂ y₃ y₄ y₅ l e₁ e₂ e₃
     (begun-text o _ 8 6 R.version y₂ _ e₂ refl (omega arith)
     (begun-text o d 0 8 R.identifier y₁ _ e₁ refl (omega arith) (begun d l)))))))
 
--- what the code's test of the frames says where it holds
-pub both-true : (a b c d : ℕ) (r : Bool) → r ≡ leb a b && leb c d → r ≡ true → (a ≤ b) × (c ≤ d)
-both-true a b c d r is holds =
-    let t : leb a b && leb c d ≡ true = sym is ∙ holds in
-    (leb-true a b (and-left (leb a b) (leb c d) t), leb-true c d (and-right (leb a b) (leb c d) t))
-
--- the body of a 140 that the walk accepted: what its three numbers say
-pub record Fields (t size n : ℕ) (cs : List R.Channel) (counts : R.Basic) (f : R.Frames) (bytes : ℕ) : Type 0 where
-  pub seconds : f .seconds ≡ t
-  pub short : t ≤ 3600
-  pub long : 24 + R.sampleBytes t cs ≤ size
-  pub count : n ≡ counts .frames
-  pub fits : 32 + n * size ≤ bytes
-
--- what is given behind a walk and padding
-padded-gave : {A B : Type 0} (o : Order) (b : ℕ) (s : List ℕ) (at : ℕ) (w : Walk A) (n : ℕ) (r : A → B) {y : B} {e : ℕ} → see o b s at (w >>= λ a. R.padding n >> give (r a)) ≡ goes y e → (a : A) × (y ≡ r a)
-unfolding see _>>_
-padded-gave o b s at w n r g =
-    let x = went-first o b s at w (λ a. R.padding n >> give (r a)) g in
-    let z = went-first o b s (x .end) (R.padding n) (λ _. give (r (x .value))) (x .kept) in
-    (x .value, sym (goes-same (z .kept) .0))
-
+-- what the three numbers say of a 140 whose body is s
 fields-told : (o : Order) (b : ℕ) (s : List ℕ) (c : R.Basic) (cs : List R.Channel) (h : R.Head) {f : R.Frames} {e : ℕ} → see o b s b (R.framesBody c cs h) ≡ goes f e → Fields (numberAt o 4 s 0) (numberAt o 4 s 4) (numberAt o 4 s 8) cs c f (R.span h)
-unfolding R.framesBody see _>>=_ _>>_
 fields-told o b s c cs h g =
-    let t : ℕ = numberAt o 4 s 0 in
-    let size : ℕ = numberAt o 4 s 4 in
-    let n : ℕ = numberAt o 4 s 8 in
     let z₀ : b - b ≡ 0 = omega arith in
     let z₁ : b + 4 - b ≡ 4 = omega arith in
     let z₂ : b + 4 + 4 - b ≡ 8 = omega arith in
-    let g₁ = gate-went _ _ _ _ (rw (z₀, z₁, z₂) at g) in
-    let g₂ = gate-went _ _ _ _ (g₁ .1) in
-    let g₃ = gate-went _ _ _ _ (g₂ .1) in
-    let g₄ = gate-went _ _ _ _ (g₃ .1) in
-    let g₅ = gate-went _ _ _ _ (g₄ .1) in
-    let w : Walk (List R.Frame) = R.series n 1 size (R.span h - 32) (R.frame size t cs) in
-    let r : List R.Frame → R.Frames = λ fs. record { seconds = t; frames = fs; size = size; padded = n * (size - (24 + R.sampleBytes t cs)) + (R.span h - (32 + n * size)) } in
-    record {
-      seconds = ap (λ (f : R.Frames). f .seconds) (padded-gave o b s (b + 4 + 4 + 4 + 4) w (R.span h - (32 + n * size)) r (g₅ .1) .1);
-      short = between-most 1 3600 t (g₁ .0);
-      long = size-fits (R.sampleBytes t cs) size (g₃ .0) .0;
-      count = eqb-true n (c .frames) (g₄ .0);
-      fits = leb-true _ _ (and-left _ _ (g₅ .0));
-    }
+    rw (z₀, z₁, z₂) at (yields o b s (R.framesBody c cs h) b _ (yields-framesBody o b s b c cs h) g)
 
 -- a recording's body s that the walk accepted, with the 140 at byte `at` of it
 module _ {o : Order} {base : ℕ} {s : List ℕ} {x : R.Placed} (v : Accepted o base s x) (at : ℕ) (is : 16 + at ≡ x .layout .at140) where
-  stands : see o base s (base + at) (R.head (length s - at)) ≡ goes (v .top) (base + (at + 16))
+  pub stands : see o base s (base + at) (R.head (length s - at)) ≡ goes (v .top) (base + (at + 16))
   stands = let e : v .at ≡ at = omega (arith, v .place) in rw e at (v .stands)
 
   -- its head is read
@@ -281,7 +242,7 @@ module _ {o : Order} {base : ℕ} {s : List ℕ} {x : R.Placed} (v : Accepted o 
         abbrev body : List ℕ
         body = take (q - (at + 16)) (drop (at + 16) s)
 
-        in-body : see o (base + at + 16) body (base + at + 16) (R.framesBody (v .counts) (x .recording .channels) (headOf h)) ≡ goes (v .value) (base + q)
+        pub in-body : see o (base + at + 16) body (base + at + 16) (R.framesBody (v .counts) (x .recording .channels) (headOf h)) ≡ goes (v .value) (base + q)
         unfolding R.frames
         in-body =
             let w : Walk R.Frames = R.framesBody (v .counts) (x .recording .channels) (headOf h) in
@@ -299,9 +260,7 @@ module _ {o : Order} {base : ℕ} {s : List ℕ} {x : R.Placed} (v : Accepted o 
           shape-fits bytes r i e f₀ =
               let f = shape-fields in
               let l : 16 + length body ≡ q - at = body-length at q s (omega arith) inside in
-              let y : leb (24 + bytes) size && leb (16 + size * n) (length body) ≡ true = rw (i, le-leb (24 + R.sampleBytes t (x .recording .channels)) size (f .long), le-leb (16 + size * n) (length body) (omega (arith, f .fits, mul-comm n size))) in
-              let z : _≡_ {A = ℕ} 0 1 = cc in
-              omega arith
+              both-false (24 + bytes) size (16 + size * n) (length body) r e f₀ (rw i (f .long)) (omega (arith, f .fits, mul-comm n size))
 
           -- and what is measured is the recording's shape; d: the head that follows
           module _ (d : At.Head) (follows : (fuel : ℕ) → length s < q + fuel → over headroom (see o base s (base + q) (R.next fuel (length s - q))) ≡ goes (record { head = headOf d; room = length s - d .at }) (base + (d .at + 16))) (last : d .at + 16 ≤ length s) (bytes : ℕ) (many : bytes ≡ R.sampleBytes t (x .recording .channels)) where

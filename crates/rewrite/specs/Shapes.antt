@@ -5,7 +5,7 @@ use mathlib.Core.Bool.{_&&_}
 use mathlib.Core.List.{List, [], _∷_, _++_}
 use Prim.Native.Nat.{ℕ, _+_, _*_, _-_, _≤_, _<_}
 use lib.Dec.{leb}
-use lib.ListN.{length}
+use lib.ListN.{length, take, drop}
 use Rattle.words.specs.Numbers.{numberAt}
 use Rattle.words.specs.declared.Order.{Order}
 use Rattle.walk.specs.Walk.{Event, size, pick}
@@ -68,6 +68,22 @@ lengthIn Shaped.Nothing = 0
 abbrev pub Given : Shaped → (Shape → Type 0) → Type 0
 Given (Shaped.On f) P = P f
 Given Shaped.Nothing P = ⊥
+
+-- whatever the bytes are, P holds of the shape, if there is one
+abbrev pub Each : Shaped → (Shape → Type 0) → Type 0
+Each (Shaped.On f) P = P f
+Each Shaped.Nothing P = Unit {0}
+
+-- the body of the 140 of a recording whose body is s
+abbrev pub signalsIn : List ℕ → Shape → List ℕ
+signalsIn s f = take (f .end - (f .at + 16)) (drop (f .at + 16) s)
+
+-- what a shape says of the bytes s, which stand at b in the file: where the 140 stops, and its own fields
+pub record ShapeIn (o : Order) (b : ℕ) (s : List ℕ) (f : Shape) : Type 0 where
+  pub end : (h : R.Head) (e : ℕ) → see o b s (b + f .at) (R.head (length s - f .at)) ≡ goes h e → f .end ≡ f .at + R.span h
+  pub seconds : numberAt o 4 (signalsIn s f) 0 ≡ f .seconds
+  pub size : numberAt o 4 (signalsIn s f) 4 ≡ f .size
+  pub count : numberAt o 4 (signalsIn s f) 8 ≡ f .count
 
 -- a frame's clock and samples as they stand in the bytes s, its padding left out
 pub record FrameIn (o : Order) (t : ℕ) (cs : List R.Channel) (s : List ℕ) (f : R.Frame) : Type 0 where

@@ -1,14 +1,14 @@
 // How long a recording's canonical form is, and what its records 10 and 140 then say.
 ghost use mathlib.Core.Path.{_≡_};
-ghost use mathlib.Core.Bool.{_&&_};
 ghost use mathlib.Core.Option.{Option};
 ghost use Prim.Native.Nat.{ℕ, _+_, _*_, _≤_, _<_};
-ghost use lib.Dec.{leb};
 ghost use lib.ListN.{length};
 ghost use Rattle.walk.specs.See.{see, goes};
 ghost use Rattle.rules.specs.Rules as R;
+ghost use Rattle.rules.specs.Canonical as C;
 ghost use Rattle.records.specs.Says.{Kept};
-ghost use Rattle.rewrite.specs.Shapes.{sizedFor, measure, ShapeOf, Bounded, Given};
+ghost use Rattle.rewrite.specs.Shapes.{sizedFor, measure, ShapeOf, ShapeIn, Bounded, Each, Given};
+use copies::bodies::fits;
 use records::Fits;
 use records::Headed;
 use records::Serial;
@@ -29,10 +29,21 @@ pub struct Sized {
 impl Sized {
     pub const MOST: usize = 2147483647;
 
+    // What rounds a length divided by MOST up.
+    const ROUND: usize = 2147483646;
+
     pub const LIMIT: usize = 274877906816;
 }
 
-// The smallest multiplier that serves a record of n bytes, none where the size serves.
+// The smallest multiplier that serves a record of n bytes, where the size alone does not.
+fn multiplier_for(n: usize) -> usize
+    requires { ⌜ (2147483647 < n) × (n ≤ 274877906816) ⌝ }
+    ensures { λ r. ⌜ (r ≡ C.multiplierFor n) × (1 ≤ r) × (r ≤ 128) ⌝ }
+{
+    (n + Sized::ROUND) / Sized::MOST
+}
+
+// The size and the multiplier of a record of n bytes: no multiplier where the size serves.
 pub fn size_for(n: usize) -> Sized
     requires { ⌜ n ≤ 274877906816 ⌝ }
     ensures { λ r. ⌜ (r ≡ sizedFor n) × (n ≤ r .length) × (r .length < n + 128) ⌝ }
@@ -44,7 +55,7 @@ pub fn size_for(n: usize) -> Sized
             length: n,
         };
     }
-    let m = (n + (Sized::MOST - 1)) / Sized::MOST;
+    let m = multiplier_for(n);
     let size = (n + (m - 1)) / m;
     Sized {
         size: size as u32,
@@ -72,20 +83,6 @@ pub enum Shaped {
     Nothing,
 }
 
-// So many frames of this size, each with so many bytes of samples, have room in a body of so many bytes.
-fn fits(bytes: usize, size: usize, count: u32, length: usize) -> bool
-    requires { ⌜ size < 4294967296 ⌝ }
-    ensures { λ r. ⌜ r ≡ leb (24 + bytes) size && leb (16 + size * count) length ⌝ }
-{
-    if size < Frame::SAMPLES {
-        return false;
-    }
-    if size - Frame::SAMPLES < bytes {
-        return false;
-    }
-    Frames::BODY_FIRST + size * count as usize <= length
-}
-
 // The shape of a 140 of which these things are known.
 fn measured(
     at: usize,
@@ -104,7 +101,8 @@ fn measured(
         return Shaped::Nothing;
     }
     let signals = size_for(n);
-    let whole = Head::LENGTH + (at + signals.length + (last - end));
+    let padded = signals.length;
+    let whole = Head::LENGTH + (at + padded + (last - end));
     if Sized::LIMIT < whole {
         return Shaped::Nothing;
     }
@@ -124,7 +122,7 @@ fn measured(
 // The shape of the recording whose body is s, with the 140 at byte `at` of it and the records 125 that hold for it in the file.
 pub fn read_shape(o: Order, file: &[u8], cs: Channels, at: usize, s: &[u8], base: usize) -> Shaped
     requires { ⌜ (cs .subs + 256 * cs .count ≤ length (now file)) × (cs .count ≤ 128) × (at ≤ length (now s)) × (base + length (now s) < 9223372036854775808) ⌝ }
-    ensures { λ a. ⌜ Bounded (length (now (s .entry))) a × ((held : Option R.Held) (h : R.Head) (x : R.Placed) (e : ℕ) → R.span h ≡ 16 + length (now (s .entry)) → length (x .recording .channels) ≡ cs .count → Kept o (now (file .entry)) (cs .subs) (x .recording .channels) → 16 + at ≡ x .layout .at140 → see o base (now (s .entry)) base (R.recordingBody held h) ≡ goes x e → Given a (λ f. ShapeOf f x)) ⌝ }
+    ensures { λ a. ⌜ Bounded (length (now (s .entry))) a × Each a (ShapeIn o base (now (s .entry))) × ((held : Option R.Held) (h : R.Head) (x : R.Placed) (e : ℕ) → R.span h ≡ 16 + length (now (s .entry)) → length (x .recording .channels) ≡ cs .count → Kept o (now (file .entry)) (cs .subs) (x .recording .channels) → 16 + at ≡ x .layout .at140 → see o base (now (s .entry)) base (R.recordingBody held h) ≡ goes x e → Given a (λ f. ShapeOf f x)) ⌝ }
 {
     let found = records::head_at(o, s, base, at);
     let Headed::At(h) = found else {

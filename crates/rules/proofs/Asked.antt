@@ -17,7 +17,7 @@ use Rattle.walk.specs.Walk.{Event, numeral, piece, blank, row, Row, rows, size,
 use Rattle.walk.proofs.Laws.{by-parts, by-split, by-check, checked, taken, plays-gave, traced}
 use Rattle.rules.specs.Rules.{between, padding, padded, makerCode, zeros, delimiter, basicBody, Head, head, span, admit, Basic, basic, Channel, channel, channels, Item, item, itemBytes, items, patientCode, eventCode, Frame, frame, frames, numberList, width, samplesIn, sampleBytes, FileHeader, Next, next, Part, part, Held, heldChannels, heldPatient, Placed, recording, recordings, File, fileHeader, file, orderOf, judge, recordingBody}
 use Rattle.rules.proofs.Canon.{recordings-ok}
-use Rattle.rules.proofs.Places.{numbers-found, Found, found-run, found-whole, found-first, found-second, found-at, head-size, admit-size, join, gave-nothing, fixed-size, channels-bytes, items-bytes, channel-found, frames-found, frame-found, samples-found, items-in, zeros-none}
+use Rattle.rules.proofs.Places.{numbers-found, Found, found-run, found-whole, found-first, found-second, found-at, head-size, admit-size, join, gave-nothing, fixed-size, channels-bytes, items-bytes, channel-found, frames-found, frame-found, samples-found, items-in, zeros-none, piece-size}
 use Rattle.rules.proofs.Renew.{if-case, pick-case, admit-ok, basic-size, next-ok, channels-ok, items-ok, frames-ok}
 use Rattle.rules.proofs.Turn.{accepted, is-render}
 use Rattle.rules.specs.Places.{bytesBefore}
@@ -49,9 +49,6 @@ module _ {A : Type 0} {w : ℕ → Head → Walk A} {a : A} where
 
 -- how far a walk over maker's records and a head goes
 
-next-piece : (bs : List ℕ) (n a b : ℕ) → length bs ≡ n → a ≡ b → length bs + a ≡ n + b
-next-piece bs n a b h k = omega arith
-
 maker-sum : (room s x r : ℕ) → x + r ≡ room - s + 16 → s ≤ room → 16 ≤ s → 16 + (0 + (s - 16 + (x + 0))) + r ≡ room + 16
 maker-sum room s x r h k l = omega arith
 
@@ -66,7 +63,7 @@ next-bytes (suc fuel) room {t} {n} p =
     let r = taken p in
     by-parts (next fuel (room - span h)) _ (r .then) λ m u₃ v₃ e₃ n₀ p.
     let d = admit-ok room 128 (leb 16) (λ _. true) h a₀ in
-    let s₃ : size v₂ ≡ span h - 16 + (size u₃ + 0) = ap size (r .split) ∙ next-piece (r .bytes) (span h - 16) (size (r .others)) (size u₃ + 0) (r .width) (join u₃ v₃ e₃ refl (gave-nothing p)) in
+    let s₃ : size v₂ ≡ span h - 16 + (size u₃ + 0) = ap size (r .split) ∙ piece-size (r .bytes) (span h - 16) (size (r .others)) (size u₃ + 0) (r .width) (join u₃ v₃ e₃ refl (gave-nothing p)) in
     let s₁ : size t ≡ 16 + (0 + (span h - 16 + (size u₃ + 0))) = join u₁ v₁ e₁ (head-size room h₀) (join u₂ v₂ e₂ (admit-size room 128 (leb 16) (λ _. true) h a₀) s₃) in
     let q : n .room ≡ m .room = ap (λ (x : Next). x .room) (plays-gave p) in
     rw (s₁, q) (maker-sum room (span h) (size u₃) (m .room) (next-bytes fuel (room - span h) n₀) (d .room) (leb-true 16 (span h) (d .fits))))
@@ -175,7 +172,7 @@ recording-found held room i p =
     let d₁ = next-bytes (span h) (e .next .room - span (e .next .head)) d₀ in
     let d₂ = next-ok (span h) (e .next .room - span (e .next .head)) d₀ .enough in
     let y₁ : size (r .others) ≡ 0 + 0 = join u₁₁ v₁₁ e₁₁ (zeros-none (r .bytes) z₀) (gave-nothing p) in
-    let y₂ : size v₁₀ ≡ d .room - 16 + (0 + 0) = ap size (r .split) ∙ next-piece (r .bytes) (d .room - 16) (size (r .others)) (0 + 0) (r .width) y₁ in
+    let y₂ : size v₁₀ ≡ d .room - 16 + (0 + 0) = ap size (r .split) ∙ piece-size (r .bytes) (d .room - 16) (size (r .others)) (0 + 0) (r .width) y₁ in
     let y₃ : size v₉ ≡ 0 + (d .room - 16 + (0 + 0)) = join u₁₀ v₁₀ e₁₀ (delimiter-size (d .head) l₀) y₂ in
     let y₄ : size v₈ ≡ size u₉ + (0 + (d .room - 16 + (0 + 0))) = join u₉ v₉ e₉ refl y₃ in
     let y₅ : size v₇ ≡ size u₈ + (size u₉ + (0 + (d .room - 16 + (0 + 0)))) = join u₈ v₈ e₈ refl y₄ in

@@ -43,7 +43,7 @@ recording-plays held r k i room b s =
     (record { size = omega (arith, z .small); code = omega arith; serial = b; multiplier = omega arith }) refl
     (record { low = l; small = omega (arith, z .small); fits = le-leb 16 (span (recordingHead i r)) (omega (arith, z .serves)); room = s; serial = eq-eqb i i refl })
 
-recording-size : (i : ℕ) (r : Recording) → size (recordOf (recordingHead i r) (content r ++ (zeroes (span (recordingHead i r) - (16 + size (content r))) ∷ []))) ≡ span (recordingHead i r)
+pub recording-size : (i : ℕ) (r : Recording) → size (recordOf (recordingHead i r) (content r ++ (zeroes (span (recordingHead i r) - (16 + size (content r))) ∷ []))) ≡ span (recordingHead i r)
 unfolding size
 recording-size i r = rw (record-size, size-append, zeros-length) (omega (arith, sized (16 + size (content r)) .serves))
 
@@ -111,11 +111,11 @@ first : (b : ℕ) (bs : List ℕ) → 48 ≤ b → b ≤ 57 → countOf (b ∷ b
 unfolding countOf between padding padded makerCode
 first b bs h k = rw (countOf, and-both (leb 48 b) (leb b 57) (le-leb 48 b h) (le-leb b 57 k))
 
-one-digit : (k : ℕ) → k < 10 → digits k ≡ (48 + k) ∷ 32 ∷ 32 ∷ 32 ∷ []
+pub one-digit : (k : ℕ) → k < 10 → digits k ≡ (48 + k) ∷ 32 ∷ 32 ∷ 32 ∷ []
 unfolding digits
 one-digit k h = rw (digits, lt-ltb k 10 h)
 
-two-digits : (k : ℕ) → 10 ≤ k → digits k ≡ (48 + k / 10) ∷ (48 + k % 10) ∷ 32 ∷ 32 ∷ []
+pub two-digits : (k : ℕ) → 10 ≤ k → digits k ≡ (48 + k / 10) ∷ (48 + k % 10) ∷ 32 ∷ 32 ∷ []
 unfolding digits
 two-digits k h = rw (digits, le-ltb k 10 h)
 
@@ -175,7 +175,7 @@ header-plays script k n o l =
     let m : countIs (countOf (digits k)) ≡ k = ap countIs (d .count) in
     rw m at (header-read script k n o d l)
 
-header-size : (script k : ℕ) → HeaderOk script k → size (headerEvents script k) ≡ 32
+pub header-size : (script k : ℕ) → HeaderOk script k → size (headerEvents script k) ≡ 32
 unfolding headerEvents identifier version form size between padding padded makerCode
 header-size script k o = omega (arith, digits-ok k (leb-true k 64 (and-true (leb 1 k) _ (o .count) .1)) .long)
 

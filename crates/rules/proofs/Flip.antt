@@ -1,24 +1,20 @@
 -- Turning, said of bytes: each number is reversed, the letter is changed, and every other byte stands. It is the rendering in the other order.
 -- Assumes nothing.
 use mathlib.Core.Path.{_≡_, refl, sym, ap, _∙_}
-use mathlib.Core.List.{List, [], _∷_, _++_, reverse, reverse-reverse, append-assoc, append-nil}
+use mathlib.Core.List.{List, [], _∷_, _++_, append-assoc, append-nil}
 use Prim.Native.Nat.{ℕ, _+_}
 use lib.ListN.{length}
 use lib.Seq.{take-at, drop-at}
-use Rattle.words.specs.Numbers.{other, ordered, bytesIn, Bytes}
+use Rattle.words.specs.Numbers.{other, bytesIn, Bytes}
 use Rattle.words.specs.declared.Order.{Order}
 use Rattle.words.specs.declared.Order.the-variants.{Little, Big}
 use Rattle.words.proofs.Words.{length-bytesIn}
+use Rattle.words.proofs.Runs.{bytesIn-other}
 use Rattle.walk.specs.Walk.{laid, Kind, Letter, Text, Padding, Event, numeral, piece, blank, row, passed, render}
 use Rattle.walk.proofs.Laid.{length-laid, swaps-swaps}
 use Rattle.rules.specs.Rules.{File, orderOf, judge}
 use Rattle.rules.specs.Turned.{turned, flippedPiece, flipped}
 use Rattle.rules.proofs.Turn.{turned-of, is-render}
-
-bytes-other : (o : Order) (n v : ℕ) → bytesIn (other o) n v ≡ reverse (bytesIn o n v)
-unfolding bytesIn ordered other
-bytes-other Little n v = refl
-bytes-other Big n v = rw reverse-reverse
 
 laid-other : (o : Order) (k : Kind) (s : List ℕ) → laid (other o) k s ≡ flippedPiece k (laid o k s)
 unfolding laid other flippedPiece
@@ -34,7 +30,7 @@ unfolding render flipped
 flipped-is o [] r = refl
 flipped-is o (numeral n v ∷ t) r =
     let l : length (bytesIn o n v) ≡ n = length-bytesIn o n v in
-    rw (append-assoc, take-at (bytesIn o n v) (render o t ++ r) n l, drop-at (bytesIn o n v) (render o t ++ r) n l, bytes-other o n v, flipped-is o t r)
+    rw (append-assoc, take-at (bytesIn o n v) (render o t ++ r) n l, drop-at (bytesIn o n v) (render o t ++ r) n l, bytesIn-other o n v, flipped-is o t r)
 flipped-is o (piece k bs ∷ t) r =
     let l : length (laid o k bs) ≡ length bs = length-laid o k bs in
     rw (append-assoc, take-at (laid o k bs) (render o t ++ r) (length bs) l, drop-at (laid o k bs) (render o t ++ r) (length bs) l, laid-other o k bs, flipped-is o t r)

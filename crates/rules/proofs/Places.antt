@@ -12,7 +12,8 @@ use lib.ListN.{length, getD, take, drop}
 use lib.Seq.{drop-at}
 use Rattle.words.specs.declared.Order.{Order}
 use Rattle.walk.specs.Plays.{Plays, gives, numbers}
-use Rattle.walk.specs.Walk.{Padding, Event, numeral, piece, blank, row, size, render, run, Walk, passed, give, number, read, _>>=_, _>>_}
+use Rattle.walk.specs.Walk.{Padding, Event, numeral, blank, size, render, run, Walk, passed, give, number, read, _>>=_, _>>_}
+use Rattle.walk.proofs.Tracing.{render-append}
 use Rattle.walk.proofs.Laws.{complete, length-render, size-append, by-parts, skipped, plays-gave, traced, eventsOf, valueOf, checked, counted, taken}
 use Rattle.rules.specs.Rules.{between, padding, padded, makerCode, zeros, series, Head, head, span, admit, fixed, Basic, Channel, channelBody, channel, channels, Item, item, itemBytes, itemSize, itemList, items, width, samplesIn, sampleBytes, numberList, samples, Frame, frame, Frames, frames, channelsBody, itemsBody, frameBody, framesBody}
 use Rattle.rules.proofs.Renew.{and-true, channel-size, series-ok}
@@ -25,14 +26,6 @@ pub record Found {A : Type 0} (t : List Event) (w : Walk A) (a : A) (p : ℕ) : 
   pub split : t ≡ before ++ (events ++ behind)
   pub place : size before ≡ p
   pub plays : Plays events w a
-
-pub render-append : (o : Order) (t u : List Event) → render o (t ++ u) ≡ render o t ++ render o u
-unfolding render
-render-append o [] u = refl
-render-append o (numeral w v ∷ t) u = rw (render-append o t u, append-assoc)
-render-append o (piece k bs ∷ t) u = rw (render-append o t u, append-assoc)
-render-append o (blank bs ∷ t) u = rw (render-append o t u, append-assoc)
-render-append o (row p l c s ∷ t) u = render-append o t u
 
 module _ {A : Type 0} {w : Walk A} {a : A} where
   -- at its own place of the file the walk gives what it gave there
@@ -298,7 +291,8 @@ pub record InFrames (d : Frame) (cs : List Channel) (h : Head) (u : List Event) 
 frame-bytes : (n t : ℕ) (cs : List Channel) → 24 + sampleBytes t cs ≤ n → (room i : ℕ) (u : List Event) (f : Frame) → Plays u (frame n t cs room i) f → size u ≡ n
 frame-bytes n t cs l room i u f p = omega (arith, frame-found n t cs room i p .bytes)
 
-piece-size : (bs : List ℕ) (n a b : ℕ) → length bs ≡ n → a ≡ b → length bs + a ≡ n + b
+-- how far a walk goes behind a piece of n bytes
+pub piece-size : (bs : List ℕ) (n a b : ℕ) → length bs ≡ n → a ≡ b → length bs + a ≡ n + b
 piece-size bs n a b h k = omega arith
 
 frames-sum : (s n x : ℕ) → 32 + n * s ≤ x → 0 + (4 + (4 + (4 + (4 + (s * n + (x - (32 + n * s) + (0 + 0))))))) + 16 ≡ x

@@ -4,8 +4,9 @@ use mathlib.Core.Path.{_≡_, refl, ap, ap₂, _∙_}
 use mathlib.Core.Bool.{Bool, true, false}
 use mathlib.Core.List.{List, [], _∷_, _++_, map}
 use Prim.Native.Nat.{ℕ, suc}
-use lib.ListN.{length, replicate}
-use Rattle.walk.specs.Walk.{Event, numeral, piece, blank, row, cleared}
+use lib.ListN.{length}
+use Rattle.walk.specs.Walk.{Event, numeral, cleared}
+use Rattle.walk.proofs.Tracing.{cleared-append}
 use Rattle.rules.specs.Rules.{Head, Basic, Channel, Item, Frame, Maker, Recording, width}
 use Rattle.rules.specs.Canonical.{recordOf, basicFields, channelFields, channelEvents, channelsWritten, itemEvents, itemsWritten, sampleEvents, frameWritten, frameEvents, framesWritten, makerEvents, optional, delimiterEvents, content, recordingEvents, headerEvents, anew, canonical}
 use Rattle.rules.specs.Reading.{Reading, wordsOf}
@@ -13,14 +14,6 @@ use Rattle.rules.specs.Reading.{Reading, wordsOf}
 -- events whose reserve is zero
 abbrev Clear : List Event → Type 0
 Clear t = cleared t ≡ t
-
-cleared-append : (t u : List Event) → cleared (t ++ u) ≡ cleared t ++ cleared u
-unfolding cleared
-cleared-append [] u = refl
-cleared-append (numeral w v ∷ t) u = ap (λ (x : List Event). numeral w v ∷ x) (cleared-append t u)
-cleared-append (piece k bs ∷ t) u = ap (λ (x : List Event). piece k bs ∷ x) (cleared-append t u)
-cleared-append (blank bs ∷ t) u = ap (λ (x : List Event). blank (replicate (length bs) 0) ∷ x) (cleared-append t u)
-cleared-append (row p l c s ∷ t) u = ap (λ (x : List Event). row p l c s ∷ x) (cleared-append t u)
 
 both : (t u : List Event) → Clear t → Clear u → Clear (t ++ u)
 both t u h k = cleared-append t u ∙ ap₂ (λ (x y : List Event). x ++ y) h k

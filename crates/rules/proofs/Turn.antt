@@ -63,7 +63,8 @@ pub record Whole (n : ℕ) (x : Outcome File) (v : File) (r : List ℕ) (t : Lis
   pub is : x ≡ passed v [] t
   pub left : r ≡ []
 
-whole-passed : (n : ℕ) (x : Outcome File) {v : File} {r : List ℕ} {t : List Event} → whole n x ≡ passed v r t → Whole n x v r t
+-- what is accepted is what the walk gives, and nothing is left
+pub whole-passed : (n : ℕ) (x : Outcome File) {v : File} {r : List ℕ} {t : List Event} → whole n x ≡ passed v r t → Whole n x v r t
 unfolding whole
 whole-passed n (refused m p) h = absurd (let z : _≡_ {A = ℕ} 0 1 = cc in omega arith)
 whole-passed n (passed a [] u) {v} {r} {t} h =

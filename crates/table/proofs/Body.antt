@@ -15,13 +15,14 @@ use Rattle.walk.specs.Walk.{Walk, _>>=_, _>>_, require}
 use Rattle.walk.specs.See.{goes, see}
 use Rattle.walk.specs.Tell.{tell}
 use Rattle.walk.proofs.Seen.{stays-goes}
+use Rattle.walk.proofs.Went.{gate-went, went-first}
 use Rattle.walk.proofs.Told.{tell-bind}
 use Rattle.rules.specs.Rules as R
 use Rattle.rules.specs.Rules.{span, basic, basicBody, fixed, next, part, channels, items, patientCode, eventCode, frames, delimiter, padding, heldChannels, heldPatient, recordingBody}
 use Rattle.rules.specs.declared.Head.{Head}
 use Rattle.rules.proofs.Room.{stays-basic, stays-delimiter}
 use Rattle.table.specs.Rows.{Wrote, Marks, PartRows, RecordRows}
-use Rattle.table.proofs.Lists.{Silent, silent, silent-then, silent-padding, gate-went, went-first, require-went, one-row}
+use Rattle.table.proofs.Lists.{Silent, silent, silent-then, silent-padding, require-went, one-row}
 use Rattle.table.proofs.Written.{wrote-join, wrote-nothing}
 
 silent-basicBody : Silent basicBody

@@ -7,20 +7,23 @@ use mathlib.Core.Option.{Option, none, some}
 use Prim.Native.Nat.{ℕ, zero, suc, _+_, _*_, _-_, _≤_, _<_}
 use native.Mathlib.Nat.{mul-comm}
 use native.Mathlib.Omega.{arith}
-use borrow.Author.Tests.{leb-true, eqb-true, le-leb, eq-eqb, ne-eqb}
-use lib.Dec.{leb, ltb, eqb}
+use borrow.Author.Tests.{leb-true, eqb-true, eq-eqb, ne-eqb}
+use lib.Dec.{leb, eqb}
 use lib.IntN.{ℤ}
 use lib.ListN.{length}
 use Rattle.words.specs.Numbers.{bytesAt, numberAt}
 use Rattle.words.specs.declared.Order.{Order}
-use Rattle.walk.specs.See.{Verdict, stops, goes, gate, see, Goes, onward, Stays}
+use Rattle.walk.specs.See.{stops, goes, see, Goes, Stays}
 use Rattle.walk.specs.Tell.{tell}
 use Rattle.walk.specs.Walk.{laid, Row, Walk, give, refuse, check, number, read, skip, list, _>>=_, _>>_, require}
-use Rattle.walk.proofs.Seen.{see-bind, stays-goes, and-left, and-right}
-use Rattle.rules.specs.Rules.{Head, head, admit, span, limit, coded, fixed, zeros, padding, series, Channel, channel, channelBody, channelsBody, channels, Basic, Item, Frame, item, itemSize, itemList, itemsBody, items, numberList, samples, sampleBytes, samplesIn, width, frameBody, frame, frames, framesBody, Frames, padOk, between, Next, Part, part, next}
+use Rattle.walk.proofs.Seen.{stays-goes, and-left}
+use Rattle.walk.proofs.Went.{gate-went, went-first, goes-same}
+use Rattle.rules.specs.Rules.{Head, head, admit, span, coded, fixed, zeros, padding, series, Channel, channel, channelBody, channelsBody, channels, Basic, Item, Frame, item, itemSize, itemList, itemsBody, items, numberList, samples, sampleBytes, samplesIn, width, frameBody, frame, frames, framesBody, Frames, padOk, between, Next, Part, part, next}
 use Rattle.rules.specs.declared.Head as At
 use Rattle.rules.proofs.Room.{Rests, stays-channel, stays-frame}
 use Rattle.records.specs.Says.{headOf}
+use Rattle.records.proofs.Facts.{both-true, both-false}
+use Rattle.judge.proofs.Recorded.{admit-passed}
 use Rattle.table.specs.Rows.{seriesRows, Wrote, Marks, PartRows, RecordRows}
 use Rattle.table.proofs.Written.{wrote-nothing, wrote-join}
 use Rattle.walk.proofs.Told.{tell-bind, tell-then, tell-give}
@@ -103,25 +106,6 @@ silent-itemsBody : (ok : ℕ → Bool) (n : ℕ) → Silent (itemsBody ok n)
 unfolding itemsBody _>>=_ _>>_
 silent-itemsBody ok n = λ m. silent-bind (itemList ok m (n - 24)) _ (silent-itemList ok m (n - 24)) (λ _. tt)
 
--- a test that a walk passed
-pub gate-went : {A : Type 0} (c : Bool) (v : Verdict A) (n p : ℕ) {a : A} {e : ℕ} → gate c v n p ≡ goes a e → (c ≡ true) × (v ≡ goes a e)
-unfolding gate
-gate-went true v n p h = (refl, h)
-gate-went false v n p h = absurd (let z : _≡_ {A = ℕ} 0 1 = cc in omega arith)
-
-module _ {A B : Type 0} (o : Order) (b : ℕ) (s : List ℕ) (at : ℕ) (w : Walk A) (k : A → Walk B) {x : B} {e : ℕ} where
-  -- one walk after the other that went on: so did the first
-  pub went-first : see o b s at (w >>= k) ≡ goes x e → Goes (see o b s at w) (λ a m. see o b s m (k a) ≡ goes x e)
-  went-first h = go (see o b s at w) (rw see-bind at h)
-    where
-      go : (v : Verdict A) → onward v (λ a m. see o b s m (k a)) ≡ goes x e → Goes v (λ a m. see o b s m (k a) ≡ goes x e)
-      go (stops n p) g = absurd (let z : _≡_ {A = ℕ} 0 1 = cc in omega arith)
-      go (goes a m) g = record { value = a; end = m; is = refl; kept = g }
-
--- one verdict: the same answer, at the same place
-pub goes-same : {A : Type 0} {a x : A} {d e : ℕ} → _≡_ {A = Verdict A} (goes a d) (goes x e) → (a ≡ x) × (d ≡ e)
-goes-same h = (cc, cc)
-
 -- what an admitted head says, and its row; then what stands behind the head
 pub record Admitted {A : Type 0} (o : Order) (b : ℕ) (s : List ℕ) (at room most : ℕ) (fits serial : ℕ → Bool) (h : Head) (v : Walk A) (a : A) (e : ℕ) : Type 0 where
   pub admits : see o b s at (admit room most fits serial h) ≡ goes tt at
@@ -130,16 +114,6 @@ pub record Admitted {A : Type 0} (o : Order) (b : ℕ) (s : List ℕ) (at room m
   pub inside : span h ≤ room
   pub rest : see o b s at v ≡ goes a e
   pub rows : tell o b s at (admit room most fits serial h >> v) ≡ record { start = at - 16; size = span h; code = h .code; serial = h .serial } ∷ tell o b s at v
-
-admit-passed : (o : Order) (b : ℕ) (s : List ℕ) (at room most : ℕ) (fits serial : ℕ → Bool) (h : Head) {e : ℕ} → see o b s at (admit room most fits serial h) ≡ goes tt e →
-    (e ≡ at) × (fits (span h) ≡ true) × (serial (h .serial) ≡ true) × (span h ≤ room)
-unfolding admit see _>>=_ _>>_
-admit-passed o b s at room most fits serial h g =
-    let g₁ = gate-went _ _ _ _ g in
-    let g₂ = gate-went _ _ _ _ (g₁ .1) in
-    let g₃ = gate-went _ _ _ _ (g₂ .1) in
-    let y : fits (span h) && leb (span h) room ≡ true = and-right (ltb (h .size) limit) _ (g₂ .0) in
-    (sym (goes-same (g₃ .1) .1), and-left (fits (span h)) _ y, g₃ .0, leb-true (span h) room (and-right (fits (span h)) _ y))
 
 pub admit-went : {A : Type 0} (o : Order) (b : ℕ) (s : List ℕ) (at room most : ℕ) (fits serial : ℕ → Bool) (h : Head) (v : Walk A) {a : A} {e : ℕ} →
     see o b s at (admit room most fits serial h >> v) ≡ goes a e → Admitted o b s at room most fits serial h v a e
@@ -432,12 +406,7 @@ frames-refused o b s c own cs back at room h k g = not-admitted o b s at room 12
 -- the code's test of the frames' length and count, r, where it holds and where it does not
 module _ (size count n : ℕ) (r : Bool) (is : r ≡ leb 24 size && leb (32 + size * count) n) where
   pub fits-true : r ≡ true → (24 ≤ size) × (32 + size * count ≤ n)
-  fits-true e =
-      let t : leb 24 size && leb (32 + size * count) n ≡ true = sym is ∙ e in
-      (leb-true 24 size (and-left (leb 24 size) (leb (32 + size * count) n) t), leb-true (32 + size * count) n (and-right (leb 24 size) (leb (32 + size * count) n) t))
+  fits-true = both-true 24 size (32 + size * count) n r is
 
   pub fits-false : r ≡ false → 24 ≤ size → 32 + size * count ≤ n → ⊥
-  fits-false e h k =
-      let t : leb 24 size && leb (32 + size * count) n ≡ true = rw (le-leb 24 size h, le-leb (32 + size * count) n k) in
-      let z : _≡_ {A = ℕ} 0 1 = cc in
-      omega arith
+  fits-false = both-false 24 size (32 + size * count) n r is

@@ -3,7 +3,7 @@
 use mathlib.Core.Path.{_≡_, refl, sym, _∙_}
 use mathlib.Core.Bool.{Bool, true}
 use mathlib.Core.List.{List, [], _∷_, _++_, append-assoc, append-nil}
-use mathlib.Core.Option.{Option, none, some}
+use mathlib.Core.Option.{Option, none}
 use Prim.Native.Nat.{ℕ, suc, _+_, _-_, _≤_, _<_}
 use native.Mathlib.Nat.{zero-add, sub-zero}
 use native.Mathlib.Numerals.{add-one}
@@ -17,12 +17,15 @@ use Rattle.walk.specs.See.{stops, goes, see}
 use Rattle.walk.specs.Tell.{tell}
 use Rattle.walk.specs.Trace.{trace}
 use Rattle.walk.proofs.Seen.{gate-true, stays-goes, see-part, body-length}
+use Rattle.walk.proofs.Went.{gate-went, went-first, goes-same}
 use Rattle.walk.proofs.Told.{tell-bind, tell-give, tell-part}
 use Rattle.walk.proofs.Tracing.{trace-bind, trace-give}
 use Rattle.rules.specs.Rules.{Head, head, span, coded, admit, Held, Placed, recordingBody, recording, recordings}
-use Rattle.rules.proofs.Room.{stays-recordingBody, stays-recording}
+use Rattle.rules.proofs.Room.{stays-recordingBody}
+use Rattle.judge.specs.Recorded.{leaves}
+use Rattle.judge.proofs.Led.{Led, led}
 use Rattle.table.specs.Rows.{Wrote}
-use Rattle.table.proofs.Lists.{gate-went, went-first, admit-went, goes-same, require-went, head-went}
+use Rattle.table.proofs.Lists.{admit-went, require-went, head-went}
 use Rattle.table.proofs.Makers.{tell-head}
 use Rattle.table.proofs.Written.{wrote-join, wrote-nothing}
 
@@ -105,10 +108,6 @@ module _ (o : Order) (s : List ℕ) (p : ℕ) where
           let m : q - p ≡ span h = omega arith in
           (omega (arith, ends .1), rw (v .rows, t) (wrote-join w out out₁ out₂ k k₁ k₂ (record { start = p; size = span h; code = h .code; serial = h .serial } ∷ []) (tell o 0 s (p + 16) (recordingBody held h)) (rw m at first) (rw tells at later)))
 
--- what the next recording takes over
-abbrev pub leaves : Placed → Option Held
-leaves x = some (record { channels = x .recording .channels; patient = x .recording .patient })
-
 -- i of the recordings are listed, and the walk goes on at byte p of the file
 pub record Sofar (o : Order) (s : List ℕ) (w : Bool) (count : ℕ) (out out′ : List ℤ) (p k i : ℕ) : Type 0 where
   pub held : Option Held
@@ -119,52 +118,40 @@ pub record Sofar (o : Order) (s : List ℕ) (w : Bool) (count : ℕ) (out out′
   pub wrote : Wrote w out out′ 0 k done
   pub rows : tell o 0 s 32 (recordings count none (length s - 32) 1) ≡ done ++ tell o 0 s p (recordings (count - i) held (length s - p) (i + 1))
 
--- the first of the recordings, and the others
-pub record Led (o : Order) (s : List ℕ) (p n : ℕ) (held : Option Held) (i : ℕ) : Type 0 where
-  pub one : Placed
-  pub mid : ℕ
-  pub value : List Placed
-  pub end : ℕ
-  pub is : see o 0 s p (recording held (length s - p) i) ≡ goes one mid
-  pub on : see o 0 s mid (recordings n (leaves one) (length s - mid) (suc i)) ≡ goes value end
-  pub rows : tell o 0 s p (recordings (suc n) held (length s - p) i) ≡ tell o 0 s p (recording held (length s - p) i) ++ tell o 0 s mid (recordings n (leaves one) (length s - mid) (suc i))
-  pub events : trace o 0 s p (recordings (suc n) held (length s - p) i) ≡ trace o 0 s p (recording held (length s - p) i) ++ trace o 0 s mid (recordings n (leaves one) (length s - mid) (suc i))
+-- the first of the recordings, and the others: their rows, and their events
+module _ {o : Order} {s : List ℕ} {p n : ℕ} {held : Option Held} {i : ℕ} {l : List Placed} {e : ℕ} (v : Led o s p n held i l e) where
+  abbrev later : Placed → Walk (List Placed)
+  later x = recordings n (leaves x) (length s - p - x .layout .bytes) (suc i) >>= λ r. give (x ∷ r)
 
-pub led : (o : Order) (s : List ℕ) (p n : ℕ) (held : Option Held) (i : ℕ) {l : List Placed} {e : ℕ} → p ≤ length s → see o 0 s p (recordings (suc n) held (length s - p) i) ≡ goes l e → Led o s p n held i
-unfolding recordings
-led o s p n held i f g =
-    let j : Placed → Walk (List Placed) = λ x. recordings n (leaves x) (length s - p - x .layout .bytes) (suc i) >>= λ l. give (x ∷ l) in
-    let x = went-first o 0 s p (recording held (length s - p) i) j g in
-    let z : (x .end ≡ p + x .value .layout .bytes) × (x .value .layout .bytes ≤ length s - p) = stays-goes o 0 s (p + (length s - p)) (omega arith) (recording held (length s - p) i) p _ (omega arith) (stays-recording held i p (length s - p)) (x .is) in
-    let u : length s - p - x .value .layout .bytes ≡ length s - x .end = omega (arith, z .0) in
-    let v : Walk (List Placed) = recordings n (leaves (x .value)) (length s - x .end) (suc i) in
-    let y = went-first o 0 s (x .end) v (λ l. give (x .value ∷ l)) (rw u at (x .kept)) in
-    record {
-      one = x .value;
-      mid = x .end;
-      value = y .value;
-      end = y .end;
-      is = x .is;
-      on = y .is;
-      rows = tell-bind o 0 s p (recording held (length s - p) i) j (x .is) ∙ rw (u, tell-give o 0 s (x .end) v (λ l. x .value ∷ l));
-      events = trace-bind o 0 s p (recording held (length s - p) i) j (x .is) ∙ rw (u, trace-give o 0 s (x .end) v (λ l. x .value ∷ l));
-    }
+  abbrev others : Walk (List Placed)
+  others = recordings n (leaves (v .one)) (length s - v .mid) (suc i)
+
+  room-left : length s - p - v .one .layout .bytes ≡ length s - v .mid
+  room-left = omega (arith, v .place)
+
+  pub led-rows : tell o 0 s p (recordings (suc n) held (length s - p) i) ≡ tell o 0 s p (recording held (length s - p) i) ++ tell o 0 s (v .mid) others
+  unfolding recordings
+  led-rows = tell-bind o 0 s p (recording held (length s - p) i) later (v .is) ∙ rw (room-left, tell-give o 0 s (v .mid) others (λ r. v .one ∷ r))
+
+  pub led-events : trace o 0 s p (recordings (suc n) held (length s - p) i) ≡ trace o 0 s p (recording held (length s - p) i) ++ trace o 0 s (v .mid) others
+  unfolding recordings
+  led-events = trace-bind o 0 s p (recording held (length s - p) i) later (v .is) ∙ rw (room-left, trace-give o 0 s (v .mid) others (λ r. v .one ∷ r))
 
 module _ {o : Order} {s : List ℕ} {w : Bool} {count : ℕ} {out : List ℤ} where
   pub sofar-start : {l : List Placed} {e : ℕ} → see o 0 s 32 (recordings count none (length s - 32) 1) ≡ goes l e → Sofar o s w count out out 32 0 0
   sofar-start {l} {e} g = record { held = none; value = l; end = e; done = []; on = rw sub-zero g; wrote = wrote-nothing w out 0; rows = simp sub-zero }
 
   module _ {out′ : List ℤ} {p k i : ℕ} (g : Sofar o s w count out out′ p k i) where
-    sofar-led : (out″ : List ℤ) (p′ k′ n : ℕ) → count - i ≡ suc n → n ≡ count - (i + 1) → (v : Led o s p n (g .held) (i + 1)) →
+    sofar-led : (out″ : List ℤ) (p′ k′ n : ℕ) → count - i ≡ suc n → n ≡ count - (i + 1) → (v : Led o s p n (g .held) (i + 1) (g .value) (g .end)) →
         (v .mid ≡ p′) × Wrote w out′ out″ k k′ (tell o 0 s p (recording (g .held) (length s - p) (i + 1))) → Sofar o s w count out out″ p′ k′ (i + 1)
     sofar-led out″ p′ k′ n d e v u = record {
       held = leaves (v .one);
-      value = v .value;
-      end = v .end;
+      value = v .rest;
+      end = g .end;
       done = g .done ++ tell o 0 s p (recording (g .held) (length s - p) (i + 1));
       on = rw (← e, ← u .0, add-one (i + 1)) (v .on);
       wrote = wrote-join w out out′ out″ 0 k k′ (g .done) (tell o 0 s p (recording (g .held) (length s - p) (i + 1))) (g .wrote) (u .1);
-      rows = g .rows ∙ rw (d, v .rows, ← e, ← u .0, add-one (i + 1), append-assoc);
+      rows = g .rows ∙ rw (d, led-rows v, ← e, ← u .0, add-one (i + 1), append-assoc);
     }
 
     pub sofar-next : (out″ : List ℤ) (p′ k′ : ℕ) → i < count → p ≤ length s →

@@ -114,7 +114,7 @@ fn makers_rows(
         let found = records::head_at(o, s, base, p);
         let Headed::At(h) = found else {
             return Marked {
-                next: nothing(p),
+                next: records::nothing(p),
                 k: next,
             };
         };
@@ -131,25 +131,12 @@ fn makers_rows(
         );
         let Step::On(end) = room else {
             return Marked {
-                next: nothing(p),
+                next: records::nothing(p),
                 k: next,
             };
         };
         next = put(out, next, write, base + p, end - p, h.code, h.serial);
         p = end;
-    }
-}
-
-// No record's head, at byte p.
-fn nothing(p: usize) -> Head
-    ensures { λ r. ⌜ r .at ≡ p ⌝ }
-{
-    Head {
-        at: p,
-        size: 0,
-        code: 0,
-        serial: 0,
-        multiplier: 0,
     }
 }
 

@@ -2,9 +2,8 @@
 -- Assumes nothing.
 use mathlib.Core.Path.{_≡_, refl, sym, ap, _∙_}
 use mathlib.Core.List.{List, _++_}
-use mathlib.Core.Option.{none, some}
-use Prim.Native.Nat.{ℕ, _-_, _≤_, _<_}
-use borrow.Author.Tests.{le-leb, lt-leb}
+use mathlib.Core.Option.{Option, none}
+use Prim.Native.Nat.{ℕ, _-_}
 use lib.ListN.{length}
 use Rattle.words.specs.Numbers.{other}
 use Rattle.words.specs.Runs.{pasted}
@@ -25,16 +24,18 @@ use Rattle.judge.proofs.Verdicts.{accepted-seen}
 use Rattle.table.proofs.Answers.{listed}
 use Rattle.copies.specs.Copy.{copy}
 use Rattle.makers.specs.Makers.{firstMaker}
-use Rattle.turn.specs.Turn.{turning, bytes, refusal, meaning, answerOf, afterwards}
-use Rattle.turn.specs.declared.Turned.{Turned}
-use Rattle.turn.specs.declared.Turned.the-variants as Turned
+use Rattle.permit.specs.Permit.{Answer, bytes, refusal, meaning, permitted, Writes}
+use Rattle.permit.specs.declared.Written.{Written}
+use Rattle.permit.specs.declared.Written.the-variants as Written
+use Rattle.permit.proofs.Settled.{stopped, wrote}
+use Rattle.turn.specs.Turn.{turning, answerOf}
 
 -- what the contract of `turn` says
-abbrev pub Turns : List ℕ → List ℕ → List ℕ → Turned → Type 0
-Turns s out out′ a = (meaning a ≡ answerOf s (length out)) × (out′ ≡ afterwards s out)
+abbrev pub Turns : List ℕ → List ℕ → List ℕ → Written → Type 0
+Turns s out out′ a = Writes (answerOf s (length out)) (T.turned s) out out′ a
 
 -- a file that is refused
-pub turns-refused : (s out : List ℕ) {n p : ℕ} → R.judge s ≡ refused n p → Turns s out out (Turned.Refused (record { 0 = n; 1 = p }))
+pub turns-refused : (s out : List ℕ) {n p : ℕ} → R.judge s ≡ refused n p → Turns s out out (Written.Refused (record { 0 = n; 1 = p }))
 turns-refused s out h = rw h (refl, refl)
 
 -- a file that is accepted
@@ -48,13 +49,13 @@ module _ (s : List ℕ) (h : FileHeader) (x : AcceptedAs s h) where
   pub opens : see (h .order) 0 s 0 (fileHeader (length s)) ≡ goes (record { script = h .script; count = h .count }) 32
   opens = rw (x .order) (accepted-seen s h x .header)
 
-  -- a maker's record in it
-  pub turns-made : (out : List ℕ) {p : ℕ} → some p ≡ firstMaker (tell (h .order) 0 s 32 walked) → Turns s out out (Turned.Refused (record { 0 = 18; 1 = p }))
-  turns-made out e = rw (x .judged, listed s h x, ← e) (refl, refl)
+  module _ (out : List ℕ) {m : Option ℕ} (made : m ≡ firstMaker (tell (h .order) 0 s 32 walked)) where
+    -- leave to write is the answer
+    answers : {y : Answer} → y ≡ permitted m (length s) (length out) → y ≡ answerOf s (length out)
+    answers e = rw (x .judged, listed s h x, ← made) e
 
-  module _ (out : List ℕ) (none-made : none ≡ firstMaker (tell (h .order) 0 s 32 walked)) where
-    pub turns-short : length out < length s → Turns s out out (Turned.Refused (record { 0 = 17; 1 = length s }))
-    turns-short l = rw (x .judged, listed s h x, ← none-made, lt-leb (length s) (length out) l) (refl, refl)
+    pub turns-stopped : (a : Written) {n p : ℕ} → meaning a ≡ permitted m (length s) (length out) → meaning a ≡ refusal n p → Turns s out out a
+    turns-stopped a e r = stopped (answerOf s (length out)) (T.turned s) out a (answers e) r
 
     -- its header and its recordings, written, are the turned file
     sent : copy (turning (h .order)) 0 s 0 (fileHeader (length s)) ++ copy (turning (h .order)) 0 s 32 walked ≡ T.turned s
@@ -67,5 +68,5 @@ module _ (s : List ℕ) (h : FileHeader) (x : AcceptedAs s h) where
         rw (x .order) (judge-trace s (x .judged)) ∙ (trace-bind o 0 s 0 (fileHeader (length s)) k opens ∙ ap (λ (u : List Event). t ++ u) (trace-give {B = R.File} o 0 s 32 walked (λ l. record { script = h .script; recordings = l }))) in
         sym (turned-of s (x .judged) ∙ rw (← x .order, e) (render-append (other o) t (trace o 0 s 32 walked)))
 
-    pub turns-room : (out′ : List ℕ) → length s ≤ length out → out′ ≡ pasted out 0 (copy (turning (h .order)) 0 s 0 (fileHeader (length s)) ++ copy (turning (h .order)) 0 s 32 walked) → Turns s out out′ (Turned.Bytes (length s))
-    turns-room out′ l e = rw (x .judged, listed s h x, ← none-made, le-leb (length s) (length out) l) (refl, e ∙ ap (pasted out 0) sent)
+    pub turns-room : (a : Written) {n : ℕ} (out′ : List ℕ) → meaning a ≡ permitted m (length s) (length out) → meaning a ≡ bytes n → out′ ≡ pasted out 0 (copy (turning (h .order)) 0 s 0 (fileHeader (length s)) ++ copy (turning (h .order)) 0 s 32 walked) → Turns s out out′ a
+    turns-room a out′ e r w = wrote (answerOf s (length out)) (T.turned s) out out′ a (answers e) r (w ∙ ap (pasted out 0) sent)

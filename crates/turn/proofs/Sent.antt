@@ -15,14 +15,14 @@ use lib.Seq.{take-add, take-all, drop-drop, length-take-le}
 use Rattle.words.specs.Numbers.{bytesAt}
 use Rattle.words.specs.Runs.{pasted}
 use Rattle.words.specs.declared.Order.{Order}
-use Rattle.words.specs.declared.Order.the-variants.{Little, Big}
 use Rattle.words.proofs.Runs.{pasted-pasted, pasted-nothing, set-pasted, more-written}
-use Rattle.walk.proofs.Laid.{length-laid}
-use Rattle.walk.specs.Walk.{Letter, Text, laid, Walk, give, refuse, check, number, read, skip, list, _>>=_, _>>_, require}
+use Rattle.walk.specs.Walk.{Letter, laid, Walk, give, refuse, check, number, read, skip, list, _>>=_, _>>_, require}
 use Rattle.walk.specs.See.{stops, goes, see, Goes, Stays}
 use Rattle.walk.specs.Trace.{trace, written}
+use Rattle.walk.proofs.Laid.{laid-text, length-laid}
 use Rattle.walk.proofs.Seen.{stays-goes, see-part, body-length}
-use Rattle.walk.proofs.Tracing.{written-append}
+use Rattle.walk.proofs.Tracing.{written-append, written-none, written-row, written-piece}
+use Rattle.walk.proofs.Went.{gate-went, went-first, goes-same}
 use Rattle.rules.specs.Rules as R
 use Rattle.rules.specs.Rules.{head, coded, admit, span, basic, next, part, channels, items, patientCode, eventCode, heldChannels, heldPatient, frames, delimiter, padding, recordingBody, recording, recordings, fileHeader}
 use Rattle.rules.specs.declared.Head.{Head}
@@ -34,13 +34,15 @@ use Rattle.judge.specs.Tabled.{Stand, HeldAs}
 use Rattle.judge.specs.declared.tables.Before.{Before}
 use Rattle.judge.specs.declared.tables.Before.the-variants as Before
 use Rattle.judge.specs.declared.tables.Places.{Places}
+use Rattle.judge.proofs.Led.{Led, led, led-stop}
 use Rattle.table.specs.Rows.{Marks}
-use Rattle.table.proofs.Lists.{gate-went, went-first, admit-went, require-went, head-went, goes-same}
-use Rattle.table.proofs.Recorded.{Led, led}
+use Rattle.table.proofs.Lists.{admit-went, require-went, head-went}
+use Rattle.table.proofs.Recorded.{led-events}
 use Rattle.copies.specs.Copy.{copy, Pastes, Holds, RecordCopied}
 use Rattle.copies.specs.declared.Way.{Way}
 use Rattle.copies.proofs.Copying.{copy-bind, copy-part, length-copy, holds-join}
-use Rattle.turn.proofs.Turning.{filled-first, written-row, written-piece, written-none, read-part, copy-require, copy-admit, copy-padding}
+use Rattle.copies.proofs.Onward.{copy-admit}
+use Rattle.turn.proofs.Turning.{filled-first, read-part, copy-require, copy-padding}
 
 -- one walk after two others is one after the first, and then the second
 bind-step : {A B C : Type 0} (v : Walk A) (f : A → Walk B) (k : B → Walk C) (g : A → Walk C) → ((a : A) → (f a >>= k) ≡ g a) → ((v >>= f) >>= k) ≡ (v >>= g)
@@ -220,17 +222,15 @@ module _ {w : Way} {s : List ℕ} {count : ℕ} {out₀ : List ℕ} where
 
   module _ {out : List ℕ} {p i : ℕ} {before : Before} (x : Sending w s count out₀ out p i before) (fit : p ≤ length s) where
     -- the first of the recordings that are left, and the others
-    sending-led : i < count → Led (w .from) s p (count - (i + 1)) (x .held) (i + 1)
-    sending-led h =
-        let d : count - i ≡ suc (count - (i + 1)) = omega arith in
-        led (w .from) s p (count - (i + 1)) (x .held) (i + 1) fit (rw d at (x .on))
+    sending-on : i < count → see (w .from) 0 s p (recordings (suc (count - (i + 1))) (x .held) (length s - p) (i + 1)) ≡ goes (x .value) (x .end)
+    sending-on h = let d : count - i ≡ suc (count - (i + 1)) = omega arith in rw d at (x .on)
+
+    pub sending-led : i < count → Led (w .from) s p (count - (i + 1)) (x .held) (i + 1) (x .value) (x .end)
+    sending-led h = led (w .from) s p (count - (i + 1)) (x .held) (i + 1) fit (sending-on h)
 
     -- it was accepted
     pub sending-stop : {n q : ℕ} → i < count → see (w .from) 0 s p (recording (x .held) (length s - p) (i + 1)) ≡ stops n q → ⊥
-    sending-stop h g =
-        let v = sending-led h .is in
-        let z : _≡_ {A = ℕ} 0 1 = cc in
-        omega arith
+    sending-stop h g = led-stop (w .from) s p (count - (i + 1)) (x .held) (i + 1) (sending-on h) g
 
     pub sending-next : {q : Places} (out′ : List ℕ) → i < count → 32 ≤ length out₀ → (k : Goes (see (w .from) 0 s p (recording (x .held) (length s - p) (i + 1))) (Places-of (w .from) s p before q)) →
         ((held : Option R.Held) (j : ℕ) (y : R.Placed) → see (w .from) 0 s p (recording held (length s - p) j) ≡ goes y (q .end) → Stand (w .from) s (q .channels) (q .count) (y .recording .channels) → out′ ≡ pasted out p (copy w 0 s p (recording held (length s - p) j))) →
@@ -244,13 +244,13 @@ module _ {w : Way} {s : List ℕ} {count : ℕ} {out₀ : List ℕ} where
         let ys : List ℕ = copy w 0 s p (recording (x .held) (length s - p) (i + 1)) in
         let c = copied (x .held) (i + 1) (k .value) is (k .kept .held) in
         let n = length-copy w 0 s (p + (length s - p)) (omega arith) (recording (x .held) (length s - p) (i + 1)) p _ (omega arith) (stays-recording (x .held) (i + 1) p (length s - p)) is in
-        let z = ap (written (w .keep) (w .to)) (v .events) ∙ written-append (w .keep) (w .to) (trace (w .from) 0 s p (recording (x .held) (length s - p) (i + 1))) (trace (w .from) 0 s (v .mid) (recordings (count - (i + 1)) (leaves (v .one)) (length s - v .mid) (suc (i + 1)))) in
+        let z = ap (written (w .keep) (w .to)) (led-events v) ∙ written-append (w .keep) (w .to) (trace (w .from) 0 s p (recording (x .held) (length s - p) (i + 1))) (trace (w .from) 0 s (v .mid) (recordings (count - (i + 1)) (leaves (v .one)) (length s - v .mid) (suc (i + 1)))) in
         let a : ys ++ copy w 0 s (v .mid) (recordings (count - (i + 1)) (leaves (v .one)) (length s - v .mid) (suc (i + 1))) ≡ ys ++ copy w 0 s (q .end) (recordings (count - (i + 1)) (leaves (v .one)) (length s - q .end) (i + 1 + 1)) = rw (← m, add-one (i + 1)) in
         record {
           held = leaves (v .one);
           holds = subst (λ (y : R.Placed). HeldAs (w .from) s (Before.These q) (leaves y)) (sym (e .0)) (k .kept .held);
-          value = v .value;
-          end = v .end;
+          value = v .rest;
+          end = x .end;
           on = rw (← m, add-one (i + 1)) (v .on);
           done = x .done ++ ys;
           place = omega (arith, x .place, n, length-append (x .done) ys);
@@ -263,11 +263,6 @@ module _ {w : Way} {s : List ℕ} {count : ℕ} {out₀ : List ℕ} where
     sending-end h = let d : count - i ≡ 0 = omega arith in x .wrote ∙ ap (pasted out₀ 32) (sym (x .rest ∙ rw (d, written-none) (append-nil (x .done))))
 
 -- the file header: texts, and the letter
-laid-text : (o : Order) (bs : List ℕ) → laid o Text bs ≡ bs
-unfolding laid
-laid-text Little bs = refl
-laid-text Big bs = refl
-
 bytes-split : (n m k : ℕ) (s : List ℕ) → bytesAt (n + m) s k ≡ bytesAt n s k ++ bytesAt m s (k + n)
 unfolding bytesAt
 bytes-split n m k s = take-add n m (drop k s) ∙ rw drop-drop

@@ -1,37 +1,39 @@
 -- What is written of a 145 and of a 140, from what each of the code's steps wrote; and bytes written front to back.
 -- Assumes nothing.
 use mathlib.Core.Path.{_≡_, refl, sym, ap, _∙_}
-use mathlib.Core.Bool.{Bool, true, false, _&&_, _||_}
+use mathlib.Core.Bool.{Bool, false, _&&_, _||_}
 use mathlib.Core.List.{List, [], _∷_, _++_, append-assoc, append-nil}
 use Prim.Native.Nat.{ℕ, suc, _+_, _-_, _*_, _≤_, _<_}
 use native.Mathlib.Nat.{zero-add, sub-zero, mul-comm}
 use native.Mathlib.Numerals.{add-one}
 use native.Mathlib.Omega.{arith}
-use borrow.Author.Tests.{leb-true, le-leb}
-use lib.Dec.{leb, eqb, when}
+use borrow.Author.Tests.{leb-true}
+use lib.Dec.{leb, eqb}
 use lib.ListN.{length, take, drop, length-append, length-drop}
 use lib.Seq.{length-take-le}
 use Rattle.words.specs.Numbers.{bytesAt, numberAt}
 use Rattle.words.specs.Runs.{pasted}
 use Rattle.words.specs.declared.Order.{Order}
-use Rattle.words.specs.declared.Order.the-variants.{Little, Big}
 use Rattle.words.proofs.Runs.{part-pasted, more-written, all-written, length-pasted}
-use Rattle.walk.specs.Walk.{Kind, Padding, laid, Event, piece, row, render, cleared, Walk, give, refuse, check, number, read, skip, list, _>>=_, _>>_, require, reserve}
+use Rattle.walk.specs.Walk.{Padding, laid, Event, row, Walk, give, refuse, check, number, read, skip, list, _>>=_, _>>_, require, reserve}
 use Rattle.walk.specs.See.{goes, see, Goes, Stays, numbered}
 use Rattle.walk.specs.Trace.{trace, written}
-use Rattle.walk.proofs.Seen.{went, passes, stays-weaken, stays-goes, see-body, and-left, and-right, body-length}
-use Rattle.walk.proofs.Tracing.{trace-bind, trace-give, written-append}
-use Rattle.rules.specs.Rules.{Head, head, coded, admit, span, zeros, padding, series, Basic, Channel, sampleBytes, numberList, samples, Frame, frame, frameBody, Frames, frames, framesBody, padOk, Next, next}
+use Rattle.walk.proofs.Laid.{laid-padding}
+use Rattle.walk.proofs.Seen.{went, when-then, stays-weaken, stays-goes, see-body, and-left}
+use Rattle.walk.proofs.Tracing.{trace-bind, trace-give, written-append, written-none, written-row, written-piece}
+use Rattle.walk.proofs.Went.{gate-went, went-first, goes-same}
+use Rattle.rules.specs.Rules.{Head, head, coded, admit, span, zeros, padding, series, Basic, Channel, sampleBytes, numberList, samples, Frame, frame, frameBody, Frames, frames, framesBody, padOk}
 use Rattle.rules.specs.declared.Head as At
-use Rattle.rules.proofs.Room.{Rests, stays-series, stays-frame, stays-frameBody, stays-framesBody, stays-framesRest}
+use Rattle.rules.proofs.Room.{stays-series, stays-frame, stays-frameBody, stays-framesBody}
 use Rattle.records.specs.Says.{headOf}
+use Rattle.records.proofs.Facts.{between-in, both-false}
 use Rattle.records.proofs.Steps.{ends-samples}
-use Rattle.judge.proofs.FramesBody.{between-most, size-fits, body-fills}
-use Rattle.table.specs.Rows.{Marks}
-use Rattle.table.proofs.Lists.{gate-went, went-first, admit-went, require-went, goes-same}
-use Rattle.copies.specs.Copy.{copy, filling, Pastes, RecordCopied}
+use Rattle.judge.proofs.FramesBody.{size-fits}
+use Rattle.table.proofs.Lists.{admit-went, require-went}
+use Rattle.copies.specs.Copy.{copy, filling}
 use Rattle.copies.specs.declared.Way.{Way}
-use Rattle.copies.proofs.Copying.{copy-part, copy-body, length-copy, pastes-join}
+use Rattle.copies.proofs.Copying.{copy-part, copy-body, length-copy}
+use Rattle.copies.proofs.Onward.{copy-admit}
 
 -- bytes written front to back: the first of them, and a part behind what stands
 pub filled-first : (d₀ ys : List ℕ) (m : ℕ) → length ys ≡ m → ys ++ drop m d₀ ≡ pasted d₀ 0 ys
@@ -47,29 +49,8 @@ filled-last d₀ d xs ys at e h l =
     let m : length d ≡ length d₀ = ap length e ∙ length-pasted d₀ 0 xs (omega arith) in
     all-written d₀ _ (xs ++ ys) (filled-more d₀ d xs ys at (length d - at) e h (omega arith)) (omega (arith, length-append xs ys))
 
--- what is written of single events
-pub written-row : (keep : Bool) (o : Order) (p l c m : ℕ) (t : List Event) → written keep o (row p l c m ∷ t) ≡ written keep o t
-unfolding render cleared
-written-row true o p l c m t = refl
-written-row false o p l c m t = refl
-
-pub written-piece : (keep : Bool) (o : Order) (k : Kind) (bs : List ℕ) (t : List Event) → written keep o (piece k bs ∷ t) ≡ laid o k bs ++ written keep o t
-unfolding render cleared
-written-piece true o k bs t = refl
-written-piece false o k bs t = refl
-
-pub written-none : (keep : Bool) (o : Order) → written keep o [] ≡ []
-unfolding render cleared
-written-none true o = refl
-written-none false o = refl
-
 written-four : (keep : Bool) (o : Order) (t u v x : List Event) → written keep o (t ++ (u ++ (v ++ x))) ≡ written keep o t ++ (written keep o u ++ (written keep o v ++ written keep o x))
 written-four keep o t u v x = written-append keep o t (u ++ (v ++ x)) ∙ rw (written-append keep o u (v ++ x), written-append keep o v x)
-
-pub laid-padding : (o : Order) (bs : List ℕ) → laid o Padding bs ≡ bs
-unfolding laid
-laid-padding Little bs = refl
-laid-padding Big bs = refl
 
 trace-zeros : {A : Type 0} (o : Order) (b : ℕ) (s : List ℕ) (at : ℕ) (bs : List ℕ) (k : Unit {0} → Walk A) → trace o b s at (zeros bs >>= k) ≡ trace o b s at (k tt)
 unfolding zeros trace _>>=_
@@ -77,14 +58,10 @@ trace-zeros o b s at [] k = refl
 trace-zeros o b s at (x ∷ bs) k = trace-zeros o b s at bs k
 
 module _ {A : Type 0} (w : Way) (b : ℕ) (s : List ℕ) (at : ℕ) where
-  -- a test writes nothing, nor does a row
+  -- a test writes nothing
   pub copy-require : (c : Bool) (n p : ℕ) (v : Walk A) → copy w b s at (require c n p >> v) ≡ copy w b s at v
   unfolding trace _>>=_ _>>_
   copy-require c n p v = refl
-
-  pub copy-admit : (room most : ℕ) (fits serial : ℕ → Bool) (h : Head) (v : Walk A) → copy w b s at (admit room most fits serial h >> v) ≡ copy w b s at v
-  unfolding admit trace _>>=_ _>>_
-  copy-admit room most fits serial h v = written-row (w .keep) (w .to) _ _ _ _ (trace (w .from) b s at v)
 
   -- padding stands as it is
   pub copy-padding : (n : ℕ) (a : A) → copy w b s at (padding n >> give a) ≡ bytesAt n s (at - b)
@@ -102,11 +79,6 @@ module _ {A : Type 0} (w : Way) (b : ℕ) (s : List ℕ) (at : ℕ) where
       written-append (w .keep) (w .to) (trace (w .from) b s at (numberList 4 4)) (row _ _ _ _ ∷ trace (w .from) b s (at + 4 + 4 + 4 + 4) body)
       ∙ ap (λ (l : List ℕ). written (w .keep) (w .to) (trace (w .from) b s at (numberList 4 4)) ++ l) (written-row (w .keep) (w .to) _ _ _ _ (trace (w .from) b s (at + 4 + 4 + 4 + 4) body))
       ∙ rw z
-
--- what is said under a test
-when-then : (c : Bool) {X Y : Type 0} → (X → Y) → when c X → when c Y
-when-then true f x = f x
-when-then false f x = x
 
 -- the first of two walks stays where both do
 stays-first : {A B : Type 0} (v : Walk A) (k : A → Walk B) (L at : ℕ) (Q : B → ℕ → Type 0) → Stays L at (v >>= k) Q → Stays L at v (λ _ _. Unit {0})
@@ -260,7 +232,7 @@ module _ (w : Way) (b : ℕ) (s : List ℕ) (c : Basic) (cs : List Channel) (h :
       let i : x .end - b ≡ 16 + size * n = omega (arith, d, j) in
       let u : span h - (32 + n * size) ≡ length s - (16 + size * n) = omega (arith, j) in
       record {
-        short = between-most 1 3600 t (g₁ .0);
+        short = between-in 1 3600 t (g₁ .0) .1;
         long = m;
         fits = omega (arith, q, j);
         value = x .value;
@@ -278,6 +250,15 @@ module _ (w : Way) (b : ℕ) (s : List ℕ) (c : Basic) (cs : List Channel) (h :
       let z₂ : b + 4 - b ≡ 4 = omega arith in
       let z₃ : b + 4 + 4 - b ≡ 8 = omega arith in
       rw (z₁, z₂, z₃, e₁, e₂, e₃) at framed-as-read
+
+  -- as many bytes are written of it
+  pub framed-length : 16 ≤ length s → length (copy w b s b (framesBody c cs h)) ≡ length s
+  framed-length l =
+      let L : ℕ = b + (span h - 16) in
+      let r = stays-framesBody c cs h b (omega arith) in
+      let i : e ≡ L = stays-goes (w .from) b s L (omega arith) (framesBody c cs h) b _ (omega arith) r g in
+      let j = length-copy w b s L (omega arith) (framesBody c cs h) b _ (omega arith) r g in
+      omega (arith, i, j)
 
 -- the three numbers of a 140, and the reserve behind them
 read-numbers : (w : Way) (b : ℕ) (s : List ℕ) → 12 ≤ length s → (copy w b (take 12 s) b (numberList 4 3) ≡ copy w b s b (numberList 4 3)) × (length (copy w b s b (numberList 4 3)) ≡ 12)
@@ -302,6 +283,10 @@ pub record Framing (w : Way) (b : ℕ) (s d : List ℕ) (cs : List Channel) (t s
   pub rest : all ≡ done ++ (copy w b s (b + at) (series (n - i) (i + 1) size (length s - at) (frame size t cs)) ++ bytesAt (length s - (16 + size * n)) s (16 + size * n))
 
 module _ {w : Way} {b : ℕ} {s : List ℕ} {cs : List Channel} {t size n : ℕ} {all : List ℕ} where
+  -- the code's test r of the three numbers passes
+  pub framed-fits : Framed w b s cs t size n all → (bytes : ℕ) (r : Bool) → bytes ≡ sampleBytes t cs → r ≡ leb (24 + bytes) size && leb (16 + size * n) (length s) → r ≡ false → ⊥
+  framed-fits x bytes r i j u = both-false (24 + bytes) size (16 + size * n) (length s) r j u (rw i (x .long)) (x .fits)
+
   pub framing-start : Framed w b s cs t size n all → (d₀ d₁ ys₁ ys₂ : List ℕ) → length d₀ ≡ length s → ys₁ ≡ copy w b (take 12 s) b (numberList 4 3) → d₁ ≡ ys₁ ++ drop 12 d₀ → ys₂ ≡ copy w (b + 12) (take 4 (drop 12 s)) (b + 12) (reserve (length (take 4 (drop 12 s)))) →
       Framing w b s (take 12 d₁ ++ (ys₂ ++ drop 4 (drop 12 d₁))) cs t size n all 16 0
   framing-start x d₀ d₁ ys₁ ys₂ l₀ f₁ p₁ f₂ =
@@ -363,31 +348,6 @@ module _ {w : Way} {b : ℕ} {s : List ℕ} {cs : List Channel} {t size n : ℕ}
         let k : length ys ≡ length s - at = ap length q ∙ length-take-le (length s - at) (drop at s) (rw length-drop (omega arith)) in
         filled-last (x .under) d (x .done) ys at (x .wrote) (x .place) (omega (arith, k, x .same)) ∙ sym (x .rest ∙ rw (a, written-none, ← e, q))
 
--- a part of a buffer that a call wrote
-pub pastes-part : (out ys : List ℕ) (k k′ m : ℕ) → length ys ≡ m → k′ ≡ k + m → Pastes out (take k out ++ (ys ++ drop m (drop k out))) k k′ ys
-pastes-part out ys k k′ m l e h = (omega arith, part-pasted out ys k m l)
-
--- a record, and the makers' records behind it
-module _ {A : Type 0} (w : Way) (base : ℕ) (s : List ℕ) (h : At.Head) (body : ℕ → Head → Walk A) (rests : Rests body) (fit : h .at ≤ length s) (q : ℕ) (stop : q ≡ h .at + span (headOf h)) where
-  abbrev rest : Walk A
-  rest = body (length s - h .at) (headOf h)
-
-  rest-ends : {a : A} {e : ℕ} → see (w .from) base s (base + (h .at + 16)) rest ≡ goes a e → (e ≡ base + q) × (q ≤ length s) × (16 ≤ span (headOf h)) × (base + (h .at + 16) + length (copy w base s (base + (h .at + 16)) rest) ≡ e)
-  rest-ends g =
-      let r = rests (length s - h .at) (headOf h) (base + length s) (base + (h .at + 16)) (omega arith) in
-      let z : (16 ≤ span (headOf h)) × (span (headOf h) ≤ length s - h .at) × _ = stays-goes (w .from) base s (base + length s) (omega arith) rest (base + (h .at + 16)) _ (omega arith) r g in
-      (omega (arith, z .2), omega (arith, z .1), z .0, length-copy w base s (base + length s) (omega arith) rest (base + (h .at + 16)) _ (omega arith) r g)
-
-  module _ (out out₁ out₂ : List ℕ) (k k₁ k₂ : ℕ) (r : At.Head)
-      (writes : (a : A) (e : ℕ) → see (w .from) base s (base + (h .at + 16)) rest ≡ goes a e → Pastes out out₁ k k₁ (copy w base s (base + (h .at + 16)) rest))
-      (makers : (fuel : ℕ) (n : Next) (e : ℕ) → length s < q + fuel → see (w .from) base s (base + q) (next fuel (length s - q)) ≡ goes n e → Marks (w .from) base s r n e × Pastes out₁ out₂ k₁ k₂ (copy w base s (base + q) (next fuel (length s - q)))) where
-    pub record-copied : RecordCopied w base s h body out out₂ k k₂ r
-    record-copied fuel a e₁ d e₂ f g₁ g₂ =
-        let z = rest-ends g₁ in
-        let j : length s - h .at - span (headOf h) ≡ length s - q = omega arith in
-        let m = makers fuel d e₂ (omega arith) (rw (z .0, j) at g₂) in
-        (m .0, rw (z .0, j) (pastes-join out out₁ out₂ k k₁ k₂ (copy w base s (base + (h .at + 16)) rest) (copy w base s (base + q) (next fuel (length s - q))) (writes a e₁ g₁) (m .1)))
-
 -- a 140 with the code's head h, which stops at q: its body is a part of s
 module _ (w : Way) (base : ℕ) (s : List ℕ) (h : At.Head) (q : ℕ) (stop : q ≡ h .at + span (headOf h)) (inside : q ≤ length s) (least : 32 ≤ span (headOf h)) (c : Basic) (own : Bool) (cs : List Channel) (back : ℕ) where
   abbrev body : List ℕ
@@ -408,39 +368,3 @@ module _ (w : Way) (base : ℕ) (s : List ℕ) (h : At.Head) (q : ℕ) (stop : q
         see-body o base (h .at) q s v _ (omega arith) inside r ∙ t .1,
         copy-body w base (h .at) q s v _ (omega arith) inside r (t .1) ∙ sym (copy-admit w base s at (length s - h .at) 128 (leb 32) (eqb 0) (headOf h) (require (own || eqb (length cs) (c .channels)) 14 back >> v) ∙ copy-require w base s at (own || eqb (length cs) (c .channels)) 14 back v),
       )
-
-  module _ (t size n : ℕ) (e₁ : t ≡ numberAt (w .from) 4 body 0) (e₂ : size ≡ numberAt (w .from) 4 body 4) (e₃ : n ≡ numberAt (w .from) 4 body 8) {f : Frames} {e : ℕ} (g : see (w .from) base s (base + (h .at + 16)) (frames c own cs back (length s - h .at) (headOf h)) ≡ goes f e) where
-    pub frames-told : Framed w (base + h .at + 16) body cs t size n (copy w (base + h .at + 16) body (base + h .at + 16) (framesBody c cs (headOf h)))
-    frames-told = framed w (base + h .at + 16) body c cs (headOf h) (body-fills (h .at) q s (headOf h) stop least inside) (frames-in g .0) t size n (sym e₁) (sym e₂) (sym e₃)
-
-    -- so the code's test r of these numbers passes
-    pub frames-fit : (bytes : ℕ) (r : Bool) → bytes ≡ sampleBytes t cs → r ≡ leb (24 + bytes) size && leb (16 + size * n) (length body) → r ≡ false → ⊥
-    frames-fit bytes r i j u =
-        let x = frames-told in
-        let y : leb (24 + bytes) size && leb (16 + size * n) (length body) ≡ true = rw (i, le-leb _ _ (x .long), le-leb _ _ (x .fits)) in
-        let z : _≡_ {A = ℕ} 0 1 = cc in
-        omega arith
-
-  -- what the code wrote of it: nothing, for want of room, or its body
-  module _ (fit : h .at ≤ length s) (out : List ℕ) (k : ℕ) {f : Frames} {e : ℕ} (g : see (w .from) base s (base + (h .at + 16)) (frames c own cs back (length s - h .at) (headOf h)) ≡ goes f e) where
-    abbrev all : List ℕ
-    all = copy w base s (base + (h .at + 16)) (frames c own cs back (length s - h .at) (headOf h))
-
-    length-all : length all ≡ length body
-    length-all =
-        let z = rest-ends w base s h (frames c own cs back) (stays-framesRest c own cs back) fit q stop g in
-        omega (arith, z .0, z .3, body-length (h .at) q s (omega arith) inside)
-
-    pub frames-unwritten : length out - k < length body → Pastes out out k k all
-    frames-unwritten l r = absurd (omega (arith, length-all))
-
-    pub frames-written : (ys : List ℕ) (k′ m : ℕ) → m ≡ length body → k′ ≡ k + length body → ys ≡ copy w (base + h .at + 16) body (base + h .at + 16) (framesBody c cs (headOf h)) → Pastes out (take k out ++ (ys ++ drop m (drop k out))) k k′ all
-    frames-written ys k′ m l i y =
-        let x : ys ≡ all = y ∙ frames-in g .1 in
-        rw (← x) (pastes-part out ys k k′ m (ap length x ∙ (length-all ∙ sym l)) (omega arith))
-
--- what such a test says where it holds
-pub both-true : (a b c d : ℕ) (r : Bool) → r ≡ leb a b && leb c d → r ≡ true → (a ≤ b) × (c ≤ d)
-both-true a b c d r i j =
-    let t : leb a b && leb c d ≡ true = sym i ∙ j in
-    (leb-true a b (and-left (leb a b) (leb c d) t), leb-true c d (and-right (leb a b) (leb c d) t))

@@ -1,16 +1,16 @@
 // Record 140 and its frames, turned into a part of the same length.
 ghost use mathlib.Core.Path.{_≡_};
-ghost use mathlib.Core.Bool.{Bool, _&&_};
+ghost use mathlib.Core.Bool.{Bool};
 ghost use mathlib.Core.List.{List};
 ghost use Prim.Native.Nat.{ℕ, _+_, _-_, _*_, _≤_, _<_};
-ghost use lib.Dec.{leb};
 ghost use lib.ListN.{length};
 ghost use Rattle.words.specs.Numbers.{numberAt};
 ghost use Rattle.walk.specs.See.{see, goes};
 ghost use Rattle.rules.specs.Rules as R;
 ghost use Rattle.records.specs.Says.{Kept};
-ghost use Rattle.copies.specs.Copy.{copy, RecordCopied};
+ghost use Rattle.copies.specs.Copy.{copy, Pastes, RecordCopied};
 use copies::Way;
+use copies::bodies::fits;
 use copies::bodies::frame_body;
 use copies::runs::numbers;
 use copies::runs::reserved;
@@ -52,31 +52,52 @@ fn frames_body(
     ensures { λ _. ⌜ ((b : ℕ) (c : R.Basic) (ch : List R.Channel) (hd : R.Head) (f : R.Frames) (e : ℕ) → length ch ≡ cs .count → Kept (w .from) (now (file .entry)) (cs .subs) ch → filled ≡ 24 + R.sampleBytes t ch → numberAt (w .from) 4 (now (s .entry)) 0 ≡ t → numberAt (w .from) 4 (now (s .entry)) 4 ≡ size → numberAt (w .from) 4 (now (s .entry)) 8 ≡ count → R.span hd ≡ 16 + length (now (s .entry)) → see (w .from) b (now (s .entry)) b (R.framesBody c ch hd) ≡ goes f e → now (d .exit) ≡ copy w b (now (s .entry)) b (R.framesBody c ch hd)) ⌝ }
 {
     let reserve = Frames::BODY_RESERVE;
-    let mut at = Frames::BODY_FIRST;
+    let mut from = Frames::BODY_FIRST;
+    let mut k = Frames::BODY_FIRST;
     numbers(w, 4, 3, &s[..reserve], &mut d[..reserve]);
-    reserved(w, &s[reserve..at], &mut d[reserve..at]);
+    reserved(w, &s[reserve..from], &mut d[reserve..k]);
     let mut i: u32 = 0;
     while i < count {
-        let end = at + size;
-        frame(w, file, cs, t, filled, &s[at..end], &mut d[at..end]);
-        at = end;
+        let end = k + size;
+        frame(
+            w,
+            file,
+            cs,
+            t,
+            filled,
+            &s[from..from + size],
+            &mut d[k..end],
+        );
+        from += size;
+        k = end;
         i += 1;
     }
-    copy_run(&s[at..], &mut d[at..]);
+    copy_run(&s[from..], &mut d[k..]);
 }
 
-// So many frames of this size, each with so many bytes of samples, have room in a body of so many bytes.
-fn fits(bytes: usize, size: usize, count: u32, length: usize) -> bool
-    requires { ⌜ size < 4294967296 ⌝ }
-    ensures { λ r. ⌜ r ≡ leb (24 + bytes) size && leb (16 + size * count) length ⌝ }
+// The body s of a 140, with the records 125 that hold for it, if there is room for it.
+fn body_if_room(w: Way, file: &[u8], cs: Channels, s: &[u8], out: &mut [u8], k: usize) -> usize
+    requires { ⌜ (cs .subs + 256 * cs .count ≤ length (now file)) × (cs .count ≤ 128) × (16 ≤ length (now s)) × (k ≤ length (now out)) ⌝ }
+    ensures { λ r. ⌜ (r ≤ length (now (out .entry))) × ((b : ℕ) (c : R.Basic) (ch : List R.Channel) (hd : R.Head) (f : R.Frames) (e : ℕ) → length ch ≡ cs .count → Kept (w .from) (now (file .entry)) (cs .subs) ch → R.span hd ≡ 16 + length (now (s .entry)) → see (w .from) b (now (s .entry)) b (R.framesBody c ch hd) ≡ goes f e → Pastes (now (out .entry)) (now (out .exit)) k r (copy w b (now (s .entry)) b (R.framesBody c ch hd))) ⌝ }
 {
-    if size < Frame::SAMPLES {
-        return false;
+    let o = w.from;
+    let t = records::field(o, s, Frames::SECONDS);
+    let size = records::field(o, s, Frames::FRAME_LENGTH) as usize;
+    let count = records::field(o, s, Frames::COUNT);
+    if 3600 < t {
+        return k;
     }
-    if size - Frame::SAMPLES < bytes {
-        return false;
+    let bytes = records::sample_bytes(o, file, cs.subs, cs.count, t);
+    if !fits(bytes, size, count, s.len()) {
+        return k;
     }
-    Frames::BODY_FIRST + size * count as usize <= length
+    if out.len() - k < s.len() {
+        return k;
+    }
+    let filled = Frame::SAMPLES + bytes;
+    let end = k + s.len();
+    frames_body(w, file, cs, t, filled, size, count, s, &mut out[k..end]);
+    end
 }
 
 // The rest of the 140 whose head is h, with the records 125 that hold for it, and what `next` writes behind it.
@@ -93,7 +114,6 @@ pub fn frames(
     requires { ⌜ (cs .subs + 256 * cs .count ≤ length (now file)) × (cs .count ≤ 128) × (h .at ≤ length (now s)) × (base + length (now s) < 9223372036854775808) × (k ≤ length (now out)) ⌝ }
     ensures { λ r. ⌜ (r .next .at ≤ length (now (s .entry))) × (r .k ≤ length (now (out .entry))) × ((c : R.Basic) (own : Bool) (ch : List R.Channel) (back : ℕ) → h .code ≡ 140 → length ch ≡ cs .count → Kept (w .from) (now (file .entry)) (cs .subs) ch → RecordCopied w base (now (s .entry)) h (R.frames c own ch back) (now (out .entry)) (now (out .exit)) k (r .k) (r .next)) ⌝ }
 {
-    let stop = Marked { next: h, k };
     let room = records::admit(
         h,
         base,
@@ -103,36 +123,9 @@ pub fn frames(
         Serial::Is(0),
     );
     let Step::On(end) = room else {
-        return stop;
+        return Marked { next: h, k };
     };
-    let o = w.from;
     let from = h.at + Head::LENGTH;
-    let body = &s[from..end];
-    let t = records::field(o, body, Frames::SECONDS);
-    let size = records::field(o, body, Frames::FRAME_LENGTH) as usize;
-    let count = records::field(o, body, Frames::COUNT);
-    if 3600 < t {
-        return stop;
-    }
-    let bytes = records::sample_bytes(o, file, cs.subs, cs.count, t);
-    if !fits(bytes, size, count, body.len()) {
-        return stop;
-    }
-    if out.len() - k < body.len() {
-        return next(w, s, base, end, out, k);
-    }
-    let filled = Frame::SAMPLES + bytes;
-    let behind = k + body.len();
-    frames_body(
-        w,
-        file,
-        cs,
-        t,
-        filled,
-        size,
-        count,
-        body,
-        &mut out[k..behind],
-    );
+    let behind = body_if_room(w, file, cs, &s[from..end], out, k);
     next(w, s, base, end, out, behind)
 }

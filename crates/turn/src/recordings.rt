@@ -1,12 +1,11 @@
 // The file header and the recordings, turned.
 ghost use mathlib.Core.Path.{_≡_};
-ghost use mathlib.Core.List.{List, [], _∷_, _++_};
+ghost use mathlib.Core.List.{List, _++_};
 ghost use mathlib.Core.Option.{Option, none};
 ghost use Prim.Native.Nat.{ℕ, _+_, _-_, _*_, _≤_, _<_};
 ghost use lib.ListN.{length};
 ghost use Rattle.words.specs.Numbers as N;
 ghost use Rattle.words.specs.Runs.{pasted};
-ghost use Rattle.walk.specs.Walk.{laid, Letter};
 ghost use Rattle.walk.specs.See.{see, goes};
 ghost use Rattle.rules.specs.Rules as R;
 ghost use Rattle.records.specs.Says.{Kept};
@@ -14,9 +13,10 @@ ghost use Rattle.judge.specs.Tabled.{Room, Stand};
 ghost use Rattle.copies.specs.Copy.{copy, Holds};
 ghost use Rattle.turn.specs.Turn.{turning};
 use copies::Way;
+use copies::runs::letter;
 use copies::tables;
 use judge::recording::Recorded;
-use judge::recording::recording_at;
+use judge::recording::recording_again;
 use judge::tables::Before;
 use judge::tables::Places;
 use rules::Channels;
@@ -32,16 +32,6 @@ fn other(o: Order) -> Order
     match o {
         Order::Little => Order::Big,
         Order::Big => Order::Little,
-    }
-}
-
-// The letter of an order.
-fn letter(o: Order) -> u8
-    ensures { λ r. ⌜ laid o Letter (76 ∷ []) ≡ r ∷ [] ⌝ }
-{
-    match o {
-        Order::Little => 76,
-        Order::Big => 66,
     }
 }
 
@@ -102,7 +92,7 @@ pub fn file_turned(o: Order, file: &[u8], count: u32, out: &mut [u8])
     let mut before = Before::Nothing;
     let mut i: u32 = 0;
     while i < count {
-        let step = recording_at(o, file, p, i + 1, before);
+        let step = recording_again(o, file, p, before);
         let Recorded::On(q) = step else {
             return;
         };

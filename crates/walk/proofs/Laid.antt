@@ -55,3 +55,14 @@ length-laid Little k s = refl
 length-laid Big Letter s = length-map s swap
 length-laid Big Text s = refl
 length-laid Big Padding s = refl
+
+-- a text and padding stand as they are
+pub laid-text : (o : Order) (s : List ℕ) → laid o Text s ≡ s
+unfolding laid
+laid-text Little s = refl
+laid-text Big s = refl
+
+pub laid-padding : (o : Order) (s : List ℕ) → laid o Padding s ≡ s
+unfolding laid
+laid-padding Little s = refl
+laid-padding Big s = refl

@@ -1,5 +1,6 @@
 pub mod Laid
 pub mod Laws
 pub mod Seen
+pub mod Went
 pub mod Told
 pub mod Tracing

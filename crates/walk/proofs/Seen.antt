@@ -193,7 +193,7 @@ when-true : (c : Bool) (X : Type 0) → when c X → c ≡ true
 when-true true X x = refl
 when-true false X x = absurd x
 
-when-then : (c : Bool) {X Y : Type 0} → (X → Y) → when c X → when c Y
+pub when-then : (c : Bool) {X Y : Type 0} → (X → Y) → when c X → when c Y
 when-then true f x = f x
 when-then false f x = x
 

@@ -13,7 +13,7 @@ use Rattle.words.specs.Numbers.{bytesAt, numberAt, bytesIn}
 use Rattle.words.specs.declared.Order.{Order}
 use Rattle.walk.specs.See.{goes, gate, see, Stays, numbered}
 use Rattle.walk.specs.Trace.{trace, written}
-use Rattle.walk.specs.Walk.{laid, Event, numeral, piece, blank, row, render, cleared, size, Walk, give, refuse, check, number, read, skip, list, Outcome, refused, passed, _>>_, logged, run, _>>=_}
+use Rattle.walk.specs.Walk.{Kind, laid, Event, numeral, piece, blank, row, render, cleared, size, Walk, give, refuse, check, number, read, skip, list, passed, _>>_, run, _>>=_}
 use Rattle.walk.proofs.Laws.{run-read, run-number, length-render, size-cleared}
 use Rattle.walk.proofs.Seen.{passes, part-bytes, length-bytesAt}
 use Rattle.walk.proofs.Told.{by-logged}
@@ -141,6 +141,22 @@ cleared-append (row p l c s ∷ t) u = ap (λ (x : List Event). row p l c s ∷ 
 pub written-append : (keep : Bool) (o : Order) (t u : List Event) → written keep o (t ++ u) ≡ written keep o t ++ written keep o u
 written-append true o t u = render-append o t u
 written-append false o t u = rw (cleared-append t u) (render-append o (cleared t) (cleared u))
+
+-- what is written of single events
+pub written-none : (keep : Bool) (o : Order) → written keep o [] ≡ []
+unfolding render cleared
+written-none true o = refl
+written-none false o = refl
+
+pub written-row : (keep : Bool) (o : Order) (p l c m : ℕ) (t : List Event) → written keep o (row p l c m ∷ t) ≡ written keep o t
+unfolding render cleared
+written-row true o p l c m t = refl
+written-row false o p l c m t = refl
+
+pub written-piece : (keep : Bool) (o : Order) (k : Kind) (bs : List ℕ) (t : List Event) → written keep o (piece k bs ∷ t) ≡ laid o k bs ++ written keep o t
+unfolding render cleared
+written-piece true o k bs t = refl
+written-piece false o k bs t = refl
 
 pub length-written : (keep : Bool) (o : Order) (t : List Event) → length (written keep o t) ≡ size t
 length-written true o t = length-render o t

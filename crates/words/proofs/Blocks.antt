@@ -29,7 +29,7 @@ pub next-store : (n : ℕ) (d vs : List ℕ) → length d ≡ n → length vs < 
 next-store n d vs e h = omega (arith, length-sets d 0 vs)
 
 -- stores of a whole block leave nothing of what was there
-stored : (d vs : List ℕ) → length d ≡ length vs → sets d 0 vs ≡ vs
+pub stored : (d vs : List ℕ) → length d ≡ length vs → sets d 0 vs ≡ vs
 stored d vs h = sets-eq vs d 0 (omega arith) ∙ rw (zero-add, drop-of-length-le d {i = length vs} (omega arith)) (append-nil vs)
 
 length-picked : (ks s : List ℕ) → length (picked ks s) ≡ length ks

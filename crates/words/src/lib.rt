@@ -164,10 +164,10 @@ fn one_of_2(s: &[u8], d: &mut [u8])
     d[1] = b0;
 }
 
-// Four numbers of two bytes, turned: all loads, then all stores, which the compiler makes one load and one store.
-fn four_of_2(s: &[u8], d: &mut [u8])
-    requires { ⌜ (length (now s) ≡ 8) × (length (now d) ≡ 8) ⌝ }
-    ensures { λ _. ⌜ now (d .exit) ≡ turned 2 4 (now (s .entry)) ⌝ }
+// Eight numbers of two bytes, turned: all loads, then all stores, which the compiler makes one load and one store.
+fn eight_of_2(s: &[u8], d: &mut [u8])
+    requires { ⌜ (length (now s) ≡ 16) × (length (now d) ≡ 16) ⌝ }
+    ensures { λ _. ⌜ now (d .exit) ≡ turned 2 8 (now (s .entry)) ⌝ }
 {
     let b0 = s[0];
     let b1 = s[1];
@@ -177,6 +177,14 @@ fn four_of_2(s: &[u8], d: &mut [u8])
     let b5 = s[5];
     let b6 = s[6];
     let b7 = s[7];
+    let b8 = s[8];
+    let b9 = s[9];
+    let b10 = s[10];
+    let b11 = s[11];
+    let b12 = s[12];
+    let b13 = s[13];
+    let b14 = s[14];
+    let b15 = s[15];
     d[0] = b1;
     d[1] = b0;
     d[2] = b3;
@@ -185,6 +193,14 @@ fn four_of_2(s: &[u8], d: &mut [u8])
     d[5] = b4;
     d[6] = b7;
     d[7] = b6;
+    d[8] = b9;
+    d[9] = b8;
+    d[10] = b11;
+    d[11] = b10;
+    d[12] = b13;
+    d[13] = b12;
+    d[14] = b15;
+    d[15] = b14;
 }
 
 // One number of three bytes, turned.
@@ -215,10 +231,10 @@ fn one_of_4(s: &[u8], d: &mut [u8])
     d[3] = b0;
 }
 
-// Two numbers of four bytes, turned, in the form of `four_of_2`.
-fn two_of_4(s: &[u8], d: &mut [u8])
-    requires { ⌜ (length (now s) ≡ 8) × (length (now d) ≡ 8) ⌝ }
-    ensures { λ _. ⌜ now (d .exit) ≡ turned 4 2 (now (s .entry)) ⌝ }
+// Four numbers of four bytes, turned, in the form of `eight_of_2`.
+fn four_of_4(s: &[u8], d: &mut [u8])
+    requires { ⌜ (length (now s) ≡ 16) × (length (now d) ≡ 16) ⌝ }
+    ensures { λ _. ⌜ now (d .exit) ≡ turned 4 4 (now (s .entry)) ⌝ }
 {
     let b0 = s[0];
     let b1 = s[1];
@@ -228,6 +244,14 @@ fn two_of_4(s: &[u8], d: &mut [u8])
     let b5 = s[5];
     let b6 = s[6];
     let b7 = s[7];
+    let b8 = s[8];
+    let b9 = s[9];
+    let b10 = s[10];
+    let b11 = s[11];
+    let b12 = s[12];
+    let b13 = s[13];
+    let b14 = s[14];
+    let b15 = s[15];
     d[0] = b3;
     d[1] = b2;
     d[2] = b1;
@@ -236,9 +260,17 @@ fn two_of_4(s: &[u8], d: &mut [u8])
     d[5] = b6;
     d[6] = b5;
     d[7] = b4;
+    d[8] = b11;
+    d[9] = b10;
+    d[10] = b9;
+    d[11] = b8;
+    d[12] = b15;
+    d[13] = b14;
+    d[14] = b13;
+    d[15] = b12;
 }
 
-// The numbers of two bytes that are left after the blocks of four.
+// The numbers of two bytes that are left after the blocks of eight.
 fn rest_of_2(src: &[u8], dst: &mut [u8], n: usize)
     requires { ⌜ (length (now src) ≡ n * 2) × (length (now dst) ≡ n * 2) ⌝ }
     ensures { λ _. ⌜ now (dst .exit) ≡ turned 2 n (now (src .entry)) ⌝ }
@@ -253,6 +285,21 @@ fn rest_of_2(src: &[u8], dst: &mut [u8], n: usize)
     }
 }
 
+// The numbers of four bytes that are left after the blocks of four.
+fn rest_of_4(src: &[u8], dst: &mut [u8], n: usize)
+    requires { ⌜ (length (now src) ≡ n * 4) × (length (now dst) ≡ n * 4) ⌝ }
+    ensures { λ _. ⌜ now (dst .exit) ≡ turned 4 n (now (src .entry)) ⌝ }
+{
+    let mut i = 0;
+    let mut at = 0;
+    while i < n {
+        let end = at + 4;
+        one_of_4(&src[at..end], &mut dst[at..end]);
+        at = end;
+        i += 1;
+    }
+}
+
 // A run of n numbers of two bytes, turned.
 pub fn turn2(src: &[u8], dst: &mut [u8], n: usize)
     requires { ⌜ (length (now src) ≡ n * 2) × (length (now dst) ≡ n * 2) ⌝ }
@@ -260,11 +307,11 @@ pub fn turn2(src: &[u8], dst: &mut [u8], n: usize)
 {
     let mut i = 0;
     let mut at = 0;
-    while n - i >= 4 {
-        let end = at + 8;
-        four_of_2(&src[at..end], &mut dst[at..end]);
+    while n - i >= 8 {
+        let end = at + 16;
+        eight_of_2(&src[at..end], &mut dst[at..end]);
         at = end;
-        i += 4;
+        i += 8;
     }
     rest_of_2(&src[at..], &mut dst[at..], n - i);
 }
@@ -291,15 +338,13 @@ pub fn turn4(src: &[u8], dst: &mut [u8], n: usize)
 {
     let mut i = 0;
     let mut at = 0;
-    while n - i >= 2 {
-        let end = at + 8;
-        two_of_4(&src[at..end], &mut dst[at..end]);
+    while n - i >= 4 {
+        let end = at + 16;
+        four_of_4(&src[at..end], &mut dst[at..end]);
         at = end;
-        i += 2;
+        i += 4;
     }
-    if i < n {
-        one_of_4(&src[at..], &mut dst[at..]);
-    }
+    rest_of_4(&src[at..], &mut dst[at..], n - i);
 }
 
 // A run of n numbers of a width, turned.

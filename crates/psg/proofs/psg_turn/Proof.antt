@@ -6,13 +6,8 @@ use Rattle.psg.proofs.psg_turn.Tie as tie
 
 returns : tie.Need-returns
 returns c =
-    let t = c .before .before .before .before .before .before .turn .ensures in
-    (rw (c .answered .ensures, ← t .0, c .before .before .turned .given .1), t .1)
-
-returns-2 : tie.Need-returns-2
-returns-2 c =
-    let t = c .before .before .before .before .before .before .turn .ensures in
-    (rw (c .refused .ensures, ← t .0, c .before .before .turned2 .given .1), t .1)
+    let t = c .before .before .before .turn .ensures in
+    (rw (c .written-of .ensures, t .0), t .1)
 
 pub psg-turn-spec : {M : Type 1} → statement M
-psg-turn-spec = tie.close (tie.spec (λ c κs. search needs) (λ c. search needs) (λ c κs. search needs) (λ c. search needs) (λ c κs. search needs) (λ c. search needs) returns (λ c. search needs) returns-2)
+psg-turn-spec = tie.close (tie.spec (λ c κs. search needs) (λ c κs. search needs) (λ c. search needs) returns)

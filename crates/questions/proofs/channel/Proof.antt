@@ -9,8 +9,8 @@ use borrow.Author.Tests.{not-true, not-false}
 use denote.Ref.{now}
 use lib.ListN.{length}
 use Rattle.rules.specs.Rules as R
+use Rattle.records.proofs.Facts.{between-in}
 use Rattle.judge.specs.Tabled.{Room}
-use Rattle.questions.proofs.Chosen.{between-in}
 use Rattle.questions.proofs.Replies.{channel-refused, channel-outside, channel-told}
 use Rattle.questions.proofs.channel.Statement.{statement}
 use Rattle.questions.proofs.channel.Tie as tie

@@ -1,9 +1,14 @@
--- `turn::turn` meets its contract: what `judge` says of the file, what the search for a maker's record found, and what `file_turned` wrote, by the laws of Answers.
+-- `turn::turn` meets its contract: what `judge` says of the file, what the search for a maker's record found, the leave to write, and what `file_turned` wrote, by the laws of Answers.
 -- x: behind the judge's answer. Assumes nothing.
+use mathlib.Core.Path.{_≡_, sym, ap, _∙_}
 use denote.Ref.{now}
 use borrow.Author.Needs.{needs}
+use lib.ListN.{length}
 use Rattle.table.proofs.Answers.{accepted-long}
-use Rattle.turn.proofs.Answers.{turns-refused, went, opens, turns-made, turns-short, turns-room}
+use Rattle.makers.specs.Makers.{found}
+use Rattle.permit.specs.Permit.{meaning}
+use Rattle.permit.proofs.Settled.{permit-room}
+use Rattle.turn.proofs.Answers.{turns-refused, went, opens, turns-stopped, turns-room}
 use Rattle.turn.proofs.turn.Statement.{statement}
 use Rattle.turn.proofs.turn.Tie as tie
 
@@ -23,28 +28,24 @@ returns-2 c =
     let x = c .before .before .before .before .before in
     let z = x .before .before .before .before .before in
     let j = rw (x .judged .given .1) at (x .before .before .judge .ensures) in
-    simp (c .of-found .ensures, c .before .enum-told3 .given .1)
-    (turns-made (now (z .args .file)) _ j (now (z .args .out)) (rw (c .before .enum-told3 .given .1) at (c .before .before .before .first-maker .ensures _ _ (went (now (z .args .file)) _ j))))
-
-returns-3 : tie.Need-returns-3
-returns-3 c =
-    let x = c .before .before .before .before .before in
-    let z = x .before .before .before .before .before in
-    let j = rw (x .judged .given .1) at (x .before .before .judge .ensures) in
-    turns-short (now (z .args .file)) _ j (now (z .args .out)) (rw (c .before .enum-told2 .given .1) at (c .before .before .before .first-maker .ensures _ _ (went (now (z .args .file)) _ j))) (c .if1 .taken)
+    let p = c .before .before .permit in
+    turns-stopped (now (z .args .file)) _ j (now (z .args .out)) (c .before .before .before .first-maker .ensures _ _ (went (now (z .args .file)) _ j)) (p .result) (p .ensures) (ap meaning (c .enum-told3 .given .1))
 
 file-turned-requires : tie.Need-file-turned-requires
 file-turned-requires c κs =
     let x = c .before .before .before .before .before .before in
+    let z = x .before .before .before .before .before in
     let j = rw (x .judged .given .1) at (x .before .before .judge .ensures) in
-    (accepted-long _ _ j, search needs, search needs)
+    let p = c .before .before .before .permit in
+    (accepted-long _ _ j, search needs, permit-room (found (c .before .before .before .before .first-maker .result)) (length (now (z .args .file))) (length (now (z .args .out))) (sym (ap meaning (c .before .enum-told2 .given .1)) ∙ p .ensures) .1)
 
-returns-4 : tie.Need-returns-4
-returns-4 c =
+returns-3 : tie.Need-returns-3
+returns-3 c =
     let x = c .before .before .before .before .before .before .before .before .before in
     let z = x .before .before .before .before .before in
     let j = rw (x .judged .given .1) at (x .before .before .judge .ensures) in
-    turns-room (now (z .args .file)) _ j (now (z .args .out)) (rw (c .before .before .before .before .before .enum-told2 .given .1) at (c .before .before .before .before .before .before .before .first-maker .ensures _ _ (went (now (z .args .file)) _ j))) _ (c .before .before .before .before .if1 .left)
+    let p = c .before .before .before .before .before .before .permit in
+    turns-room (now (z .args .file)) _ j (now (z .args .out)) (c .before .before .before .before .before .before .before .first-maker .ensures _ _ (went (now (z .args .file)) _ j)) (p .result) _ (p .ensures) (ap meaning (c .before .before .before .before .enum-told2 .given .1))
     (c .before .before .file-turned .ensures _ _ _ (opens (now (z .args .file)) _ j) (went (now (z .args .file)) _ j))
 
 pub turn-spec : {M : Type 1} → statement M
@@ -57,11 +58,10 @@ turn-spec =
     (λ c κs. search needs)
     returns
     first-maker-requires
-    (λ c. search needs)
-    (λ c. search needs)
     (λ c κs. search needs)
+    (λ c. search needs)
+    (λ c. search needs)
     returns-2
-    returns-3
     file-turned-requires
     (λ c. search needs)
-    returns-4)
+    returns-3)

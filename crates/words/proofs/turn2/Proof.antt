@@ -17,7 +17,7 @@ abbrev μ-loop : tie.MeasureT-loop
 loop-again : tie.Need-loop-again Inv-loop μ-loop
 loop-again c =
     let l = c .before .before .before .before .before .before .loop in
-    turning-more 2 _ _ _ (omega arith) (omega arith) 4 (l .i) (l .at) (l .at + 8) (l .at + 8 - l .at) (l .at + 8 - l .at) (l .dst) _ (l .inv) (omega arith) (omega arith) (omega arith) (omega arith) (c .before .before .four-of-2 .ensures)
+    turning-more 2 _ _ _ (omega arith) (omega arith) 8 (l .i) (l .at) (l .at + 16) (l .at + 16 - l .at) (l .at + 16 - l .at) (l .dst) _ (l .inv) (omega arith) (omega arith) (omega arith) (omega arith) (c .before .before .eight-of-2 .ensures)
 
 returns : tie.Need-returns Inv-loop μ-loop
 returns c =

@@ -4,7 +4,7 @@ use Prim.Native.Nat.{_+_, _-_}
 use native.Mathlib.Omega.{arith}
 use lib.ListN.{length}
 use borrow.Author.Needs.{needs}
-use Rattle.words.proofs.Loops.{Turning, turning-none, turning-more, turning-all, turning-last}
+use Rattle.words.proofs.Loops.{Turning, turning-none, turning-more, turning-last}
 use Rattle.words.proofs.turn4.Statement.{statement}
 use Rattle.words.proofs.turn4.Tie as tie
 
@@ -17,18 +17,13 @@ abbrev μ-loop : tie.MeasureT-loop
 loop-again : tie.Need-loop-again Inv-loop μ-loop
 loop-again c =
     let l = c .before .before .before .before .before .before .loop in
-    turning-more 4 _ _ _ (omega arith) (omega arith) 2 (l .i) (l .at) (l .at + 8) (l .at + 8 - l .at) (l .at + 8 - l .at) (l .dst) _ (l .inv) (omega arith) (omega arith) (omega arith) (omega arith) (c .before .before .two-of-4 .ensures)
+    turning-more 4 _ _ _ (omega arith) (omega arith) 4 (l .i) (l .at) (l .at + 16) (l .at + 16 - l .at) (l .at + 16 - l .at) (l .dst) _ (l .inv) (omega arith) (omega arith) (omega arith) (omega arith) (c .before .before .four-of-4 .ensures)
 
 returns : tie.Need-returns Inv-loop μ-loop
 returns c =
-    let l = c .before .before .before .before .before .before .before .loop in
-    let a = c .before .before .before .before .before .before .before .before .before .before .args in
-    turning-last 4 _ _ _ (omega arith) (omega arith) 1 (l .i) (l .at) (length (a .src .now) - l .at) (length (l .dst) - l .at) (l .dst) _ (l .inv) (omega arith) (omega arith) (omega arith) (c .before .before .one-of-4 .ensures)
-
-returns-2 : tie.Need-returns-2 Inv-loop μ-loop
-returns-2 c =
-    let l = c .before .before .loop in
-    turning-all 4 _ _ _ (omega arith) (omega arith) _ (l .i) (l .at) (l .inv) (omega arith)
+    let l = c .before .before .before .before .before .before .loop in
+    let a = c .before .before .before .before .before .before .before .before .before .args in
+    turning-last 4 _ _ _ (omega arith) (omega arith) (a .n - l .i) (l .i) (l .at) (length (a .src .now) - l .at) (length (l .dst) - l .at) (l .dst) _ (l .inv) (omega arith) (omega arith) (omega arith) (c .before .before .rest-of-4 .ensures)
 
 pub turn4-spec : {M : Type 1} → statement M
 turn4-spec =
@@ -55,8 +50,7 @@ turn4-spec =
     (λ c. search needs)
     (λ c. search needs)
     (λ c. search needs)
+    (λ c. search needs)
     (λ c κs. search needs)
     (λ c. search needs)
-    returns
-    (λ c. search needs)
-    returns-2)
+    returns)

@@ -3,8 +3,9 @@ use Prim.Native.Nat.{ℕ, _+_}
 use native.Mathlib.Omega.{arith}
 use borrow.Author.Tests.{not-true, not-false, eq-eqb}
 use Rattle.walk.proofs.Seen.{gates, tests}
+use Rattle.records.proofs.Facts.{between-in}
 use Rattle.judge.specs.Shaped.{fieldTests}
-use Rattle.judge.proofs.FramesBody.{between-most, size-fits}
+use Rattle.judge.proofs.FramesBody.{size-fits}
 use borrow.Author.Needs.{needs}
 use Rattle.judge.proofs.frames.read_shape.Statement.{statement}
 use Rattle.judge.proofs.frames.read_shape.Tie as tie
@@ -42,7 +43,7 @@ unfolding fieldTests
 returns-2 c = ((λ ch e k. record { tests = λ v. simp (gates, tests, not-true (c .before .all-divide .result) (c .if2 .taken), ← c .before .all-divide .ensures ch e k, not-false (c .before .before .before .between .result) (c .before .before .if1 .left), ← c .before .before .before .between .ensures, ← c .before .before .before .before .field3 .ensures .0, ← c .before .before .before .before .before .field2 .ensures .0, ← c .before .before .before .before .before .before .field .ensures .0); fields = tt }), tt)
 
 sample-bytes-requires : tie.Need-sample-bytes-requires
-sample-bytes-requires c κs = let h = between-most 1 3600 (c .before .before .before .before .before .before .field .result) (sym (c .before .before .before .between .ensures) ∙ not-false (c .before .before .before .between .result) (c .before .before .if1 .left)) in omega arith
+sample-bytes-requires c κs = let h = between-in 1 3600 (c .before .before .before .before .before .before .field .result) (sym (c .before .before .before .between .ensures) ∙ not-false (c .before .before .before .between .result) (c .before .before .if1 .left)) in omega arith
 
 size-ok-requires : tie.Need-size-ok-requires
 size-ok-requires c κs = search needs

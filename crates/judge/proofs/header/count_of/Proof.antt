@@ -5,7 +5,8 @@ use borrow.Author.Needs.{needs}
 use borrow.Author.Tests.{not-true, not-false}
 use lib.ListN.{length, drop}
 use Rattle.rules.specs.Rules.{decimal, countOf, countIs}
-use Rattle.judge.proofs.Opened.{within, digits-short, digits-more, count-start, count-end, count-more, count-rest}
+use Rattle.records.proofs.Facts.{between-in}
+use Rattle.judge.proofs.Opened.{digits-short, digits-more, count-start, count-end, count-more, count-rest}
 use Rattle.judge.proofs.header.count_of.Statement.{statement}
 use Rattle.judge.proofs.header.count_of.Tie as tie
 
@@ -41,12 +42,12 @@ mul-value c =
 
 sub-value : tie.Need-sub-value Inv-loop μ-loop
 sub-value c =
-    let d = within 48 57 (c .before .before .byte .result) (sym (c .before .between .ensures) ∙ not-false (c .before .between .result) (c .if1 .left)) in
+    let d = between-in 48 57 (c .before .before .byte .result) (sym (c .before .between .ensures) ∙ not-false (c .before .between .result) (c .if1 .left)) in
     omega arith
 
 add-value : tie.Need-add-value Inv-loop μ-loop
 add-value c =
-    let d = within 48 57 (c .before .before .byte .result) (sym (c .before .between .ensures) ∙ not-false (c .before .between .result) (c .if1 .left)) in
+    let d = between-in 48 57 (c .before .before .byte .result) (sym (c .before .between .ensures) ∙ not-false (c .before .between .result) (c .if1 .left)) in
     let t = digits-short _ _ _ (c .before .before .before .loop-test .taken) (c .before .before .before .before .before .before .pre) (c .before .before .before .before .loop .inv .0) in
     omega arith
 
@@ -58,7 +59,7 @@ loop-less c = search needs
 
 loop-again : tie.Need-loop-again Inv-loop μ-loop
 loop-again c =
-    let d = within 48 57 (c .before .before .byte .result) (sym (c .before .between .ensures) ∙ not-false (c .before .between .result) (c .if1 .left)) in
+    let d = between-in 48 57 (c .before .before .byte .result) (sym (c .before .between .ensures) ∙ not-false (c .before .between .result) (c .if1 .left)) in
     (digits-more _ _ _ (c .before .before .before .before .loop .inv .0) (d .1), c .before .before .before .before .loop .inv .1 ∙ count-more _ _ _ _ (c .before .before .before .loop-test .taken) (c .before .before .byte .ensures .0) (sym (c .before .between .ensures) ∙ not-false (c .before .between .result) (c .if1 .left)))
 
 returns-3 : tie.Need-returns-3 Inv-loop μ-loop

@@ -3,8 +3,9 @@ use borrow.Author.Tests.{not-true, not-false}
 use borrow.Author.Needs.{needs}
 use Rattle.words.specs.Numbers.{bytesAt}
 use Rattle.walk.proofs.Seen.{gates, tests}
+use Rattle.records.proofs.Facts.{between-in}
 use Rattle.judge.specs.Opened.{lettered}
-use Rattle.judge.proofs.Opened.{within, letter-order, header-open}
+use Rattle.judge.proofs.Opened.{letter-order, header-open}
 use Rattle.judge.proofs.header.file_header.Statement.{statement}
 use Rattle.judge.proofs.header.file_header.Tie as tie
 
@@ -88,7 +89,7 @@ returns-6 c = (simp (header-open, gates, tests, not-true (c .before .spaces .res
 returns-7 : tie.Need-returns-7
 unfolding bytesAt
 returns-7 c =
-    let k = within 1 64 (c .before .before .before .before .before .count-of .result) (sym (c .before .before .before .before .between .ensures) ∙ not-false (c .before .before .before .before .between .result) (c .before .before .before .if3 .left)) in
+    let k = between-in 1 64 (c .before .before .before .before .before .count-of .result) (sym (c .before .before .before .before .between .ensures) ∙ not-false (c .before .before .before .before .between .result) (c .before .before .before .if3 .left)) in
     let l = sym (ap lettered (c .before .before .before .before .before .before .before .before .before .before .before .before .before .before .byte .ensures .0)) ∙ (sym (c .before .before .before .before .before .before .before .before .before .before .before .before .before .order-of .ensures) ∙ c .before .before .before .before .before .before .before .before .before .before .before .letter .given .1) in
     (simp (header-open, gates, tests, not-false (c .before .spaces .result) (c .if4 .left), ← c .before .spaces .ensures, not-false (c .before .before .before .before .between .result) (c .before .before .before .if3 .left), ← c .before .before .before .before .between .ensures, ← c .before .before .before .before .before .count-of .ensures, not-false (c .before .before .before .before .before .before .before .before .script-ok .result) (c .before .before .before .before .before .before .before .if2 .left), ← c .before .before .before .before .before .before .before .before .script-ok .ensures, ← c .before .before .before .before .before .before .before .before .before .byte2 .ensures .0, c .before .before .before .before .before .before .before .before .before .before .before .letter .given .1, ← c .before .before .before .before .before .before .before .before .before .before .before .before .before .order-of .ensures, ← c .before .before .before .before .before .before .before .before .before .before .before .before .before .before .byte .ensures .0, c .before .before .before .before .before .before .before .before .before .before .before .before .before .before .before .enum-told .given .1, c .before .before .before .before .before .before .before .before .before .before .before .before .before .before .before .before .before .names-ok .ensures, c .before .before .before .before .before .before .before .before .before .before .before .before .before .before .before .before .before .before .if1 .left), (sym (letter-order _ _ l), k .0, k .1, c .before .before .before .before .before .before .before .before .before .before .before .before .before .before .before .before .before .before .if1 .left))
 

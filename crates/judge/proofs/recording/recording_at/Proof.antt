@@ -1,6 +1,7 @@
 -- `judge::recording::recording_at` meets its contract: each answer is that of the walk, by the laws of Recorded.
 -- x: behind the head; y: behind its tests; z: the start. Assumes nothing.
 use denote.Ref.{now}
+use mathlib.Core.Path.{refl}
 use Prim.Native.Nat.{_+_}
 use native.Mathlib.Omega.{arith}
 use Rattle.judge.proofs.Recorded.{head-stop, other-code, room-stop, recorded-body, part-asked}
@@ -101,7 +102,7 @@ returns-4 c =
     let file = now (z .args .file) in
     let w = rw (x .found .given .1) at (x .before .before .head-at .ensures .1) in
     let v = rw (y .room .given .1) at (y .before .before .admit .ensures .1) in
-    ((λ held has. recorded-body o file (z .args .p) (z .args .i) held (x .found .given .0 .0 .at) (rw (x .found .given .1) at (x .before .before .head-at .ensures .0)) (w .0) (y .before .before .before .if1 .left) (y .room .given .0 .0) (rw (y .room .given .1) at (y .before .before .admit .ensures .0 o 0 file)) (v .0) (v .1) (v .2) (z .args .before) (c .recording-body .result) (λ d. c .recording-body .ensures .0 held d has)), c .recording-body .ensures .1)
+    ((λ held has. recorded-body o file (z .args .p) (z .args .i) held (x .found .given .0 .0 .at) (rw (x .found .given .1) at (x .before .before .head-at .ensures .0)) (w .0) (y .before .before .before .if1 .left) (y .room .given .0 .0) (rw (y .room .given .1) at (y .before .before .admit .ensures .0 o 0 file)) (v .0) (v .1) (v .2) (z .args .before) (c .recording-body .result) (λ l _. c .recording-body .ensures .0 held _ has l refl)), c .recording-body .ensures .1)
 
 pub recording-at-spec : {M : Type 1} → statement M
 recording-at-spec =

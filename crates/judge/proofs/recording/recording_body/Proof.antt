@@ -2,6 +2,7 @@
 -- y: behind the tables; z: the start. Assumes nothing.
 use denote.Ref.{now}
 use native.Mathlib.Omega.{arith}
+use lib.ListN.{length}
 use Rattle.judge.proofs.Recorded.{tables-stop, signals-stop, body-holds, body-continues, channels-asked, signals-asked}
 use borrow.Author.Needs.{needs}
 use Rattle.judge.proofs.recording.recording_body.Statement.{statement}
@@ -59,15 +60,12 @@ returns-2 c =
     let s = now (z .args .s) in
     simp (c .of-frames .ensures, c .before .enum-told2 .given .1) ((λ held h has fills times. signals-stop o file (z .args .at) s (z .args .before) held h fills (rw (y .tabled .given .1) at (y .before .before .read-tables .ensures .0 file held (z .pre .0) has)) (c .before .before .before .before .before .before .channels-of .ensures) times (rw (c .before .enum-told2 .given .1) at (c .before .before .before .signals .ensures))), tt)
 
-add-t18 : tie.Need-add-t18
-add-t18 c = search needs
-
-add-t19 : tie.Need-add-t19
-add-t19 c =
-    let y = c .before .before .before .before .before .before .before .before .before in
+places-for-requires : tie.Need-places-for-requires
+places-for-requires c κs =
+    let y = c .before .before .before .before .before .before .before .before in
     let z = y .before .before .before .before .before in
     let b = rw (y .tabled .given .1) at (y .before .before .read-tables .ensures .1) in
-    omega (arith, b .fits, z .pre .1, z .pre .2)
+    (omega (arith, b .fits), omega (arith, z .pre .1, z .pre .2))
 
 returns-3 : tie.Need-returns-3
 returns-3 c =
@@ -78,7 +76,9 @@ returns-3 c =
     let s = now (z .args .s) in
     let b = rw (y .tabled .given .1) at (y .before .before .read-tables .ensures .1) in
     let k = c .before .before .before .before .before .before .before .channels-of .ensures in
-    ((λ held h has fills times. body-holds o file (z .args .at) s (z .args .before) held h fills (rw (y .tabled .given .1) at (y .before .before .read-tables .ensures .0 file held (z .pre .0) has)) k times (c .before .before .framed .given .0 .1 .0) (rw (c .before .before .framed .given .1) at (c .before .before .before .before .signals .ensures)) (b .fits)), body-continues (z .args .at) _ _ (z .args .before) _ b (z .pre .1) (z .pre .2) (z .pre .3) _ (c .before .before .framed .given .0 .0) k)
+    let f = c .before .before .framed .given .0 .0 in
+    rw (c .places-for .ensures)
+    ((λ held h has fills times. body-holds o file (z .args .at) s (z .args .before) held h fills (rw (y .tabled .given .1) at (y .before .before .read-tables .ensures .0 file held (z .pre .0) has)) k times (c .before .before .framed .given .0 .1 .0) (rw (c .before .before .framed .given .1) at (c .before .before .before .before .signals .ensures)) (b .fits)), body-continues (z .args .at) (length s) (length file) (z .args .before) (y .tabled .given .0 .0) b (z .pre .1) (z .pre .3) (f .size) (f .seconds))
 
 pub recording-body-spec : {M : Type 1} → statement M
 recording-body-spec =
@@ -96,6 +96,5 @@ recording-body-spec =
     enum-told-2
     of-frames-requires
     returns-2
-    add-t18
-    add-t19
+    places-for-requires
     returns-3)

@@ -4,8 +4,8 @@ use denote.Ref.{now}
 use borrow.Author.Needs.{needs}
 use borrow.Author.Tests.{not-true, not-false}
 use Rattle.words.proofs.Words.{bytes}
+use Rattle.records.proofs.Facts.{between-in}
 use Rattle.judge.proofs.Verdicts.{accepted-seen}
-use Rattle.questions.proofs.Chosen.{between-in}
 use Rattle.questions.proofs.Reach.{asked-refused, asked-outside, asked-found}
 use Rattle.questions.proofs.find.recording_asked.Statement.{statement}
 use Rattle.questions.proofs.find.recording_asked.Tie as tie

@@ -1,5 +1,5 @@
 use mathlib.Core.Path.{_≡_}
-use Prim.Native.Nat.{_-_, _≤_}
+use Prim.Native.Nat.{_-_, _≤_, _<_}
 use native.Mathlib.Omega.{arith}
 use denote.Ref.{now}
 use borrow.Author.Needs.{needs}
@@ -8,7 +8,7 @@ use Rattle.words.proofs.Words.{bytes}
 use Rattle.rules.specs.declared.FileHeader.{FileHeader}
 use Rattle.judge.specs.Judged.{AcceptedAs}
 use Rattle.judge.specs.Tabled.{Within}
-use Rattle.questions.proofs.Reach.{Going, ok-of, going-start, going-stop, going-on}
+use Rattle.questions.proofs.Reach.{Going, ok-of, going-start, next-led, going-stop, going-on}
 use Rattle.questions.proofs.find.recordings_to.Statement.{statement}
 use Rattle.questions.proofs.find.recordings_to.Tie as tie
 
@@ -21,11 +21,8 @@ abbrev μ-loop : tie.MeasureT-loop
 loop-holds : tie.Need-loop-holds Inv-loop μ-loop
 loop-holds c = (search needs, search needs, tt, λ h x e l. going-start (now (c .before .args .file)) h x (c .before .args .o) e)
 
-add-recording-at : tie.Need-add-recording-at Inv-loop μ-loop
-add-recording-at c = search needs
-
-recording-at-requires : tie.Need-recording-at-requires Inv-loop μ-loop
-recording-at-requires c κs = search needs
+recording-again-requires : tie.Need-recording-again-requires Inv-loop μ-loop
+recording-again-requires c κs = search needs
 
 enum-known-step : tie.Need-enum-known-step Inv-loop μ-loop
 enum-known-step c = search needs
@@ -36,10 +33,13 @@ enum-told c = search needs
 returns : tie.Need-returns Inv-loop μ-loop
 returns c =
     let e = c .enum-told .given .1 in
-    let i = c .before .before .before .before .loop .inv in
+    let k = c .before .before .before .before .loop in
+    let i = k .inv in
     λ h x o l.
     let g = i .3 h x o l in
-    absurd (going-stop g (omega (arith, x .count, l, c .before .before .before .loop-test .taken)) (i .1) (rw e at (c .before .before .recording-at .ensures .0 (g .held) (g .holds))))
+    let m : k .i < length (x .file .recordings) = omega (arith, x .count, l, c .before .before .before .loop-test .taken) in
+    let v = next-led g m (i .1) in
+    absurd (going-stop g m (i .1) (rw e at (c .before .before .recording-again .ensures .0 (g .held) _ (v .one) (v .mid) (g .holds) (v .is))))
 
 add-i : tie.Need-add-i Inv-loop μ-loop
 add-i c = search needs
@@ -50,15 +50,18 @@ loop-less c = search needs
 loop-again : tie.Need-loop-again Inv-loop μ-loop
 loop-again c =
     let e = c .before .step .given .1 in
-    let a = rw e at (c .before .before .before .recording-at .ensures .1) in
-    let i = c .before .before .before .before .before .loop .inv in (
+    let a = rw e at (c .before .before .before .recording-again .ensures .1) in
+    let k = c .before .before .before .before .before .loop in
+    let i = k .inv in (
       omega arith,
       a .1,
       a .2,
       λ h x o l.
           let g = i .3 h x o l in
-          let b = bytes (now (c .before .before .before .before .before .before .before .args .file)) (λ k. omega (arith, c .before .before .before .before .before .before .shared-slice-known .given k)) in
-          going-on g (omega (arith, x .count, l, c .before .before .before .before .loop-test .taken)) (i .1) (ok-of _ b h x) (rw e at (c .before .before .before .recording-at .ensures .0 (g .held) (g .holds))) (a .2),
+          let b = bytes (now (c .before .before .before .before .before .before .before .args .file)) (λ j. omega (arith, c .before .before .before .before .before .before .shared-slice-known .given j)) in
+          let m : k .i < length (x .file .recordings) = omega (arith, x .count, l, c .before .before .before .before .loop-test .taken) in
+          let v = next-led g m (i .1) in
+          going-on g m (i .1) (ok-of _ b h x) (rw e at (c .before .before .before .recording-again .ensures .0 (g .held) _ (v .one) (v .mid) (g .holds) (v .is))) (a .2),
     )
 
 returns-2 : tie.Need-returns-2 Inv-loop μ-loop
@@ -74,8 +77,7 @@ recordings-to-spec =
     Inv-loop
     μ-loop
     loop-holds
-    add-recording-at
-    recording-at-requires
+    recording-again-requires
     enum-known-step
     enum-told
     returns

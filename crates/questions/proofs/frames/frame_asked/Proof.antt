@@ -2,7 +2,8 @@
 -- Assumes nothing.
 use mathlib.Core.Path.{_≡_, sym, _∙_}
 use mathlib.Core.Bool.{true}
-use Prim.Native.Nat.{_+_, _-_, _*_}
+use Prim.Native.Nat.{_+_, _-_, _*_, _≤_}
+use native.Mathlib.Nat.{mul-le-mul-left}
 use native.Mathlib.Omega.{arith}
 use borrow.Author.Needs.{needs}
 use borrow.Author.Tests.{not-true, not-false}
@@ -10,7 +11,6 @@ use denote.Ref.{now}
 use Rattle.rules.specs.Rules as R
 use Rattle.questions.specs.Found.{FramedAs}
 use Rattle.questions.specs.declared.frames.Framed.the-variants as Framed
-use Rattle.questions.proofs.Chosen.{between-in}
 use Rattle.questions.proofs.Framing.{frame-refused, frame-outside, frame-found-at}
 use Rattle.questions.proofs.frames.frame_asked.Statement.{statement}
 use Rattle.questions.proofs.frames.frame_asked.Tie as tie
@@ -28,35 +28,39 @@ returns-2 c =
 
 -- its number is inside its range
 ranged : (c : tie.After-struct-known) →
-    let x = c .before .before .before .before in
+    let x = c .before .before .before .before .before in
     R.between 1 (x .found .given .0 .1 .0 .total) (x .before .before .before .before .args .frame) ≡ true
-ranged c = sym (c .before .before .within .ensures) ∙ not-false (c .before .before .within .result) (c .before .if1 .left)
+ranged c = sym (c .before .before .before .within .ensures) ∙ not-false (c .before .before .before .within .result) (c .before .before .if1 .left)
 
 -- the frame, where the code looks for it
 framed : (c : tie.After-struct-known) →
-    let x = c .before .before .before .before in
+    let x = c .before .before .before .before .before in
     let z = x .before .before .before .before in
     FramedAs (now (z .args .file)) (z .args .recording) (z .args .frame)
     (Framed.At (x .found .given .0 .0) (x .found .given .0 .1 .0) (x .found .given .0 .1 .0 .frames + 32 + x .found .given .0 .1 .0 .frame * (z .args .frame - 1)))
 framed c =
-    let x = c .before .before .before .before in
+    let x = c .before .before .before .before .before in
     let y = rw (x .found .given .1) at (x .before .before .recording-asked .ensures) in
     frame-found-at (y .1) _ (ranged c)
 
-add-at : tie.Need-add-at
-add-at c = record { fits = omega (arith, framed c .1 .inside, c .before .before .before .before .before .before .before .before .good) }
+-- the frames that the code passes are no more than those before it
+passed : (c : tie.After-struct-known) →
+    let x = c .before .before .before .before .before in
+    let q = x .found .given .0 .1 .0 in
+    q .frame * c .before .less .result ≤ q .frame * (x .before .before .before .before .args .frame - 1)
+passed c = mul-le-mul-left _ (omega (arith, c .before .less .ensures))
 
-sub-at : tie.Need-sub-at
-sub-at c = between-in _ _ _ (ranged c) .0
+add-at : tie.Need-add-at
+add-at c = record { fits = omega (arith, framed c .1 .inside, c .before .before .before .before .before .before .before .before .before .good) }
 
 mul-at : tie.Need-mul-at
-mul-at c = record { fits = omega (arith, framed (c .before) .1 .inside, c .before .before .before .before .before .before .before .before .before .good) }
+mul-at c = record { fits = omega (arith, passed (c .before), framed (c .before) .1 .inside, c .before .before .before .before .before .before .before .before .before .before .good) }
 
 add-at-2 : tie.Need-add-at-2
-add-at-2 c = record { fits = omega (arith, framed (c .before) .1 .inside, c .before .before .before .before .before .before .before .before .before .good) }
+add-at-2 c = record { fits = omega (arith, passed (c .before), framed (c .before) .1 .inside, c .before .before .before .before .before .before .before .before .before .before .good) }
 
 returns-3 : tie.Need-returns-3
-returns-3 c = framed (c .before)
+returns-3 c = rw (c .before .before .less .ensures) (framed (c .before))
 
 pub frame-asked-spec : {M : Type 1} → statement M
 frame-asked-spec =
@@ -69,8 +73,8 @@ frame-asked-spec =
     returns
     (λ c κs. search needs)
     returns-2
+    (λ c κs. search needs)
     add-at
-    sub-at
     mul-at
     add-at-2
     returns-3)

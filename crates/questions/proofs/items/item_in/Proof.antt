@@ -4,7 +4,7 @@ use mathlib.Core.Path.{sym, _∙_}
 use native.Mathlib.Omega.{arith}
 use borrow.Author.Tests.{not-true, not-false}
 use Rattle.words.proofs.Ints.{kept}
-use Rattle.questions.proofs.Chosen.{between-in}
+use Rattle.records.proofs.Facts.{between-in}
 use Rattle.questions.proofs.Entries.{items-inside, entry-outside, entry-inside, entry-is}
 use borrow.Author.Needs.{needs}
 use Rattle.questions.proofs.items.item_in.Statement.{statement}

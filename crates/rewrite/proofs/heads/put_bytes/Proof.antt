@@ -1,7 +1,7 @@
 use mathlib.Core.List.{[], _∷_}
 use borrow.Author.Needs.{needs}
 use Rattle.words.specs.Numbers.{ordered}
-use Rattle.rewrite.proofs.Numerals.{stored}
+use Rattle.words.proofs.Blocks.{stored}
 use Rattle.rewrite.proofs.heads.put_bytes.Statement.{statement}
 use Rattle.rewrite.proofs.heads.put_bytes.Tie as tie
 use Rattle.rewrite.proofs.heads.put_bytes.Reads as reads

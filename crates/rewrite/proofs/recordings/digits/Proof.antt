@@ -2,7 +2,7 @@
 -- Assumes nothing.
 use native.Mathlib.Omega.{arith}
 use lib.ListN.{length-set}
-use Rattle.rewrite.proofs.Measures.{one-digit, two-digits}
+use Rattle.rules.proofs.Canon.{one-digit, two-digits}
 use borrow.Author.Needs.{needs}
 use Rattle.rewrite.proofs.recordings.digits.Statement.{statement}
 use Rattle.rewrite.proofs.recordings.digits.Tie as tie

@@ -1,4 +1,4 @@
--- `whole::shape_at` meets its contract: an accepted recording's 140 stands inside it, and its body is a part of the file.
+-- `recordings::shape_at` meets its contract: an accepted recording's 140 stands inside it, and its body is a part of the file.
 -- z: the start. Assumes nothing.
 use mathlib.Core.Path.{_≡_}
 use Prim.Native.Nat.{_+_, _-_}
@@ -16,21 +16,21 @@ returns c =
     let z = c .before .before in
     let a = z .args in
     let s = a .file .now in
-    (tt, λ held i x g stand place. absurd (omega (arith, c .if1 .taken, within (a .o) s (a .p) (a .q .end) held i g .starts)))
+    (tt, tt, λ held i x g stand place. absurd (omega (arith, c .if1 .taken, within (a .o) s (a .p) (a .q .end) held i g .starts)))
 
 returns-2 : tie.Need-returns-2
 returns-2 c =
     let z = c .before .before .before .before in
     let a = z .args in
     let s = a .file .now in
-    (tt, λ held i x g stand place. absurd (omega (arith, c .if2 .taken, within-at (bytes s (λ i. c .before .before .before .shared-slice-known .given i .fits)) (z .pre .1) (within (a .o) s (a .p) (a .q .end) held i g) (a .q .frames) place)))
+    (tt, tt, λ held i x g stand place. absurd (omega (arith, c .if2 .taken, within-at (bytes s (λ i. c .before .before .before .shared-slice-known .given i .fits)) (z .pre .1) (within (a .o) s (a .p) (a .q .end) held i g) (a .q .frames) place)))
 
 returns-3 : tie.Need-returns-3
 returns-3 c =
     let z = c .before .before .before .before .before .before in
     let a = z .args in
     let s = a .file .now in
-    (tt, λ held i x g stand place. absurd (omega (arith, c .if3 .taken, within-at (bytes s (λ i. c .before .before .before .before .before .shared-slice-known .given i .fits)) (z .pre .1) (within (a .o) s (a .p) (a .q .end) held i g) (a .q .frames) place)))
+    (tt, tt, λ held i x g stand place. absurd (omega (arith, c .if3 .taken, within-at (bytes s (λ i. c .before .before .before .before .before .shared-slice-known .given i .fits)) (z .pre .1) (within (a .o) s (a .p) (a .q .end) held i g) (a .q .frames) place)))
 
 returns-4 : tie.Need-returns-4
 returns-4 c =
@@ -40,7 +40,7 @@ returns-4 c =
     let n = a .q .end - (a .p + 16) in
     let r = c .read-shape in
     let l : length (take n (drop (a .p + 16) s)) ≡ n = length-take-le n (drop (a .p + 16) s) (rw length-drop (omega (arith, z .pre .1))) in
-    (rw l at (r .ensures .0), λ held i x g stand place. let w = within (a .o) s (a .p) (a .q .end) held i g in r .ensures .1 held (w .top) x (a .q .end) (w .fills) (stand .0) (stand .1) (omega (arith, place, c .before .before .before .before .before .before .if2 .left)) (w .body))
+    (rw l at (r .ensures .0), r .ensures .1, λ held i x g stand place. let w = within (a .o) s (a .p) (a .q .end) held i g in r .ensures .2 held (w .top) x (a .q .end) (w .fills) (stand .0) (stand .1) (omega (arith, place, c .before .before .before .before .before .before .if2 .left)) (w .body))
 
 pub shape-at-spec : {M : Type 1} → statement M
 shape-at-spec =

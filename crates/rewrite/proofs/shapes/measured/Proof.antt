@@ -1,7 +1,8 @@
 -- `shapes::measured` meets its contract.
 -- Assumes nothing.
 use native.Mathlib.Omega.{arith}
-use Rattle.rewrite.proofs.Measures.{product, measure-long, measure-over, measure-on}
+use Rattle.records.proofs.Facts.{product}
+use Rattle.rewrite.proofs.Measures.{measure-long, measure-over, measure-on}
 use borrow.Author.Needs.{needs}
 use Rattle.rewrite.proofs.shapes.measured.Statement.{statement}
 use Rattle.rewrite.proofs.shapes.measured.Tie as tie
@@ -16,10 +17,10 @@ returns : tie.Need-returns
 returns c = measure-long _ _ _ _ _ _ _ (omega arith)
 
 returns-2 : tie.Need-returns-2
-returns-2 c = measure-over _ _ _ _ _ _ _ _ (c .before .before .size-for .ensures .0) (omega arith) (omega arith)
+returns-2 c = measure-over _ _ _ _ _ _ _ _ (c .before .size-for .ensures .0) (omega arith) (omega arith)
 
 returns-3 : tie.Need-returns-3
-returns-3 c = measure-on _ _ _ _ _ _ _ _ _ (c .before .before .before .size-for .ensures .0) (c .size-for2 .ensures .0) (omega arith) (omega arith)
+returns-3 c = measure-on _ _ _ _ _ _ _ _ _ (c .before .before .size-for .ensures .0) (c .size-for2 .ensures .0) (omega arith) (omega arith)
 
 pub measured-spec : {M : Type 1} → statement M
 measured-spec =

@@ -1,5 +1,6 @@
 -- `shapes::read_shape` meets its contract: where the walk accepts the recording's body, no test of the code fails, and what is measured is the recording's shape.
 -- z: the start; h: the head of the 140, which stops at q; d: the head that follows. Assumes nothing.
+use mathlib.Core.Path.{_≡_, sym, ap, _∙_}
 use Prim.Native.Nat.{_+_, _-_, _*_}
 use native.Mathlib.Omega.{arith}
 use borrow.Author.Needs.{needs}
@@ -7,8 +8,12 @@ use borrow.Author.Tests.{not-true, not-false}
 use lib.ListN.{length, take, drop, length-take, length-drop}
 use Rattle.words.proofs.Words.{bytes}
 use Rattle.walk.proofs.Seen.{body-length}
+use Rattle.walk.proofs.Went.{goes-same}
+use Rattle.rules.specs.Rules as R
+use Rattle.records.proofs.Facts.{both-true}
+use Rattle.rewrite.specs.Shapes.{ShapeIn}
 use Rattle.rewrite.proofs.Lengths.{accepted}
-use Rattle.rewrite.proofs.Measures.{both-true, measure-bounded, shape-unread, shape-refused, shape-alone, shape-fields, shape-fits, shape-told}
+use Rattle.rewrite.proofs.Measures.{measure-bounded, measure-each, shape-unread, shape-refused, shape-alone, shape-fields, shape-fits, shape-told}
 use Rattle.rewrite.proofs.shapes.read_shape.Statement.{statement}
 use Rattle.rewrite.proofs.shapes.read_shape.Tie as tie
 
@@ -17,7 +22,7 @@ returns c =
     let z = c .before .before .before .before .before in
     let a = z .args in
     let s = a .s .now in
-    (tt, λ held r x e fills many kept at g. shape-unread (accepted (a .o) (a .base) s (bytes s (λ i. c .before .before .before .shared-slice-known2 .given i .fits)) r fills held g) (a .at) at (rw (c .enum-told .given .1) at (c .before .before .head-at .ensures .0)))
+    (tt, tt, λ held r x e fills many kept at g. shape-unread (accepted (a .o) (a .base) s (bytes s (λ i. c .before .before .before .shared-slice-known2 .given i .fits)) r fills held g) (a .at) at (rw (c .enum-told .given .1) at (c .before .before .head-at .ensures .0)))
 
 admit-requires : tie.Need-admit-requires
 admit-requires c κs =
@@ -35,7 +40,7 @@ returns-2 c =
     let s = a .s .now in
     let h = c .before .before .before .before .found .given .0 .0 in
     let f = rw (c .before .before .before .before .found .given .1) at (c .before .before .before .before .before .before .head-at .ensures) in
-    (tt, λ held r x e fills many kept at g. shape-refused (accepted (a .o) (a .base) s (bytes s (λ i. c .before .before .before .before .before .before .before .shared-slice-known2 .given i .fits)) r fills held g) (a .at) at h (f .0) (f .1 .0) (rw (c .enum-told2 .given .1) at (c .before .before .admit .ensures .0 (a .o) (a .base) s)))
+    (tt, tt, λ held r x e fills many kept at g. shape-refused (accepted (a .o) (a .base) s (bytes s (λ i. c .before .before .before .before .before .before .before .shared-slice-known2 .given i .fits)) r fills held g) (a .at) at h (f .0) (f .1 .0) (rw (c .enum-told2 .given .1) at (c .before .before .admit .ensures .0 (a .o) (a .base) s)))
 
 next-head-requires : tie.Need-next-head-requires
 next-head-requires c κs =
@@ -57,7 +62,7 @@ returns-3 c =
     let f = rw (c .before .before .before .before .before .before .before .before .found .given .1) at (c .before .before .before .before .before .before .before .before .before .before .head-at .ensures) in
     let q = c .before .before .before .before .room .given .0 .0 in
     let m = rw (c .before .before .before .before .room .given .1) at (c .before .before .before .before .before .before .admit .ensures .1) in
-    (tt, λ held r x e fills many kept at g. shape-alone (accepted (a .o) (a .base) s (bytes s (λ i. c .before .before .before .before .before .before .before .before .before .before .before .shared-slice-known2 .given i .fits)) r fills held g) (a .at) at h (f .0) (f .1 .0) q (m .0) (rw (c .enum-told3 .given .1) at (c .before .before .next-head .ensures .0)))
+    (tt, tt, λ held r x e fills many kept at g. shape-alone (accepted (a .o) (a .base) s (bytes s (λ i. c .before .before .before .before .before .before .before .before .before .before .before .shared-slice-known2 .given i .fits)) r fills held g) (a .at) at h (f .0) (f .1 .0) q (m .0) (rw (c .enum-told3 .given .1) at (c .before .before .next-head .ensures .0)))
 
 sub-body : tie.Need-sub-body
 sub-body c =
@@ -137,7 +142,7 @@ returns-4 c =
     let t₁ = c .before .before .before .field in
     let t₂ = c .before .before .field2 in
     let t₃ = c .before .field3 in
-    (tt, λ held r x e fills many kept at g. absurd (omega (arith, c .if1 .taken, shape-fields (accepted (a .o) (a .base) s (bytes s (λ i. c .before .before .before .before .before .before .before .before .before .before .before .before .before .before .before .before .before .shared-slice-known2 .given i .fits)) r fills held g) (a .at) at h (f .0) (f .1 .0) q (m .0) (m .1) (m .2) (t₁ .result) (t₂ .result) (t₃ .result) (t₁ .ensures .0) (t₂ .ensures .0) (t₃ .ensures .0) .short)))
+    (tt, tt, λ held r x e fills many kept at g. absurd (omega (arith, c .if1 .taken, shape-fields (accepted (a .o) (a .base) s (bytes s (λ i. c .before .before .before .before .before .before .before .before .before .before .before .before .before .before .before .before .before .shared-slice-known2 .given i .fits)) r fills held g) (a .at) at h (f .0) (f .1 .0) q (m .0) (m .1) (m .2) (t₁ .result) (t₂ .result) (t₃ .result) (t₁ .ensures .0) (t₂ .ensures .0) (t₃ .ensures .0) .short)))
 
 sample-bytes-requires : tie.Need-sample-bytes-requires
 sample-bytes-requires c κs =
@@ -158,7 +163,7 @@ returns-5 c =
     let t₃ = c .before .before .before .before .field3 in
     let b = c .before .before .sample-bytes in
     let u = c .before .fits2 in
-    (tt, λ held r x e fills many kept at g. shape-fits (accepted (a .o) (a .base) s (bytes s (λ i. c .before .before .before .before .before .before .before .before .before .before .before .before .before .before .before .before .before .before .before .before .shared-slice-known2 .given i .fits)) r fills held g) (a .at) at h (f .0) (f .1 .0) q (m .0) (m .1) (m .2) (t₁ .result) (t₂ .result) (t₃ .result) (t₁ .ensures .0) (t₂ .ensures .0) (t₃ .ensures .0) (b .result) (u .result) (b .ensures (x .recording .channels) many kept) (u .ensures) (not-true (u .result) (c .if2 .taken)))
+    (tt, tt, λ held r x e fills many kept at g. shape-fits (accepted (a .o) (a .base) s (bytes s (λ i. c .before .before .before .before .before .before .before .before .before .before .before .before .before .before .before .before .before .before .before .before .shared-slice-known2 .given i .fits)) r fills held g) (a .at) at h (f .0) (f .1 .0) q (m .0) (m .1) (m .2) (t₁ .result) (t₂ .result) (t₃ .result) (t₁ .ensures .0) (t₂ .ensures .0) (t₃ .ensures .0) (b .result) (u .result) (b .ensures (x .recording .channels) many kept) (u .ensures) (not-true (u .result) (c .if2 .taken)))
 
 add-filled : tie.Need-add-filled
 add-filled c =
@@ -229,6 +234,12 @@ returns-6 c =
     let v = body-length (a .at) q s (omega (arith, f .1, m)) (m .1) in
     rw (c .measured .ensures) (
       measure-bounded (a .at) q (d .at + 16) (t₁ .result) (t₂ .result) (24 + b .result) (t₃ .result) (length s) (omega (arith, c .before .before .before .before .before .if1 .left)) (omega arith) (w .0) (t₂ .ensures .1) (omega (arith, w .1, v, f .1, m)) (omega (arith, n .1)) (n .1 .1),
+      measure-each (a .at) q (d .at + 16) (t₁ .result) (t₂ .result) (24 + b .result) (t₃ .result) (ShapeIn (a .o) (a .base) s) (record {
+        end = λ k j g. rw (f .1 .0) at (m .0) ∙ ap (λ (y : R.Head). a .at + R.span y) (goes-same (sym (f .0) ∙ g) .0);
+        seconds = sym (t₁ .ensures .0);
+        size = sym (t₂ .ensures .0);
+        count = sym (t₃ .ensures .0);
+      }),
       λ held r x e fills many kept at g. shape-told (accepted (a .o) (a .base) s (bytes s (λ i. c .before .before .before .before .before .before .before .before .before .before .before .before .before .before .before .before .before .before .before .before .before .before .shared-slice-known2 .given i .fits)) r fills held g) (a .at) at h (f .0) (f .1 .0) q (m .0) (m .1) (m .2) (t₁ .result) (t₂ .result) (t₃ .result) (t₁ .ensures .0) (t₂ .ensures .0) (t₃ .ensures .0) d (n .0) (n .1 .1) (b .result) (b .ensures (x .recording .channels) many kept),
     )
 

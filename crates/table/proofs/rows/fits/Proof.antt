@@ -1,14 +1,10 @@
 -- `table::rows::fits` meets its contract.
 -- Assumes nothing.
 use native.Mathlib.Omega.{arith}
-use native.Mathlib.Nat.{mul-le-mul-left}
-use Prim.Native.Nat.{ℕ, _*_, _≤_, _<_}
 use borrow.Author.Tests.{lt-leb, le-leb}
+use Rattle.records.proofs.Facts.{product}
 use Rattle.table.proofs.rows.fits.Statement.{statement}
 use Rattle.table.proofs.rows.fits.Tie as tie
-
-product : (n m : ℕ) → n < 4294967296 → m < 4294967296 → n * m ≤ 18446744065119617025
-product n m h k = let l : m ≤ 4294967295 = omega arith in omega (arith, mul-le-mul-left n l)
 
 returns : tie.Need-returns
 returns c = rw (lt-leb _ _ (c .if1 .taken))

@@ -1,4 +1,4 @@
--- `frames::frames_body` meets its contract. The loop's invariant: what is written of the body is what stands before the next frame.
+-- `frames::frames_body` meets its contract. The loop's invariant: what is written of the body is what stands before the next frame, which is read where it is written.
 -- The measure is how many frames are left. Assumes nothing.
 use mathlib.Core.Path.{_≡_, refl, sym, _∙_}
 use mathlib.Core.List.{List}
@@ -20,14 +20,14 @@ use Rattle.turn.proofs.frames.frames_body.Statement.{statement}
 use Rattle.turn.proofs.frames.frames_body.Tie as tie
 
 abbrev Inv-loop : tie.InvT-loop
-Inv-loop w file cs t filled size count s d₀ reserve at₀ i₀ d at i =
-    (i ≤ count) × (at ≡ 16 + size * i) × (at ≤ length s) × (length d ≡ length s) ×
+Inv-loop w file cs t filled size count s d₀ reserve from₀ k₀ i₀ d from k i =
+    (i ≤ count) × (k ≡ 16 + size * i) × (k ≤ length s) × (length d ≡ length s) × (from ≡ k) ×
     ((b : ℕ) (c : R.Basic) (ch : List R.Channel) (hd : R.Head) (f : R.Frames) (e : ℕ) → length ch ≡ cs .count → Kept (w .from) file (cs .subs) ch → filled ≡ 24 + R.sampleBytes t ch →
     numberAt (w .from) 4 s 0 ≡ t → numberAt (w .from) 4 s 4 ≡ size → numberAt (w .from) 4 s 8 ≡ count → R.span hd ≡ 16 + length s → see (w .from) b s b (R.framesBody c ch hd) ≡ goes f e →
-    Framing w b s d ch t size count (copy w b s b (R.framesBody c ch hd)) at i)
+    Framing w b s d ch t size count (copy w b s b (R.framesBody c ch hd)) k i)
 
 abbrev μ-loop : tie.MeasureT-loop
-μ-loop w file cs t filled size count s d₀ reserve at₀ i₀ d at i = count - i
+μ-loop w file cs t filled size count s d₀ reserve from₀ k₀ i₀ d from k i = count - i
 
 slice-aggregate-numbers : tie.Need-slice-aggregate-numbers Inv-loop μ-loop
 slice-aggregate-numbers c = sym (length-take-le 12 (c .before .before .before .before .args .s .now) (omega arith))
@@ -72,12 +72,23 @@ loop-holds c =
       omega arith,
       search needs,
       c .before .d2 .given .1 ∙ (c .before .before .before .before .before .before .d .given .1 ∙ z .pre .5),
+      refl,
       λ b k ch hd f e n g l e₁ e₂ e₃ q v. framing-start (framed (a .w) b (now (a .s)) k ch hd q v (a .t) (a .size) (a .count) e₁ e₂ e₃) (now (a .d)) _ _ _ (z .pre .5) (x .numbers .ensures b) refl (y .reserved .ensures (b + 12)),
     )
 
+-- the frame that a turn writes ends in the body
+reach : (c : tie.In-loop Inv-loop μ-loop) →
+    let a = c .before .before .before .before .before .before .before .before .before .before .before .before .before .before .before .args in
+    c .before .loop .k + a .size ≤ length (now (a .s))
+reach c =
+    let a = c .before .before .before .before .before .before .before .before .before .before .before .before .before .before .before .args in
+    omega (arith, series-reach (c .before .loop .i) (a .count) 16 (a .size) (omega arith))
+
 add-end : tie.Need-add-end Inv-loop μ-loop
-add-end c = let z = c .before .before .before .before .before .before .before .before .before .before .before .before .before .before .before in
-    omega (arith, series-reach (c .before .loop .i) (z .args .count) 16 (z .args .size) (omega arith))
+add-end c = omega (arith, reach c)
+
+add-frame : tie.Need-add-frame Inv-loop μ-loop
+add-frame c = omega (arith, reach c)
 
 sub-frame : tie.Need-sub-frame Inv-loop μ-loop
 sub-frame c = search needs
@@ -86,8 +97,7 @@ part-frame-start : tie.Need-part-frame-start Inv-loop μ-loop
 part-frame-start c = search needs
 
 part-frame-end : tie.Need-part-frame-end Inv-loop μ-loop
-part-frame-end c = let z = c .before .before .before .before .before .before .before .before .before .before .before .before .before .before .before in
-    omega (arith, series-reach (c .before .loop .i) (z .args .count) 16 (z .args .size) (omega arith))
+part-frame-end c = omega (arith, reach c)
 
 sub-frame-2 : tie.Need-sub-frame-2 Inv-loop μ-loop
 sub-frame-2 c = search needs
@@ -96,11 +106,15 @@ part-frame-start-2 : tie.Need-part-frame-start-2 Inv-loop μ-loop
 part-frame-start-2 c = search needs
 
 part-frame-end-2 : tie.Need-part-frame-end-2 Inv-loop μ-loop
-part-frame-end-2 c = let z = c .before .before .before .before .before .before .before .before .before .before .before .before .before .before .before .before in
-    omega (arith, series-reach (c .before .before .loop .i) (z .args .count) 16 (z .args .size) (omega arith))
+part-frame-end-2 c = omega (arith, reach (c .before))
 
 frame-requires : tie.Need-frame-requires Inv-loop μ-loop
 frame-requires c κs = search needs
+
+add-from : tie.Need-add-from Inv-loop μ-loop
+add-from c =
+    let x = c .before .before .before .before .before in
+    omega (arith, reach x, x .before .before .before .before .before .before .before .before .before .before .before .before .before .before .before .good)
 
 add-i : tie.Need-add-i Inv-loop μ-loop
 add-i c = search needs
@@ -115,13 +129,15 @@ loop-again c =
     let l = x .before .loop in
     let z = x .before .before .before .before .before .before .before .before .before .before .before .before .before .before .before in
     let a = z .args in
-    let r : l .at + a .size ≤ length (now (a .s)) = omega (arith, series-reach (l .i) (a .count) 16 (a .size) (omega arith)) in
-    let m : l .at + a .size - l .at ≡ a .size = omega arith in (
+    let m : l .k + a .size - l .k ≡ a .size = omega arith in (
       search needs,
       omega (arith, mul-add (a .size) (l .i) 1),
-      r,
+      reach x,
       c .before .d3 .given .1 ∙ l .inv .3,
-      λ b k ch hd f e n g j e₁ e₂ e₃ q v. framing-more (l .inv .4 b k ch hd f e n g j e₁ e₂ e₃ q v) (l .at + a .size - l .at) (l .at + a .size - l .at) _ (x .loop-test .taken) r m m (y .frame .ensures (b + l .at) _ (l .i + 1) ch n g j),
+      omega arith,
+      λ b k ch hd f e n g j e₁ e₂ e₃ q v.
+          framing-more (l .inv .5 b k ch hd f e n g j e₁ e₂ e₃ q v) (l .k + a .size - l .k) (l .k + a .size - l .k) _ (x .loop-test .taken) (reach x) m m
+          (rw (l .inv .4) at (y .frame .ensures (b + l .k) (length (now (a .s)) - l .k) (l .i + 1) ch n g j)),
     )
 
 sub-copy-run : tie.Need-sub-copy-run Inv-loop μ-loop
@@ -154,7 +170,7 @@ returns c =
     let l = x .before .loop in
     let z = x .before .before .before .before .before .before .before .before .before .before .before .before .before .before .before in
     let h : l .i ≡ z .args .count = omega arith in
-    λ b k ch hd f e n g m e₁ e₂ e₃ q v. framing-end (l .inv .4 b k ch hd f e n g m e₁ e₂ e₃ q v) _ (c .before .before .before .before .before .loop-test .left) (rw h at (l .inv .1)) (l .inv .2) (c .before .before .copy-run .ensures)
+    λ b k ch hd f e n g m e₁ e₂ e₃ q v. framing-end (l .inv .5 b k ch hd f e n g m e₁ e₂ e₃ q v) _ (c .before .before .before .before .before .loop-test .left) (rw h at (l .inv .1)) (l .inv .2) (rw (l .inv .4) at (c .before .before .copy-run .ensures))
 
 pub frames-body-spec : {M : Type 1} → statement M
 frames-body-spec =
@@ -175,6 +191,7 @@ frames-body-spec =
     reserved-requires
     loop-holds
     add-end
+    add-frame
     sub-frame
     part-frame-start
     part-frame-end
@@ -182,6 +199,7 @@ frames-body-spec =
     part-frame-start-2
     part-frame-end-2
     frame-requires
+    add-from
     add-i
     loop-less
     loop-again

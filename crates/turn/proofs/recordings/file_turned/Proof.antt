@@ -12,7 +12,7 @@ use lib.Seq.{length-take-le}
 use Rattle.walk.specs.See.{see, goes}
 use Rattle.rules.specs.Rules.{Placed, recordings}
 use Rattle.judge.specs.Tabled.{Within}
-use Rattle.turn.proofs.Sent.{Sending, sending-start, sending-stop, sending-next, sending-end, file-copied}
+use Rattle.turn.proofs.Sent.{Sending, sending-start, sending-led, sending-stop, sending-next, sending-end, file-copied}
 use borrow.Author.Needs.{needs}
 use Rattle.turn.proofs.recordings.file_turned.Statement.{statement}
 use Rattle.turn.proofs.recordings.file_turned.Tie as tie
@@ -45,11 +45,8 @@ loop-holds c =
     let z = c .before .before .before .before .before .before .before .before in
     (search needs, search needs, omega (arith, c .before .out .given .1, z .pre .2), refl, tt, λ l e g. sending-start g)
 
-add-recording-at : tie.Need-add-recording-at Inv-loop μ-loop
-add-recording-at c = search needs
-
-recording-at-requires : tie.Need-recording-at-requires Inv-loop μ-loop
-recording-at-requires c κs = search needs
+recording-again-requires : tie.Need-recording-again-requires Inv-loop μ-loop
+recording-again-requires c κs = search needs
 
 enum-known-step : tie.Need-enum-known-step Inv-loop μ-loop
 enum-known-step c = search needs
@@ -64,13 +61,13 @@ returns : tie.Need-returns Inv-loop μ-loop
 returns c =
     let x = c .before .before in
     let l = x .before .before .loop in
-    λ f ps e h g. absurd (let u = l .inv .5 ps e g in sending-stop u (l .inv .1) (x .before .loop-test .taken) (rw (c .enum-told .given .1) at (x .recording-at .ensures .0 (u .held) (u .holds))))
+    λ f ps e h g. absurd (let u = l .inv .5 ps e g in let v = sending-led u (l .inv .1) (x .before .loop-test .taken) in sending-stop u (l .inv .1) (x .before .loop-test .taken) (rw (c .enum-told .given .1) at (x .recording-again .ensures .0 (u .held) _ (v .one) (v .mid) (u .holds) (v .is))))
 
 recording-requires : tie.Need-recording-requires Inv-loop μ-loop
 recording-requires c κs =
     let z = c .before .before .before .before .before .before .before .before .before .before .before .before .before .before .before in
     let l = c .before .before .before .before .before .before .loop in
-    let x = rw (c .before .before .step .given .1) at (c .before .before .before .before .recording-at .ensures .1) in
+    let x = rw (c .before .before .step .given .1) at (c .before .before .before .before .recording-again .ensures .1) in
     (x .0, x .1, z .pre .1, omega (arith, l .inv .2, l .inv .3), x .2)
 
 add-i : tie.Need-add-i Inv-loop μ-loop
@@ -86,13 +83,13 @@ loop-again c =
     let i = l .inv in
     let z = c .before .before .before .before .before .before .before .before .before .before .before .before .before .before .before .before .before .before in
     let s = c .before .before .before .before .before .step .given .1 in
-    let x = rw s at (y .recording-at .ensures .1) in (
+    let x = rw s at (y .recording-again .ensures .1) in (
       search needs,
       x .1,
       i .2,
       c .before .out2 .given ∙ i .3,
       x .2,
-      λ ps e g. let u = i .5 ps e g in sending-next u (i .1) _ (y .before .loop-test .taken) (omega (arith, i .2, z .pre .0)) (rw s at (y .recording-at .ensures .0 (u .held) (u .holds))) (c .before .before .recording .ensures),
+      λ ps e g. let u = i .5 ps e g in let v = sending-led u (i .1) (y .before .loop-test .taken) in sending-next u (i .1) _ (y .before .loop-test .taken) (omega (arith, i .2, z .pre .0)) (rw s at (y .recording-again .ensures .0 (u .held) _ (v .one) (v .mid) (u .holds) (v .is))) (c .before .before .recording .ensures),
     )
 
 same-length-2 : tie.Need-same-length-2 Inv-loop μ-loop
@@ -118,8 +115,7 @@ file-turned-spec =
     slice-aggregate-header-2
     header-requires
     loop-holds
-    add-recording-at
-    recording-at-requires
+    recording-again-requires
     enum-known-step
     enum-told
     same-length

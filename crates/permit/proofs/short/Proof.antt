@@ -1,0 +1,14 @@
+-- `permit::short` meets its contract.
+-- Assumes nothing.
+use borrow.Author.Tests.{le-leb, lt-leb}
+use Rattle.permit.proofs.short.Statement.{statement}
+use Rattle.permit.proofs.short.Tie as tie
+
+returns : tie.Need-returns
+returns c = rw (lt-leb (c .before .args .need) (c .before .args .room) (c .if1 .taken))
+
+returns-2 : tie.Need-returns-2
+returns-2 c = rw (le-leb (c .before .args .need) (c .before .args .room) (c .if1 .left))
+
+pub short-spec : {M : Type 1} → statement M
+short-spec = tie.close (tie.spec returns returns-2)

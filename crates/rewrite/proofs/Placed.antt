@@ -1,0 +1,100 @@
+-- A recording that is written anew: its canonical form is its head and what stands behind it, as long as its shape says, and it stands where the code wrote the two.
+-- Assumes nothing.
+use mathlib.Core.Path.{_≡_, sym, ap, _∙_}
+use mathlib.Core.Bool.{false}
+use mathlib.Core.List.{List, [], _∷_, _++_, append-nil}
+use mathlib.Core.Option.{Option}
+use Prim.Native.Nat.{ℕ, _+_, _-_, _≤_}
+use native.Mathlib.Omega.{arith}
+use lib.ListN.{length, take, drop, length-append}
+use Rattle.words.specs.declared.Order.{Order}
+use Rattle.words.specs.Runs.{pasted}
+use Rattle.words.proofs.Runs.{part-pasted, pasted-pasted}
+use Rattle.walk.specs.Walk.{render, size}
+use Rattle.walk.specs.See.{goes, see}
+use Rattle.walk.proofs.Laws.{length-render}
+use Rattle.walk.proofs.Seen.{body-length}
+use Rattle.rules.specs.Rules as R
+use Rattle.rules.specs.Canonical as C
+use Rattle.rules.proofs.Canon.{recording-size}
+use Rattle.rules.proofs.Renew.{record-size}
+use Rattle.records.specs.Says.{Kept}
+use Rattle.judge.specs.Tabled.{Stand}
+use Rattle.judge.specs.declared.tables.Places.{Places}
+use Rattle.copies.specs.Copy.{Pastes}
+use Rattle.copies.specs.declared.Way.{Way}
+use Rattle.copies.proofs.Pieces.{put}
+use Rattle.rewrite.specs.Shapes.{sizedFor, ShapeOf, ShapeIn, behindHead}
+use Rattle.rewrite.specs.declared.shapes.Sized.{Sized}
+use Rattle.rewrite.specs.declared.shapes.Shape.{Shape}
+use Rattle.rewrite.proofs.Framing.{render-record}
+use Rattle.rewrite.proofs.Lengths.{within}
+
+-- a head is 16 bytes long
+head-length : (o : Order) (h : R.Head) → length (render o (C.numerals h)) ≡ 16
+unfolding size
+head-length o h = length-render o (C.numerals h)
+
+-- what stands behind it fills the record
+behind-length : (o : Order) (r : R.Recording) → 16 + length (render o (behindHead r)) ≡ R.span (C.recordingHead 0 r)
+behind-length o r = omega (arith, length-render o (behindHead r), recording-size 0 r, record-size (C.recordingHead 0 r) (behindHead r))
+
+module _ (o : Order) (i : ℕ) (r : R.Recording) where
+  -- the two are the canonical form
+  in-two : render o (C.recordingEvents i (r ∷ [])) ≡ render o (C.numerals (C.recordingHead i r)) ++ render o (behindHead r)
+  unfolding C.recordingEvents
+  in-two = ap (render o) (append-nil (C.recordOf (C.recordingHead i r) (behindHead r))) ∙ render-record o (C.recordingHead i r) (behindHead r)
+
+  module _ (w : Sized) (e : w ≡ sizedFor (16 + size (C.content r))) where
+    -- it is as long as the size says
+    pub recording-length : length (render o (C.recordingEvents i (r ∷ []))) ≡ w .length
+    recording-length =
+        ap length in-two
+        ∙ (length-append (render o (C.numerals (C.recordingHead i r))) (render o (behindHead r))
+        ∙ (omega (arith, head-length o (C.recordingHead i r), behind-length o r) ∙ sym (ap (λ (x : Sized). x .length) e)))
+
+    -- the code wrote the two one behind the other
+    recording-placed : (out ys zs : List ℕ) (k n m : ℕ) → n ≡ 16 → 16 + m ≡ w .length → k ≤ length out →
+        ys ≡ render o (C.numerals (record { size = w .size; code = 10; serial = i; multiplier = w .multiplier })) → zs ≡ render o (behindHead r) →
+        Pastes out (put (k + 16) m (put k n out ys) zs) k (k + w .length) (render o (C.recordingEvents i (r ∷ [])))
+    recording-placed out ys zs k n m f g l p q =
+        λ room. (ap (λ (x : ℕ). k + x) (sym recording-length), whole)
+      where
+        first : length ys ≡ 16
+        first = ap length p ∙ head-length o _
+
+        behind : length zs ≡ m
+        behind = omega (arith, ap length q, behind-length o r, ap (λ (x : Sized). x .length) e)
+
+        joined : ys ++ zs ≡ render o (C.recordingEvents i (r ∷ []))
+        joined = rw (p, q, e) (sym in-two)
+
+        one : put k n out ys ≡ pasted out k ys
+        one = part-pasted out ys k n (first ∙ sym f)
+
+        whole : put (k + 16) m (put k n out ys) zs ≡ pasted out k (render o (C.recordingEvents i (r ∷ [])))
+        whole =
+            part-pasted (put k n out ys) zs (k + 16) m behind
+            ∙ (ap (λ (d : List ℕ). pasted d (k + 16) zs) one
+            ∙ (ap (λ (x : ℕ). pasted (pasted out k ys) (k + x) zs) (sym first)
+            ∙ (pasted-pasted out k ys zs l ∙ ap (pasted out k) joined)))
+
+-- the room behind the head of a record of n bytes at byte k
+pub room-behind : (d : List ℕ) (k n : ℕ) → 16 ≤ n → k + n ≤ length d → 16 + length (take (k + n - (k + 16)) (drop (k + 16) d)) ≡ n
+room-behind d k n f g = body-length k (k + n) d (omega arith) g ∙ omega arith
+
+-- the recording from byte p of the file on, of the shape f: the code wrote its head, and its body as a part of the file
+module _ (w : Way) (file : List ℕ) (p i : ℕ) (q : Places) (f : Shape) where
+  abbrev body : List ℕ
+  body = take (q .end - (p + 16)) (drop (p + 16) file)
+
+  pub recording-written : (out ys zs : List ℕ) (k n m : ℕ) → n ≡ 16 → 16 + m ≡ f .whole .length → k ≤ length out → ShapeIn (w .from) (p + 16) body f →
+      ((held : Option R.Held) (i : ℕ) (x : R.Placed) → see (w .from) 0 file p (R.recording held (length file - p) i) ≡ goes x (q .end) → Stand (w .from) file (q .channels) (q .count) (x .recording .channels) → q .frames ≡ p + x .layout .at140 → ShapeOf f x) →
+      ys ≡ render (w .to) (C.numerals (record { size = f .whole .size; code = 10; serial = i; multiplier = f .whole .multiplier })) →
+      (w .keep ≡ false → (held : Option R.Held) (h : R.Head) (x : R.Placed) (e : ℕ) → R.span h ≡ 16 + length body → length (x .recording .channels) ≡ q .count → Kept (w .from) file (q .channels + 32) (x .recording .channels) → ShapeIn (w .from) (p + 16) body f → ShapeOf f x → see (w .from) (p + 16) body (p + 16) (R.recordingBody held h) ≡ goes x e → zs ≡ render (w .to) (behindHead (x .recording))) →
+      w .keep ≡ false → (held : Option R.Held) (x : R.Placed) → see (w .from) 0 file p (R.recording held (length file - p) i) ≡ goes x (q .end) → Stand (w .from) file (q .channels) (q .count) (x .recording .channels) → q .frames ≡ p + x .layout .at140 →
+      Pastes out (put (k + 16) m (put k n out ys) zs) k (k + f .whole .length) (render (w .to) (C.recordingEvents i (x .recording ∷ [])))
+  recording-written out ys zs k n m e₁ e₂ l shape given first later clear held x g stand place =
+      let v = within (w .from) file p (q .end) held i g in
+      let s = given held i x g stand place in
+      recording-placed (w .to) i (x .recording) (f .whole) (s .whole) out ys zs k n m e₁ e₂ l first (later clear held (v .top) x (q .end) (v .fills) (stand .0) (stand .1) shape s (v .body))

@@ -1,0 +1,108 @@
+-- `frames::body_if_room` meets its contract: where the walk accepts the body, no test of the code fails, and it is written where there is room.
+-- x: behind its three numbers; z: the start. Assumes nothing.
+use mathlib.Core.Path.{_≡_, sym, ap, _∙_}
+use mathlib.Core.List.{List}
+use Prim.Native.Nat.{ℕ, _+_, _-_, _*_, _≤_}
+use native.Mathlib.Omega.{arith}
+use borrow.Author.Tests.{not-true, not-false}
+use denote.Ref.{now}
+use lib.ListN.{length, drop, length-drop}
+use lib.Seq.{length-take-le}
+use Rattle.walk.specs.See.{see, goes}
+use Rattle.rules.specs.Rules as R
+use Rattle.records.proofs.Facts.{both-true}
+use Rattle.copies.specs.Copy.{copy}
+use Rattle.copies.proofs.Onward.{pastes-whole, pastes-full}
+use Rattle.turn.proofs.Turning.{Framed, framed, framed-length, framed-fits}
+use borrow.Author.Needs.{needs}
+use Rattle.turn.proofs.frames.body_if_room.Statement.{statement}
+use Rattle.turn.proofs.frames.body_if_room.Tie as tie
+
+-- what an accepted body says of its numbers
+told : (x : tie.After-field3) →
+    let a = x .before .before .before .before .before .before .args in
+    let s = now (a .s) in
+    (b : ℕ) (c : R.Basic) (ch : List R.Channel) (hd : R.Head) (f : R.Frames) (e : ℕ) → R.span hd ≡ 16 + length s → see (a .w .from) b s b (R.framesBody c ch hd) ≡ goes f e →
+    Framed (a .w) b s ch (x .before .before .field .result) (x .before .field2 .result) (x .field3 .result) (copy (a .w) b s b (R.framesBody c ch hd))
+told x b c ch hd f e fills g =
+    let a = x .before .before .before .before .before .before .args in
+    framed (a .w) b (now (a .s)) c ch hd fills g _ _ _ (sym (x .before .before .field .ensures .0)) (sym (x .before .field2 .ensures .0)) (sym (x .field3 .ensures .0))
+
+-- what the code's test of them says
+fitted : (c : tie.Else2) →
+    let x = c .before .before .before .before in
+    (24 + c .before .before .sample-bytes .result ≤ x .before .field2 .result) × (16 + x .before .field2 .result * x .field3 .result ≤ length (now (x .before .before .before .before .before .before .args .s)))
+fitted c = let r = c .before .fits2 in both-true _ _ _ _ (r .result) (r .ensures) (not-false (r .result) (c .if2 .left))
+
+returns : tie.Need-returns
+returns c = (
+  c .before .before .before .before .before .before .before .pre .3,
+  λ b k ch hd f e n kept fills g. absurd (omega (arith, c .if1 .taken, told (c .before) b k ch hd f e fills g .short)),
+)
+
+returns-2 : tie.Need-returns-2
+returns-2 c =
+    let x = c .before .before .before .before in
+    let r = c .before .fits2 in
+    let m = c .before .before .sample-bytes in (
+      x .before .before .before .before .before .before .pre .3,
+      λ b k ch hd f e n kept fills g. absurd (framed-fits (told x b k ch hd f e fills g) (m .result) (r .result) (m .ensures ch n kept) (r .ensures) (not-true (r .result) (c .if2 .taken))),
+    )
+
+returns-3 : tie.Need-returns-3
+returns-3 c =
+    let z = c .before .before .before .before .before .before .before .before .before .before .before in
+    let a = z .args in (
+      z .pre .3,
+      λ b k ch hd f e n kept fills g.
+          pastes-full (now (a .out)) (now (a .out)) (a .k) (a .k) (copy (a .w) b (now (a .s)) b (R.framesBody k ch hd)) (omega (arith, c .if3 .taken, framed-length (a .w) b (now (a .s)) k ch hd fills g (z .pre .2))),
+    )
+
+add-filled : tie.Need-add-filled
+add-filled c = omega (arith, fitted (c .before) .0, c .before .before .before .before .before .before .field2 .ensures .1)
+
+frames-body-requires : tie.Need-frames-body-requires
+frames-body-requires c κs =
+    let z = c .before .before .before .before .before .before .before .before .before .before .before .before in
+    let a = z .args in
+    let l = length (now (a .s)) in
+    let t = fitted (c .before .before) in
+    let e : a .k + l - a .k ≡ l = omega arith in
+    (z .pre .0, omega (arith, c .before .before .before .before .before .if1 .left), omega arith, t .0, t .1, length-take-le (a .k + l - a .k) (drop (a .k) (now (a .out))) (rw length-drop (omega (arith, c .before .if3 .left))) ∙ e)
+
+returns-4 : tie.Need-returns-4
+returns-4 c =
+    let x = c .before .before .before .before .before .before .before .before .before in
+    let z = x .before .before .before .before .before .before in
+    let a = z .args in
+    let s = now (a .s) in
+    let m = c .before .before .before .before .before .before .before .sample-bytes in (
+      omega (arith, c .before .before .before .before .if3 .left, z .pre .3),
+      λ b k ch hd f e n kept fills g.
+          pastes-whole (now (a .out)) _ (copy (a .w) b s b (R.framesBody k ch hd)) (a .k) (a .k + length s)
+          (c .before .before .frames-body .ensures b k ch hd f e n kept (ap (λ (i : ℕ). 24 + i) (m .ensures ch n kept)) (sym (x .before .before .field .ensures .0)) (sym (x .before .field2 .ensures .0)) (sym (x .field3 .ensures .0)) fills g)
+          (omega (arith, framed-length (a .w) b s k ch hd fills g (z .pre .2))),
+    )
+
+pub body-if-room-spec : {M : Type 1} → statement M
+body-if-room-spec =
+    tie.close
+    (tie.spec
+    (λ c κs. search needs)
+    (λ c κs. search needs)
+    (λ c. search needs)
+    (λ c κs. search needs)
+    returns
+    (λ c κs. search needs)
+    (λ c κs. search needs)
+    returns-2
+    (λ c. search needs)
+    returns-3
+    add-filled
+    (λ c. search needs)
+    (λ c. search needs)
+    (λ c. search needs)
+    (λ c. search needs)
+    frames-body-requires
+    (λ c. search needs)
+    returns-4)
