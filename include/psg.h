@@ -95,6 +95,10 @@ struct psg_counted psg_table(const uint8_t *file, size_t length, int64_t *rows, 
 /* Writes the file in the other byte order: how many bytes. 18 where a maker's record stands in the way. */
 struct psg_counted psg_turn(const uint8_t *file, size_t length, uint8_t *out, size_t room);
 
+/* Writes the canonical form of the file in the byte order that the letter names, 'L' or 'B': how many bytes. 19 for another
+   letter; 18 where a maker's record stands in the way and the order is not the file's. */
+struct psg_counted psg_rewrite(const uint8_t *file, size_t length, uint8_t order, uint8_t *out, size_t room);
+
 /* How many channels and frames a recording has, and the seconds of a frame. */
 struct psg_facts psg_facts(const uint8_t *file, size_t length, size_t recording);
 

@@ -1,7 +1,8 @@
 #!/usr/bin/env bash
 # Compares the second program with the corpus, and the proved code with both: every file and every question of the
-# corpus, and files made afresh, through `listing` and through the library. The corpus stands beside the checkout, or
-# its archive is the argument. SEED and COUNT choose the files made afresh, ROUNDS those that go through the library.
+# corpus, and files made afresh, through `listing` and through the library, and a short run of many files at once. The
+# corpus stands beside the checkout, or its archive is the argument. SEED and COUNT choose the files made afresh, ROUNDS
+# those that go through the library.
 set -euo pipefail
 cd "$(dirname "$0")/.."
 corpus=${1:-../shared/corpus/files.tar.gz}
@@ -10,16 +11,21 @@ seed=${SEED:-$(date +%s)}
 count=${COUNT:-5000}
 rounds=${ROUNDS:-20000}
 
-(cd tests/second && cargo build --release --offline --quiet)
+for crate in tests/second tests/ask tests/agree bench; do
+    (cd "$crate" && cargo build --release --offline --quiet)
+done
 second=tests/second/target/release/second
-(cd tests/agree && cargo build --release --offline --quiet)
+ask=tests/ask/target/release/ask
 agree=tests/agree/target/release/agree
+load=bench/target/release/load
 files=$(mktemp -d)
 trap 'rm -rf "$files"' EXIT
 tar xzf "$corpus" -C "$files"
 "$second" corpus "$files/corpus"
-"$agree" corpus "$files/corpus"
+"$ask" "$files/corpus" <"$files/corpus/questions.ask" | diff - "$files/corpus/questions.ans"
+echo "$(wc -l <"$files/corpus/questions.ask") lines of the corpus through the library, 0 differences"
 "$agree" "$seed" "$rounds"
+"$load" --small
 differ=0 listed=0
 for f in "$files"/corpus/*.bin; do
     listed=$((listed + 1))

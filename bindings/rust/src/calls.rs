@@ -61,6 +61,8 @@ pub struct View {
 extern "C" {
     fn psg_table(file: *const u8, length: usize, rows: *mut i64, room: usize) -> Counted;
     fn psg_turn(file: *const u8, length: usize, out: *mut u8, room: usize) -> Counted;
+    fn psg_rewrite(file: *const u8, length: usize, order: u8, out: *mut u8, room: usize)
+        -> Counted;
 }
 
 pub fn table(file: &[u8], rows: &mut [i64]) -> Counted {
@@ -71,6 +73,19 @@ pub fn table(file: &[u8], rows: &mut [i64]) -> Counted {
 pub fn turn(file: &[u8], out: &mut [u8]) -> Counted {
     // SAFETY: both are whole slices, and the call keeps neither.
     unsafe { psg_turn(file.as_ptr(), file.len(), out.as_mut_ptr(), out.len()) }
+}
+
+pub fn rewrite(file: &[u8], order: u8, out: &mut [u8]) -> Counted {
+    // SAFETY: both are whole slices, and the call keeps neither.
+    unsafe {
+        psg_rewrite(
+            file.as_ptr(),
+            file.len(),
+            order,
+            out.as_mut_ptr(),
+            out.len(),
+        )
+    }
 }
 
 /// A question of the library, and its safe call.

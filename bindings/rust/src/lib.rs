@@ -1,5 +1,5 @@
-//! Recordings in the JSSR PSG common format 3.00: a file's table, questions about it, and turning it to the other byte
-//! order, by a library whose every function is proved to meet its contract.
+//! Recordings in the JSSR PSG common format 3.00: a file's table, questions about it, turning it to the other byte order,
+//! and writing it anew in its canonical form, by a library whose every function is proved to meet its contract.
 //!
 //! Every call judges the file itself and answers every file and every argument. Recordings, channels, items and frames
 //! are asked for from 1, samples from 0.
@@ -10,6 +10,7 @@
 //! assert_eq!((facts.channels, facts.frames, facts.seconds), (1, 1, 1));
 //! let turned = psg::turned(&file)?;
 //! assert_eq!(psg::turned(&turned)?, file);
+//! assert_eq!(psg::rewritten(&turned, b'L')?, psg::rewritten(&file, b'L')?);
 //! # Ok::<(), psg::Refusal>(())
 //! ```
 
@@ -124,6 +125,18 @@ pub fn turn(file: &[u8], out: &mut [u8]) -> Result<usize, Refusal> {
 pub fn turned(file: &[u8]) -> Result<Vec<u8>, Refusal> {
     let mut out = vec![0; file.len()];
     turn(file, &mut out)?;
+    Ok(out)
+}
+
+/// Writes the canonical file in the byte order asked for, `b'L'` or `b'B'`, into `out`: how many bytes.
+pub fn rewrite(file: &[u8], order: u8, out: &mut [u8]) -> Result<usize, Refusal> {
+    Ok(calls::rewrite(file, order, out).answer()?.count as usize)
+}
+
+/// The canonical file in the byte order asked for.
+pub fn rewritten(file: &[u8], order: u8) -> Result<Vec<u8>, Refusal> {
+    let mut out = vec![0; needed(rewrite(file, order, &mut []))?];
+    rewrite(file, order, &mut out)?;
     Ok(out)
 }
 

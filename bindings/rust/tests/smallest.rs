@@ -85,3 +85,19 @@ fn turning_twice_gives_the_file() {
     );
     assert_eq!(psg::turned(&turned), Ok(file));
 }
+
+#[test]
+fn rewriting_gives_the_canonical_file_in_either_order() {
+    let file = smallest();
+    let little = psg::rewritten(&file, b'L').unwrap();
+    let big = psg::rewritten(&file, b'B').unwrap();
+    assert_eq!(psg::rewritten(&big, b'L'), Ok(little.clone()));
+    assert_eq!(psg::turned(&little), Ok(big));
+    assert_eq!(psg::rewrite(&file, b'l', &mut []).unwrap_err().number, 19);
+    let mut out = [7; 570];
+    let refused = psg::rewrite(&file, b'L', &mut out[..561]).unwrap_err();
+    assert_eq!((refused.number, refused.position), (17, 562));
+    assert_eq!(out, [7; 570]);
+    assert_eq!(psg::rewrite(&file, b'L', &mut out), Ok(562));
+    assert_eq!(out[562..], [7; 8]);
+}

@@ -1,22 +1,79 @@
 //! Calls that write into a buffer lent to them: the answer, what they wrote, and that no other place was touched.
 
-use crate::library::answer;
+use ask::{marked, refused};
 use second::refusal::Refusal;
-use second::table;
+use second::table::{table, ROW_NUMBERS};
+use second::turn::turn;
 use std::fmt::Debug;
 
-/// What stands in a buffer before a call, by place, so that a byte moved from elsewhere in it shows.
-pub fn marked(length: usize) -> Vec<u8> {
-    (0..length).map(|at| (at * 31 + 7) as u8).collect()
+/// The first difference of the calls that write.
+pub fn written_differs(file: &[u8]) -> Option<String> {
+    table_differs(file)
+        .or_else(|| turn_differs(file))
+        .or_else(|| rewrite_differs(file))
 }
 
-/// Room to spare, just enough, one too little and none.
-pub fn rooms(need: usize) -> [usize; 4] {
-    [need + 9, need, need.saturating_sub(1), 0]
+fn table_differs(file: &[u8]) -> Option<String> {
+    call_differs(
+        "table",
+        file,
+        |rows| psg::table(file, rows).map(|count| ROW_NUMBERS * count),
+        |room| table(file, room).map(|rows| rows.concat()),
+    )
+}
+
+/// Where it answers, what it wrote is turned back and must be the file.
+fn turn_differs(file: &[u8]) -> Option<String> {
+    let there = call_differs(
+        "turn",
+        file,
+        |out| psg::turn(file, out),
+        |room| turn(file, room),
+    );
+    there.or_else(|| {
+        let there = psg::turned(file).ok()?;
+        let mut back = marked(file.len());
+        let again = refused(psg::turn(&there, &mut back));
+        differs("turn back", (again, &back), (Ok(file.len()), file))
+    })
+}
+
+/// In both orders, and in one that is none.
+fn rewrite_differs(file: &[u8]) -> Option<String> {
+    [b'L', b'B', b'b'].into_iter().find_map(|order| {
+        call_differs(
+            &format!("rewrite in {}", char::from(order)),
+            file,
+            |out| psg::rewrite(file, order, out),
+            |room| second::rewrite::rewrite(file, order.into(), room),
+        )
+    })
+}
+
+/// A call's first difference: with room to spare, just enough, one too little and none. A refused one gets room as well.
+fn call_differs<T: Copy + Debug + From<u8> + PartialEq>(
+    call: &str,
+    file: &[u8],
+    library: impl Fn(&mut [T]) -> Result<usize, psg::Refusal>,
+    second: impl Fn(u64) -> Result<Vec<T>, Refusal>,
+) -> Option<String> {
+    let need = second(u64::MAX).map_or(file.len(), |values| values.len());
+    let rooms = [need + 9, need, need.saturating_sub(1), 0];
+    rooms.into_iter().find_map(|room| {
+        let mut out = marked(room);
+        let found = refused(library(&mut out));
+        let said = second(room as u64);
+        let mut expected = marked(room);
+        if let Ok(values) = &said {
+            expected[..values.len()].copy_from_slice(values);
+        }
+        let said = said.map(|values| values.len());
+        differs(call, (found, &out), (said, &expected))
+    })
 }
 
 /// A difference, in words, where the two answers or what the buffer holds are not the same.
-pub fn differs<T: PartialEq + Debug>(
+fn differs<T: Debug + PartialEq>(
     call: &str,
     found: (Result<usize, Refusal>, &[T]),
     expected: (Result<usize, Refusal>, &[T]),
@@ -29,32 +86,4 @@ pub fn differs<T: PartialEq + Debug>(
     }
     let at = found.1.iter().zip(expected.1).position(|(a, b)| a != b)?;
     Some(format!("{call}: the buffer differs at {at}"))
-}
-
-/// The first difference of `table`, over the rooms.
-pub fn table_differs(file: &[u8]) -> Option<String> {
-    let need = table::table(file, u64::MAX).map_or(0, |rows| 4 * rows.len());
-    rooms(need)
-        .into_iter()
-        .find_map(|room| table_differs_in(file, room))
-}
-
-fn table_differs_in(file: &[u8], room: usize) -> Option<String> {
-    let before: Vec<i64> = marked(room).iter().map(|&b| i64::from(b) - 300).collect();
-    let mut rows = before.clone();
-    let found = answer(psg::table(file, &mut rows));
-    let said = table::table(file, room as u64);
-    let mut expected = before;
-    if let Ok(rows) = &said {
-        let numbers = rows.iter().flatten();
-        expected
-            .iter_mut()
-            .zip(numbers)
-            .for_each(|(place, &number)| *place = number);
-    }
-    differs(
-        "table",
-        (found, &rows),
-        (said.map(|rows| rows.len()), &expected),
-    )
 }

@@ -1,26 +1,43 @@
-//! `agree SEED COUNT`: files made afresh, valid and damaged, through the library and the second program.
+//! Files made afresh, valid and damaged, through the library and the second program.
 
-use crate::buffers::table_differs;
+use crate::buffers::written_differs;
 use crate::draw::{questions, Question, Random};
-use crate::questions::answer;
-use crate::turned::turn_differs;
-use second::{ask, generate, judge};
+use second::{generate, judge};
+use std::num::NonZero;
 use std::thread;
+use std::time::Instant;
 
-const THREADS: u64 = 2;
+/// When a run ends.
+#[derive(Clone, Copy)]
+pub enum Until {
+    Count(u64),
+    Time(Instant),
+}
 
-/// How many files were accepted, how many questions were asked, and the differences.
+impl Until {
+    /// Whether file `index` is still of the run.
+    fn takes(self, index: u64) -> bool {
+        match self {
+            Until::Count(count) => index < count,
+            Until::Time(end) => Instant::now() < end,
+        }
+    }
+}
+
+/// How many files there were, how many of them were accepted, how many questions were asked, and the differences.
 #[derive(Default)]
 pub struct Compared {
+    pub files: u64,
     pub accepted: u64,
     pub questions: u64,
     pub differences: Vec<String>,
 }
 
-pub fn compare(seed: u64, count: u64) -> Compared {
+pub fn compare(seed: u64, until: Until) -> Compared {
+    let threads = thread::available_parallelism().map_or(1, NonZero::get);
     let shares = thread::scope(|scope| {
-        let workers: Vec<_> = (0..THREADS)
-            .map(|first| scope.spawn(move || share(seed, first, count)))
+        let workers: Vec<_> = (0..threads)
+            .map(|first| scope.spawn(move || share(seed, (first as u64..).step_by(threads), until)))
             .collect();
         workers
             .into_iter()
@@ -29,6 +46,7 @@ pub fn compare(seed: u64, count: u64) -> Compared {
     });
     let mut all = Compared::default();
     for share in shares {
+        all.files += share.files;
         all.accepted += share.accepted;
         all.questions += share.questions;
         all.differences.extend(share.differences);
@@ -37,14 +55,15 @@ pub fn compare(seed: u64, count: u64) -> Compared {
 }
 
 /// One thread's share of the files.
-fn share(seed: u64, first: u64, count: u64) -> Compared {
+fn share(seed: u64, indices: impl Iterator<Item = u64>, until: Until) -> Compared {
     let mut compared = Compared::default();
-    for index in (first..count).step_by(THREADS as usize) {
+    for index in indices.take_while(|&index| until.takes(index)) {
         let file = generate::file(seed, index).bytes;
         let asked = questions(&file, &mut Random(seed ^ index.rotate_left(32)));
+        compared.files += 1;
         compared.accepted += u64::from(judge::judge(&file).is_ok());
         compared.questions += asked.len() as u64;
-        let differences = buffer_differs(&file)
+        let differences = written_differs(&file)
             .into_iter()
             .chain(asked.iter().filter_map(|one| answer_differs(&file, one)));
         let named = differences.map(|why| format!("file {index} of seed {seed}: {why}"));
@@ -53,13 +72,9 @@ fn share(seed: u64, first: u64, count: u64) -> Compared {
     compared
 }
 
-fn buffer_differs(file: &[u8]) -> Option<String> {
-    table_differs(file).or_else(|| turn_differs(file))
-}
-
 fn answer_differs(file: &[u8], one: &Question) -> Option<String> {
-    let found = answer(file, one.op, &one.args);
-    let expected = ask::answer(file, one.op, &one.args);
+    let found = ask::answer(file, one.op, &one.args).map(|answer| answer.values);
+    let expected = second::ask::answer(file, one.op, &one.args);
     (found != expected || found.is_none()).then(|| {
         format!(
             "{} {:?}: {found:?}, but the second program says {expected:?}",

@@ -1,27 +1,22 @@
-//! `agree SEED COUNT` and `agree corpus FOLDER`: what the proved library answers, and leaves in a buffer lent to it, is
-//! compared with what the second program says of files made afresh, and with the answers of a corpus.
+//! `agree SEED COUNT|SECONDSs`: what the proved library answers, and leaves in a buffer lent to it, is compared with what
+//! the second program says of files made afresh, valid and damaged: the verdict and the table, every question, turning
+//! there and back, and rewriting. So many files, or as many as the time allows (`600s`). Status 1
+//! means a difference.
 
 mod buffers;
-mod corpus;
 mod draw;
 mod files;
-mod library;
-mod questions;
-mod turned;
 
-use std::path::Path;
+use files::Until;
 use std::process::ExitCode;
+use std::time::{Duration, Instant};
 
-const USAGE: &str = "usage:
-  agree SEED COUNT
-  agree corpus FOLDER";
+const USAGE: &str = "usage: agree SEED COUNT|SECONDSs";
 
 fn main() -> ExitCode {
     let args: Vec<String> = std::env::args().skip(1).collect();
-    let args: Vec<&str> = args.iter().map(String::as_str).collect();
-    let ended = match args[..] {
-        ["corpus", folder] => of_corpus(Path::new(folder)),
-        [seed, count] => of_files(seed, count),
+    let ended = match &args[..] {
+        [seed, until] => number(seed).and_then(|seed| Ok(compare(seed, ending(until)?))),
         _ => Err(USAGE.to_string()),
     };
     match ended {
@@ -33,32 +28,32 @@ fn main() -> ExitCode {
     }
 }
 
-/// How many differences there are, each printed.
-fn of_corpus(folder: &Path) -> Result<usize, String> {
-    let compared = corpus::compare(folder).map_err(|why| format!("{}: {why}", folder.display()))?;
-    let last = format!(
-        "{} lines of the corpus through the library, {} that it does not have",
-        compared.lines, compared.others
-    );
-    Ok(report(&compared.differences, &last))
+fn number(word: &str) -> Result<u64, String> {
+    word.parse()
+        .map_err(|why| format!("{word}: {why}\n{USAGE}"))
 }
 
-fn of_files(seed: &str, count: &str) -> Result<usize, String> {
-    let number = |word: &str| {
-        word.parse()
-            .map_err(|why| format!("{word}: {why}\n{USAGE}"))
-    };
-    let (seed, count) = (number(seed)?, number(count)?);
-    let compared = files::compare(seed, count);
-    let last = format!(
-        "{count} files of seed {seed} through the library, {} of them accepted, {} questions",
-        compared.accepted, compared.questions
-    );
-    Ok(report(&compared.differences, &last))
+fn ending(word: &str) -> Result<Until, String> {
+    match word.strip_suffix('s') {
+        None => number(word).map(Until::Count),
+        Some(seconds) => Ok(Until::Time(
+            Instant::now() + Duration::from_secs(number(seconds)?),
+        )),
+    }
 }
 
-fn report(differences: &[String], last: &str) -> usize {
-    differences.iter().for_each(|line| println!("{line}"));
-    println!("{last}, {} differences", differences.len());
-    differences.len()
+/// How many differences there are, each printed. The seed is printed first too: a run that breaks off can be repeated.
+fn compare(seed: u64, until: Until) -> usize {
+    println!("seed {seed}");
+    let compared = files::compare(seed, until);
+    let differences = compared.differences.len();
+    compared
+        .differences
+        .iter()
+        .for_each(|line| println!("{line}"));
+    println!(
+        "{} files of seed {seed} through the library, {} of them accepted, {} questions, {differences} differences",
+        compared.files, compared.accepted, compared.questions
+    );
+    differences
 }

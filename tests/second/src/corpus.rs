@@ -1,6 +1,7 @@
 //! The comparison with a corpus: every NAME.out, and every question line.
 
-use crate::ask::Desk;
+use crate::ask::answer_to;
+use crate::lines::Desk;
 use crate::listing::listing;
 use std::fs;
 use std::io;
@@ -78,7 +79,7 @@ fn compare_questions(folder: &Path, comparison: &mut Comparison) -> io::Result<(
     for line in asked.lines() {
         comparison.questions += 1;
         let expected = answers.next().unwrap_or("(nothing)");
-        let own = desk.answer(line).unwrap_or_else(|why| why);
+        let own = answer_to(&mut desk, line).unwrap_or_else(|why| why);
         if own != expected {
             let difference = format!("{line}: `{expected}`, here `{own}`");
             comparison.differences.push(difference);

@@ -10,6 +10,7 @@ pub mod fnv;
 pub mod generate;
 pub mod header;
 pub mod judge;
+pub mod lines;
 pub mod listing;
 pub mod model;
 pub mod questions;

@@ -1,6 +1,7 @@
 //! The program `second`.
 
-use second::ask::Desk;
+use second::ask::answer_to;
+use second::lines::Desk;
 use second::{compare, corpus, generate, listing};
 use std::collections::BTreeMap;
 use std::fs::{self, File};
@@ -115,7 +116,7 @@ fn ask(folder: &Path) -> Ended {
     let mut desk = Desk::new(folder);
     let mut out = BufWriter::new(io::stdout().lock());
     for line in io::stdin().lines() {
-        let answer = desk.answer(&line.map_err(text)?)?;
+        let answer = answer_to(&mut desk, &line.map_err(text)?)?;
         writeln!(out, "{answer}").map_err(text)?;
     }
     out.flush().map_err(text)?;

@@ -1,0 +1,73 @@
+//! Buffers lent to a call, with marks, and what the call came to.
+
+use crate::refused;
+use second::header::MOST_RECORDINGS;
+use second::lines::{listed, written};
+use second::record::MOST_MULTIPLIER;
+use second::refusal::Refusal;
+use second::table::ROW_NUMBERS;
+
+/// What a call came to.
+#[derive(Debug, PartialEq, Eq)]
+pub struct Answer {
+    /// The values in the corpus' form, or the refusal.
+    pub values: Result<String, Refusal>,
+    /// The first place of the lent buffer that was written though the answer does not say so.
+    pub stray: Option<usize>,
+}
+
+/// What stands in a buffer before a call, by place, so that a value moved from elsewhere in it shows.
+fn mark<T: From<u8>>(at: usize) -> T {
+    T::from((at * 31 + 7) as u8)
+}
+
+pub fn marked<T: From<u8>>(length: usize) -> Vec<T> {
+    (0..length).map(mark).collect()
+}
+
+/// Room that no answer takes: padding may make each recording's canonical form longer, twice by less than a multiplier.
+const SPARE: usize = 2 * MOST_RECORDINGS * MOST_MULTIPLIER as usize;
+
+pub struct Lent<T> {
+    pub buffer: Vec<T>,
+}
+
+impl<T: From<u8> + PartialEq> Lent<T> {
+    /// As much room as is asked for, but no more than the answer can depend on.
+    pub fn new(file: &[u8], room: u64) -> Lent<T> {
+        let most = file.len() + SPARE;
+        let room = usize::try_from(room).map_or(most, |room| room.min(most));
+        Lent {
+            buffer: marked(room),
+        }
+    }
+
+    /// What the call came to, if it answered with so many values at the buffer's start.
+    fn answer(
+        &self,
+        count: Result<usize, psg::Refusal>,
+        values: impl Fn(&[T]) -> String,
+    ) -> Answer {
+        let from = count.unwrap_or(0);
+        Answer {
+            values: refused(count).map(|count| values(&self.buffer[..count])),
+            stray: (from..self.buffer.len()).find(|&at| self.buffer[at] != mark(at)),
+        }
+    }
+}
+
+impl Lent<i64> {
+    /// What `table` came to.
+    pub fn listed(&self, rows: Result<usize, psg::Refusal>) -> Answer {
+        self.answer(rows.map(|rows| ROW_NUMBERS * rows), |numbers| {
+            listed(numbers.len() / ROW_NUMBERS, numbers.iter())
+        })
+    }
+}
+
+impl Lent<u8> {
+    /// What a call that writes bytes came to.
+    pub fn written(&self, length: Result<usize, psg::Refusal>) -> Answer {
+        self.answer(length, written)
+    }
+}

@@ -1,0 +1,102 @@
+//! The questions of a corpus put to the proved library, and its answers in the corpus' form. A call that writes is lent a
+//! buffer with marks, so that a write beyond its answer shows.
+
+mod lent;
+
+pub use lent::{marked, Answer, Lent};
+
+use psg::{Calibration, Channel, Item, Text};
+use second::lines::joined;
+use second::refusal::Refusal;
+
+/// The library's answer; nothing when it has no such question.
+pub fn answer(file: &[u8], op: &str, args: &[u64]) -> Option<Answer> {
+    match (op, args) {
+        ("table", &[room]) => return Some(table(file, room)),
+        ("turn", &[room]) => return Some(bytes(file, room, |out| psg::turn(file, out))),
+        ("rewrite", &[order, room]) => {
+            let order = u8::try_from(order).ok()?;
+            return Some(bytes(file, room, |out| psg::rewrite(file, order, out)));
+        }
+        _ => {}
+    }
+    let values = refused(question(file, op, args)?);
+    Some(Answer {
+        values,
+        stray: None,
+    })
+}
+
+/// The library's refusal, as the second program has it.
+pub fn refused<T>(answer: Result<T, psg::Refusal>) -> Result<T, Refusal> {
+    answer.map_err(|refusal| Refusal::new(refusal.number, refusal.position))
+}
+
+fn table(file: &[u8], room: u64) -> Answer {
+    let mut lent = Lent::new(file, room);
+    let rows = psg::table(file, &mut lent.buffer);
+    lent.listed(rows)
+}
+
+fn bytes(
+    file: &[u8],
+    room: u64,
+    call: impl Fn(&mut [u8]) -> Result<usize, psg::Refusal>,
+) -> Answer {
+    let mut lent = Lent::new(file, room);
+    let length = call(&mut lent.buffer);
+    lent.written(length)
+}
+
+/// The questions that lend no buffer.
+fn question(file: &[u8], op: &str, args: &[u64]) -> Option<Result<String, psg::Refusal>> {
+    let args: Vec<usize> = args.iter().map(|&arg| arg as usize).collect();
+    Some(match (op, &args[..]) {
+        ("facts", &[r]) => psg::facts(file, r).map(|f| joined(&[f.channels, f.frames, f.seconds])),
+        ("channel", &[r, c]) => psg::channel(file, r, c).map(channel),
+        ("patient_item", &[r, i]) => psg::patient_item(file, r, i).map(item),
+        ("event_item", &[r, i]) => psg::event_item(file, r, i).map(item),
+        ("clock", &[r, f]) => psg::clock(file, r, f).map(|c| joined(&[c.hour, c.minute, c.second])),
+        ("count", &[r, f, c]) => psg::count(file, r, f, c).map(|n| n.to_string()),
+        ("view", &[r, f, c]) => Ok(view(file, psg::view(file, r, f, c))),
+        ("sample", &[r, f, c, s]) => psg::sample(file, r, f, c, s).map(sample),
+        _ => return None,
+    })
+}
+
+/// Where the part stands in the file, by its address, and its length.
+fn view(file: &[u8], part: &[u8]) -> String {
+    let start = part.as_ptr() as usize - file.as_ptr() as usize;
+    joined(&[start, part.len()])
+}
+
+fn text(text: Text) -> String {
+    joined(&[text.position, text.length])
+}
+
+fn item(item: Item) -> String {
+    format!("{} {}", item.code, text(item.text))
+}
+
+fn sample(sample: psg::Sample) -> String {
+    match sample {
+        psg::Sample::Whole(value) => format!("0 {value}"),
+        psg::Sample::Float(bits) => format!("1 {bits}"),
+    }
+}
+
+fn channel(c: Channel) -> String {
+    let first = joined(&[c.number, c.flags, c.kind, c.format, c.rate]);
+    let calibration = match c.calibration {
+        Calibration::Numbers(numbers) => format!("0 {}", joined(&numbers)),
+        Calibration::Floats(bits) => format!("1 {}", joined(&bits)),
+    };
+    let last = joined(&[
+        c.calibration_frequency,
+        c.low_cut,
+        c.high_cut,
+        c.sensitivity,
+    ]);
+    let texts = joined(&[c.label, c.unit, c.comment].map(text));
+    format!("{first} {calibration} {last} {texts}")
+}

@@ -1,0 +1,87 @@
+//! A sparse file of more than 2 GiB: listed, turned there and back, and rewritten through the library, and the canonical
+//! form compared with the second program's. `large PATH` makes the file at PATH, and leaves it there.
+
+mod file;
+
+use std::process::ExitCode;
+
+/// What a step did not come to.
+type Failed = String;
+
+fn main() -> ExitCode {
+    let Some(path) = std::env::args().nth(1) else {
+        eprintln!("usage: large PATH");
+        return ExitCode::from(2);
+    };
+    match run(&path) {
+        Ok(()) => ExitCode::SUCCESS,
+        Err(failed) => {
+            eprintln!("large: {failed}");
+            ExitCode::from(1)
+        }
+    }
+}
+
+fn run(path: &str) -> Result<(), Failed> {
+    file::make(path).map_err(|error| format!("{path}: {error}"))?;
+    let file = std::fs::read(path).map_err(|error| format!("{path}: {error}"))?;
+    println!("{path}: {} bytes", file.len());
+    listed(&file)?;
+    let turned = psg::turned(&file).map_err(|refusal| refusal.to_string())?;
+    turned_back(&file, &turned)?;
+    rewritten(&file, &turned)
+}
+
+/// The table: where the 140 and the frames stand, beyond 2 GiB too.
+fn listed(file: &[u8]) -> Result<(), Failed> {
+    let rows = psg::rows(file).map_err(|refusal| refusal.to_string())?;
+    let signals = rows.iter().find(|row| row.code == 140).ok_or("no 140")?;
+    same(
+        "the 140's length",
+        signals.length as u64,
+        file::signals().length(),
+    )?;
+    let frames: Vec<u64> = rows
+        .iter()
+        .filter(|row| row.code == 145)
+        .map(|row| row.position as u64)
+        .collect();
+    same("frames", frames, file::frames())?;
+    println!("listed: {} records", rows.len());
+    Ok(())
+}
+
+fn turned_back(file: &[u8], turned: &[u8]) -> Result<(), Failed> {
+    same("the turned letter", turned[16], b'B')?;
+    let back = psg::turned(turned).map_err(|refusal| refusal.to_string())?;
+    same("turned twice", back == file, true)?;
+    println!("turned: {} bytes, and back", turned.len());
+    Ok(())
+}
+
+/// In both orders, from the file and from its turned copy.
+fn rewritten(file: &[u8], turned: &[u8]) -> Result<(), Failed> {
+    for order in [b'L', b'B'] {
+        let anew = psg::rewritten(file, order).map_err(|refusal| refusal.to_string())?;
+        let other = psg::rewritten(turned, order).map_err(|refusal| refusal.to_string())?;
+        same("of the turned copy", anew == other, true)?;
+        drop(other);
+        let second = second::rewrite::rewrite(file, order.into(), u64::MAX);
+        let second = second.map_err(|refusal| format!("the second program: {refusal:?}"))?;
+        same("of the second program", anew == second, true)?;
+        let (size, multiplier) = file::canonical_signals(&anew);
+        println!(
+            "rewritten, {}: {} bytes; its 140 is {size} times {multiplier}",
+            order as char,
+            anew.len()
+        );
+    }
+    Ok(())
+}
+
+fn same<T: PartialEq + std::fmt::Debug>(what: &str, got: T, wanted: T) -> Result<(), Failed> {
+    if got == wanted {
+        return Ok(());
+    }
+    Err(format!("{what}: {got:?}, not {wanted:?}"))
+}
