@@ -116,18 +116,13 @@ fn eight_of_24(bytes: [u8; 24]) -> [u8; 24] {
 #[cfg(test)]
 mod tests {
     use super::*;
-    use crate::night::{rates, Night};
+    use crate::night::Night;
     use second::bytes::Order;
 
     #[test]
     fn every_width_is_turned_as_it_should() {
         for format in Format::ALL {
-            let night = Night {
-                format,
-                rates: rates(7),
-                frames: 3,
-                seed: 5,
-            };
+            let night = Night::new(format, 7, 3, 5);
             let (file, turned) = (
                 night.write(Order::Big).file,
                 night.write(Order::Little).file,

@@ -26,7 +26,7 @@ pub struct Written {
 
 /// The rates of so many channels, at most 500 and at least 100 Hz: two of muscle and heart, a third of brain and eyes,
 /// the others of breath and movement.
-pub fn rates(channels: usize) -> Vec<usize> {
+fn rates(channels: usize) -> Vec<usize> {
     let rate = |number| match number {
         0 | 1 => 500,
         _ if number % 3 == 0 => 200,
@@ -40,6 +40,16 @@ const PATIENT: [(i32, &str); 3] = [(1, "0001"), (11, "Night, Long"), (21, "1970"
 const EVENTS: [(i32, &str); 3] = [(4096, "lights out"), (4097, "lights on"), (0, "        ")];
 
 impl Night {
+    /// With so many channels, each at its usual rate.
+    pub fn new(format: Format, channels: usize, frames: usize, seed: u64) -> Night {
+        Night {
+            format,
+            rates: rates(channels),
+            frames,
+            seed,
+        }
+    }
+
     pub fn write(&self, order: Order) -> Written {
         let parts = [
             overview::LENGTH,
@@ -248,12 +258,7 @@ mod tests {
     #[test]
     fn the_second_program_reads_a_night_and_turns_it_into_the_other() {
         for format in Format::ALL {
-            let night = Night {
-                format,
-                rates: rates(5),
-                frames: 90,
-                seed: 7,
-            };
+            let night = Night::new(format, 5, 90, 7);
             let (little, big) = (night.write(Order::Little), night.write(Order::Big));
             assert_eq!(
                 table::table(&little.file, u64::MAX).as_ref(),

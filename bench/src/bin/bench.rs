@@ -7,7 +7,7 @@
 //! A ratio is the library's speed as a share of the other's: above 1 the library is the faster one.
 
 use nights::fastest;
-use nights::night::{rates, Night, EIGHT_HOURS};
+use nights::night::{Night, EIGHT_HOURS};
 use second::bytes::Order;
 use second::record::Format;
 use std::hint::black_box;
@@ -51,13 +51,7 @@ fn main() -> ExitCode {
         (24, Format::Signed24),
         (32, Format::Signed32),
     ] {
-        let night = Night {
-            format,
-            rates: rates(CHANNELS),
-            frames,
-            seed: 1,
-        };
-        let made = night.write(Order::Little);
+        let made = Night::new(format, CHANNELS, frames, 1).write(Order::Little);
         let mut races = vec![turn(bits)];
         if bits == 16 {
             races.extend(of_records());

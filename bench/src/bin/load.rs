@@ -9,7 +9,7 @@
 //! calls are timed, while all cores are calling.
 
 use ask::{Answer, Lent};
-use nights::night::{rates, Night, EIGHT_HOURS};
+use nights::night::{Night, EIGHT_HOURS};
 use psg::{Facts, Refusal};
 use second::bytes::Order;
 use second::lines::{listed, written};
@@ -125,19 +125,15 @@ struct Called {
 impl Work {
     /// Night `index`: 20 to 32 channels, eight nights in a row with as many, in either order.
     fn new(index: usize, frames: usize) -> Work {
-        let night = Night {
-            format: Format::Signed16,
-            rates: rates(20 + 3 * (index / 8)),
-            frames,
-            seed: index as u64,
-        };
+        let channels = 20 + 3 * (index / 8);
+        let night = Night::new(Format::Signed16, channels, frames, index as u64);
         let order = [Order::Little, Order::Big][index % 2];
         let turned = written(&night.write(order.other()).file);
         let made = night.write(order);
         let numbers = ROW_NUMBERS * made.rows.len();
         Work {
             facts: Facts {
-                channels: night.rates.len() as u32,
+                channels: channels as u32,
                 frames: frames as u32,
                 seconds: 1,
             },
