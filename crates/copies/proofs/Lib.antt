@@ -1,4 +1,1 @@
-pub mod Copying
-pub mod Filling
-pub mod Pieces
 pub mod Onward

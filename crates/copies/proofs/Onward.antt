@@ -23,15 +23,15 @@ use Rattle.rules.specs.Rules.{head, admit, span, fixed, basicBody, numberList, 
 use Rattle.rules.specs.declared.Head.{Head}
 use Rattle.rules.proofs.Room.{Rests, stays-basic, stays-itemsBody, stays-itemsRest, stays-channelsBody, stays-channelsRest}
 use Rattle.records.specs.Says.{headOf}
-use Rattle.judge.specs.Halves.{Tables, tables}
-use Rattle.table.specs.Rows.{Marks}
-use Rattle.table.proofs.Makers.{Listing, listing-none, listing-done, listing-more}
-use Rattle.table.proofs.Written.{wrote-counted}
-use Rattle.table.proofs.Lists.{admit-went, part-found, absent-lists, not-admitted, channels-found}
-use Rattle.copies.specs.Copy.{copy, Pastes, PartCopied, RecordCopied}
-use Rattle.copies.specs.declared.Way.{Way}
-use Rattle.copies.proofs.Copying.{copy-bind, copy-give, copy-body, length-copy, pastes-join, pastes-nothing}
-use Rattle.copies.proofs.Pieces.{Takes, copy-within, length-within, copy-text}
+use Rattle.tables.specs.Halves.{Tables, tables}
+use Rattle.rows.specs.Rows.{Marks}
+use Rattle.rows.proofs.Makers.{Listing, listing-none, listing-done, listing-more}
+use Rattle.rows.proofs.Written.{wrote-counted}
+use Rattle.rows.proofs.Lists.{admit-went, part-found, absent-lists, not-admitted, channels-found}
+use Rattle.bodies.specs.Copy.{copy, Pastes, PartCopied, RecordCopied}
+use Rattle.bodies.specs.declared.Way.{Way}
+use Rattle.bodies.proofs.Copying.{copy-bind, copy-give, copy-body, length-copy, pastes-join, pastes-nothing}
+use Rattle.bodies.proofs.Pieces.{Takes, copy-within, length-within, copy-text}
 
 -- a part of the buffer that a call wrote whole
 pub pastes-whole : (out ys xs : List ℕ) (k e : ℕ) → ys ≡ xs → e ≡ k + length xs → Pastes out (take k out ++ (ys ++ drop (e - k) (drop k out))) k e xs

@@ -1,11 +1,3 @@
-pub mod Halves
-pub mod Divided
-pub mod FramesBody
-pub mod Opened
-pub mod Parts
-pub mod Stands
-pub mod Tabled
-pub mod Signaled
 pub mod Recorded
 pub mod Recordings
 pub mod Led

@@ -24,20 +24,20 @@ use Rattle.rules.specs.declared.Frames.{Frames}
 use Rattle.rules.specs.declared.Refusal.{Refusal}
 use Rattle.rules.proofs.Room.{stays-recordingBody}
 use Rattle.records.specs.Says.{halts}
-use Rattle.judge.specs.Halves as H
+use Rattle.tables.specs.Halves as H
+use Rattle.tables.specs.Tabled.{Within, Room, placeOf, channelsIn, patientIn, heldAt, Keeps, Bounds, tabled}
+use Rattle.tables.specs.declared.Before.{Before}
+use Rattle.tables.specs.declared.Places.{Places}
+use Rattle.tables.specs.declared.Tabled.the-variants as Tabled
+use Rattle.tables.specs.declared.Tables.{Tables}
+use Rattle.tables.proofs.Halves.{halves}
+use Rattle.signals.specs.Signaled.{Known, Whole, Signaled}
+use Rattle.signals.specs.declared.frames.Framed.{Framed}
+use Rattle.signals.specs.declared.frames.Framed.the-variants as Framed
+use Rattle.signals.proofs.Signaled.{yields-signals}
 use Rattle.judge.specs.Recorded.{placesOf, placesFor, Places-of, recorded, Continues}
-use Rattle.judge.specs.Signaled.{Known, Whole, Signaled}
-use Rattle.judge.specs.Tabled.{Within, Room, placeOf, channelsIn, patientIn, heldAt, Keeps, Bounds, tabled}
-use Rattle.judge.specs.declared.frames.Framed.{Framed}
-use Rattle.judge.specs.declared.frames.Framed.the-variants as Framed
 use Rattle.judge.specs.declared.recording.Recorded.{Recorded}
 use Rattle.judge.specs.declared.recording.Recorded.the-variants as Recorded
-use Rattle.judge.specs.declared.tables.Before.{Before}
-use Rattle.judge.specs.declared.tables.Places.{Places}
-use Rattle.judge.specs.declared.tables.Tabled.the-variants as Tabled
-use Rattle.judge.specs.declared.tables.Tables.{Tables}
-use Rattle.judge.proofs.Halves.{halves}
-use Rattle.judge.proofs.Signaled.{yields-signals}
 
 -- the place of a part of a recording at `start`, whose body has n bytes: by the room, as the tables have it, and as the layout has it
 part-place : (start n room bytes at : ℕ) → bytes ≡ 16 + n → at ≡ bytes - room → placeOf (start + 16) n room ≡ start + at

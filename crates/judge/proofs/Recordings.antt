@@ -13,16 +13,16 @@ use Rattle.walk.specs.See.{stops, goes, see, over, ends, onward, Goes, Yields}
 use Rattle.walk.specs.Walk.{give, _>>=_}
 use Rattle.walk.proofs.Seen.{see-bind, over-then, stays-goes, yields-bind}
 use Rattle.rules.specs.Rules.{Held, Placed, recording, recordings}
+use Rattle.rules.specs.declared.Refusal.{Refusal}
 use Rattle.rules.proofs.Room.{stays-recording}
 use Rattle.records.specs.Says.{halts}
 use Rattle.records.proofs.Steps.{ends-cons}
+use Rattle.tables.specs.Tabled.{HeldAs}
+use Rattle.tables.specs.declared.Before.{Before}
+use Rattle.tables.specs.declared.Before.the-variants as Before
+use Rattle.tables.specs.declared.Places.{Places}
+use Rattle.tables.proofs.Stands.{yields-past}
 use Rattle.judge.specs.Recorded.{leaves, Places-of}
-use Rattle.judge.specs.Tabled.{HeldAs}
-use Rattle.rules.specs.declared.Refusal.{Refusal}
-use Rattle.judge.specs.declared.tables.Before.{Before}
-use Rattle.judge.specs.declared.tables.Before.the-variants as Before
-use Rattle.judge.specs.declared.tables.Places.{Places}
-use Rattle.judge.proofs.Stands.{yields-past}
 
 module _ (o : Order) (b : ℕ) (s : List ℕ) where
   recordings-suc : (at n : ℕ) (held : Option Held) (room i : ℕ) →

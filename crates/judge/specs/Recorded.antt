@@ -10,13 +10,13 @@ use Rattle.walk.specs.Walk.{pick}
 use Rattle.walk.specs.See.{Verdict, Goes}
 use Rattle.rules.specs.Rules as R
 use Rattle.records.specs.Says.{halts}
-use Rattle.judge.specs.declared.tables.Before.{Before}
-use Rattle.judge.specs.declared.tables.Before.the-variants as Before
-use Rattle.judge.specs.declared.tables.Places.{Places}
-use Rattle.judge.specs.declared.tables.Tables.{Tables}
+use Rattle.tables.specs.declared.Before.{Before}
+use Rattle.tables.specs.declared.Before.the-variants as Before
+use Rattle.tables.specs.declared.Places.{Places}
+use Rattle.tables.specs.declared.Tables.{Tables}
+use Rattle.tables.specs.Tabled.{channelsIn, patientIn, heldAt, Within, HeldAs}
 use Rattle.judge.specs.declared.recording.Recorded.{Recorded}
 use Rattle.judge.specs.declared.recording.Recorded.the-variants as Recorded
-use Rattle.judge.specs.Tabled.{channelsIn, patientIn, heldAt, Within, HeldAs}
 
 -- where a recording that starts here stands, as the walk's value has it: a 120 or a 130 of its own, or the one taken over from before
 abbrev pub placesOf : ℕ → Before → R.Placed → Places

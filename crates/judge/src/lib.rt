@@ -1,9 +1,5 @@
 // Judges a file by document 01: accepted, or refused by a number and a position.
-pub mod frames;
-pub mod header;
 pub mod recording;
-pub mod signals;
-pub mod tables;
 
 ghost use mathlib.Core.Path.{_≡_};
 ghost use mathlib.Core.Option.{none};
@@ -13,12 +9,12 @@ ghost use Rattle.walk.specs.See.{see, ends};
 ghost use Rattle.rules.specs.Rules as R;
 ghost use Rattle.records.specs.Says.{stepped, Beyond};
 ghost use Rattle.judge.specs.Judged.{refusalR, refusalJ, JudgedAs};
-use crate::header::Opened;
 use crate::recording::Recorded;
-use crate::tables::Before;
+use header::Opened;
 use records::Step;
 use rules::FileHeader;
 use rules::Refusal;
+use tables::Before;
 use words::Order;
 
 // A file that is accepted, or the refusal.

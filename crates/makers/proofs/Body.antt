@@ -21,9 +21,9 @@ use Rattle.rules.specs.Rules.{span, admit, makerCode, basic, next, part, channe
 use Rattle.rules.specs.declared.Head.{Head}
 use Rattle.rules.proofs.Room.{Rests, stays-basic, stays-channelsRest, stays-itemsRest, stays-framesRest}
 use Rattle.records.specs.Says.{headOf}
-use Rattle.table.specs.Rows.{Marks}
-use Rattle.table.proofs.Lists.{require-went, admit-went, items-lists, channels-found, frames-found, part-found, absent-lists, silent, silent-then, silent-padding}
-use Rattle.table.proofs.Body.{basic-lists}
+use Rattle.rows.specs.Rows.{Marks}
+use Rattle.rows.proofs.Lists.{require-went, admit-went, items-lists, channels-found, frames-found, part-found, absent-lists, silent, silent-then, silent-padding}
+use Rattle.rows.proofs.Body.{basic-lists}
 use Rattle.makers.specs.Makers.{firstMaker, found, foundP, Comes, Behind, Past}
 use Rattle.makers.specs.declared.Found.{Found}
 use Rattle.makers.specs.declared.Found.the-variants as Found

@@ -21,9 +21,9 @@ use Rattle.rules.specs.Rules.{Head, head, span, coded, admit, makerCode, Held, 
 use Rattle.rules.proofs.Room.{stays-recordingBody}
 use Rattle.judge.specs.Recorded.{leaves}
 use Rattle.judge.proofs.Led.{Led, led}
-use Rattle.table.proofs.Lists.{require-went, admit-went}
-use Rattle.table.proofs.Makers.{tell-head}
-use Rattle.table.proofs.Recorded.{led-rows}
+use Rattle.rows.proofs.Lists.{require-went, admit-went}
+use Rattle.rows.proofs.Makers.{tell-head}
+use Rattle.rows.proofs.Recorded.{led-rows}
 use Rattle.makers.specs.Makers.{firstMaker, found}
 use Rattle.makers.specs.declared.Found.{Found}
 use Rattle.makers.specs.declared.Found.the-variants as Found

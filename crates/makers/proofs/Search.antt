@@ -18,9 +18,9 @@ use Rattle.rules.specs.Rules as R
 use Rattle.rules.specs.Rules.{head, admit, next, makerCode}
 use Rattle.rules.specs.declared.Head.{Head}
 use Rattle.records.specs.Says.{headOf}
-use Rattle.table.specs.Rows.{seriesRows}
-use Rattle.table.proofs.Makers.{tell-head, listing-none, listing-stop, listing-done}
-use Rattle.table.proofs.Lists.{admit-went}
+use Rattle.rows.specs.Rows.{seriesRows}
+use Rattle.rows.proofs.Makers.{tell-head, listing-none, listing-stop, listing-done}
+use Rattle.rows.proofs.Lists.{admit-went}
 use Rattle.makers.specs.Makers.{firstMaker, Comes, Behind, Past, Inside}
 use Rattle.makers.specs.declared.Found.{Found}
 use Rattle.makers.specs.declared.Found.the-variants as Found

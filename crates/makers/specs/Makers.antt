@@ -14,7 +14,7 @@ use Rattle.rules.specs.Rules as R
 use Rattle.rules.specs.declared.Head.{Head}
 use Rattle.rules.specs.declared.Refusal.{Refusal}
 use Rattle.records.specs.Says.{headOf}
-use Rattle.table.specs.Rows.{Marks}
+use Rattle.rows.specs.Rows.{Marks}
 use Rattle.makers.specs.declared.Found.{Found}
 use Rattle.makers.specs.declared.Found.the-variants as Found
 use Rattle.makers.specs.declared.Passed.{Passed}

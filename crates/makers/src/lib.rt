@@ -1,7 +1,6 @@
 // The first maker's record of a file, which stands in the way of turning it.
 // Every function is safe for any bytes; what it finds is said of what was accepted.
 ghost use mathlib.Core.Path.{_≡_};
-ghost use mathlib.Core.Bool.{Bool};
 ghost use mathlib.Core.List.{List};
 ghost use mathlib.Core.Option.{Option, none};
 ghost use Prim.Native.Nat.{ℕ, _+_, _-_, _≤_, _<_};

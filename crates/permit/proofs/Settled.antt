@@ -13,7 +13,7 @@ use lib.ListN.{length, take, drop}
 use Rattle.words.specs.Runs.{pasted}
 use Rattle.words.proofs.Runs.{take-pasted, drop-pasted}
 use Rattle.walk.specs.Walk.{pick}
-use Rattle.permit.specs.Permit.{Answer, bytes, refusal, meaning, permitted, settled, Writes}
+use Rattle.permit.specs.Permit.{Answer, bytes, refusal, meaning, permitted, Writes}
 use Rattle.permit.specs.declared.Written.{Written}
 use Rattle.permit.specs.declared.Written.the-variants as Written
 

@@ -1,20 +1,20 @@
 -- Answers taken apart into numbers. Whatever a refusal does not say is 0.
 -- Assumes nothing.
 use Prim.Native.Nat.{ℕ}
-use lib.IntN.{ℤ, pos}
+use lib.IntN.{pos}
 use Rattle.words.specs.Floats.{bitsOf}
 use Rattle.words.specs.Values.{unsigned}
 use Rattle.table.specs.Table as Table
 use Rattle.permit.specs.Permit as Permit
-use Rattle.questions.specs.Answers.{Answer, value, refusal}
+use Rattle.find.specs.Answers.{Answer, value, refusal}
+use Rattle.find.specs.declared.Counts.{Counts}
+use Rattle.samples.specs.declared.Number.{Number}
+use Rattle.samples.specs.declared.Number.the-variants as Number
+use Rattle.samples.specs.declared.Time.{Time}
 use Rattle.questions.specs.declared.channels.Calibration.{Calibration}
 use Rattle.questions.specs.declared.channels.Calibration.the-variants as Calibration
 use Rattle.questions.specs.declared.channels.Descriptor.{Descriptor}
 use Rattle.questions.specs.declared.channels.Text.{Text}
-use Rattle.questions.specs.declared.find.Counts.{Counts}
-use Rattle.questions.specs.declared.frames.Number.{Number}
-use Rattle.questions.specs.declared.frames.Number.the-variants as Number
-use Rattle.questions.specs.declared.frames.Time.{Time}
 use Rattle.questions.specs.declared.items.Entry.{Entry}
 use Rattle.psg.specs.declared.answers.Channel.{Channel}
 use Rattle.psg.specs.declared.answers.Clock.{Clock}

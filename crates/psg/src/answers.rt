@@ -3,19 +3,19 @@ ghost use mathlib.Core.Path.{_≡_};
 ghost use Rattle.words.specs.Floats.{bitsOf};
 ghost use Rattle.words.specs.Values.{unsigned};
 ghost use Rattle.permit.specs.Permit.{meaning};
-ghost use Rattle.questions.specs.Answers.{value, refusal};
+ghost use Rattle.find.specs.Answers.{value, refusal};
 ghost use Rattle.questions.specs.Meanings.{meaningF, meaningD, meaningI, meaningT, meaningC, meaningS};
 ghost use Rattle.psg.specs.Flat.{counted, stopped, countedBytes, flatFacts, patternsOf, flatChannel, flatItem, flatClock, flatCount, flatSample};
+use find::Told;
 use permit::Written;
 use questions::channels::Calibration;
 use questions::channels::Described;
 use questions::channels::Descriptor;
-use questions::find::Told;
-use questions::frames::Number;
-use questions::frames::Sampled;
-use questions::frames::Timed;
 use questions::items::Itemed;
 use rules::Refusal;
+use samples::Number;
+use samples::Sampled;
+use samples::Timed;
 use words::Float;
 
 // How many rows, bytes or samples.
@@ -317,12 +317,12 @@ pub fn written_of(a: Written) -> Counted
     }
 }
 
-pub fn count_of(a: questions::frames::Counted) -> Counted
+pub fn count_of(a: samples::Counted) -> Counted
     ensures { λ r. ⌜ r ≡ flatCount (meaningC a) ⌝ }
 {
     match a {
-        questions::frames::Counted::Samples(n) => answered(n),
-        questions::frames::Counted::Refused(r) => refused(r),
+        samples::Counted::Samples(n) => answered(n),
+        samples::Counted::Refused(r) => refused(r),
     }
 }
 

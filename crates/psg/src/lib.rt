@@ -15,7 +15,7 @@ use crate::answers::Facts;
 use crate::answers::Item;
 use crate::answers::Sample;
 use crate::answers::View;
-use questions::frames::Ran;
+use samples::Ran;
 use table::Listed;
 
 // The table: how many rows of four numbers were written.
@@ -107,7 +107,7 @@ pub extern "C" fn psg_sample(
 pub extern "C" fn psg_view(file: &[u8], recording: usize, frame: usize, channel: usize) -> View
     ensures { λ a. ⌜ a ≡ flatView (viewOf (now (file .entry)) recording frame channel) ⌝ }
 {
-    let ran = questions::frames::samples_asked(file, recording, frame, channel);
+    let ran = samples::samples_asked(file, recording, frame, channel);
     let Ran::At(_, run) = ran else {
         return View {
             start: 0,

@@ -17,9 +17,9 @@ use Rattle.walk.specs.See.{goes, gate, see, Yields}
 use Rattle.walk.proofs.Seen.{and-left, yields, yields-bind, places, length-bytesAt}
 use Rattle.rules.specs.Rules.{between, Head, span, admit, Item, item, itemSize, itemBytes, itemList, itemsBody, items}
 use Rattle.records.proofs.Facts.{between-in}
-use Rattle.questions.specs.Answers.{value, refusal}
+use Rattle.find.specs.Answers.{value, refusal}
+use Rattle.find.proofs.Chosen.{numbered-in, numbered-out}
 use Rattle.questions.specs.Questions.{itemIn}
-use Rattle.questions.proofs.Chosen.{numbered-in, numbered-out}
 
 -- what a walk gives, and where it ends, is what `see` comes to
 yields-self : {A : Type 0} (o : Order) (b : ℕ) (s : List ℕ) (w : Walk A) (at : ℕ) → Yields o b s at w (λ a e. see o b s at w ≡ goes a e)

@@ -1,12 +1,5 @@
-pub mod Chosen
 pub mod Fields
-pub mod Framing
-pub mod Readings
-pub mod Replies
-pub mod Sampling
-pub mod Standing
-pub mod Stretch
-pub mod Reach
 pub mod Entries
 pub mod Owners
+pub mod Replies
 pub mod Unique

@@ -16,15 +16,17 @@ use Rattle.rules.proofs.Asked.{Rest, event-rest}
 use Rattle.rules.proofs.Held.{patient-rest-holds}
 use Rattle.records.specs.declared.Kind.{Kind}
 use Rattle.records.specs.declared.Kind.the-variants as Kind
-use Rattle.judge.specs.declared.tables.Held.{Held}
-use Rattle.judge.specs.declared.tables.Held.the-variants as Held
-use Rattle.judge.specs.declared.tables.Places.{Places}
-use Rattle.questions.specs.Answers.{Answer, refusal, outside, numbered, indexed}
-use Rattle.questions.specs.Questions.{Chosen, recordingOf, startOf, heldAt, at130, itemsOf, itemsAt, itemIn, itemOf}
-use Rattle.questions.specs.Found.{FoundIn, eventsIn, holdingOf}
+use Rattle.tables.specs.declared.Held.{Held}
+use Rattle.tables.specs.declared.Held.the-variants as Held
+use Rattle.tables.specs.declared.Places.{Places}
+use Rattle.find.specs.Answers.{Answer, refusal, outside, numbered, indexed}
+use Rattle.find.specs.Recordings.{Chosen, recordingOf, startOf, heldAt, at130}
+use Rattle.find.specs.Found.{FoundIn}
+use Rattle.find.proofs.Chosen.{One, ChosenIn, chosen-in}
+use Rattle.find.proofs.Standing.{found-seen, found-ends}
+use Rattle.questions.specs.Questions.{itemsOf, itemsAt, itemIn, itemOf}
+use Rattle.questions.specs.Holding.{eventsIn, holdingOf}
 use Rattle.questions.specs.declared.items.Entry.{Entry}
-use Rattle.questions.proofs.Chosen.{One, ChosenIn, chosen-in}
-use Rattle.questions.proofs.Standing.{found-seen, found-ends}
 use Rattle.questions.proofs.Entries.{items-inside}
 
 -- items that the walk of a 130 or a 200 at `at` comes to

@@ -19,19 +19,29 @@ use Rattle.rules.specs.Places.{bytesBefore, holder}
 use Rattle.rules.specs.Reading.{Value, valueOf}
 use Rattle.rules.proofs.Held.{channel-holds-at}
 use Rattle.rules.proofs.Places.{found-at}
-use Rattle.judge.specs.declared.tables.Places.{Places}
-use Rattle.questions.specs.Answers.{Answer, value, refusal, _>>=_}
-use Rattle.questions.specs.Found.{FoundIn, FrameIn, RunIn}
-use Rattle.questions.specs.Questions.{Chosen, recordingOf, heldAt, at120, channelOf, ChosenFrame, frameOf, clockOf, Samples, samplesOf, countOf, sampleOf, viewOf, Shows}
-use Rattle.questions.specs.Values.{numberIn, textAt, descriptorOf, timeOf}
+use Rattle.tables.specs.declared.Places.{Places}
+use Rattle.find.specs.Answers.{Answer, value, refusal, _>>=_}
+use Rattle.find.specs.Found.{FoundIn, countsOf}
+use Rattle.find.specs.Recordings.{Chosen, recordingOf, heldAt, at120}
+use Rattle.find.proofs.Chosen.{indexed-out, numbered-out, numbered-one, One, chosen-in}
+use Rattle.find.proofs.Standing.{found-seen}
+use Rattle.samples.specs.Asked.{FrameIn, RunIn}
+use Rattle.samples.specs.Frames.{ChosenFrame, frameOf, Samples, samplesOf, numberIn, timeOf}
+use Rattle.samples.specs.declared.Number.{Number}
+use Rattle.samples.specs.declared.Run.{Run}
+use Rattle.samples.specs.declared.Time.{Time}
+use Rattle.samples.proofs.Framing.{numbered-some, this-one}
+use Rattle.questions.specs.Questions.{factsOf, channelOf, clockOf, countOf, sampleOf, viewOf, Shows}
+use Rattle.questions.specs.Values.{textAt, descriptorOf}
 use Rattle.questions.specs.declared.channels.Descriptor.{Descriptor}
 use Rattle.questions.specs.declared.channels.Text.{Text}
-use Rattle.questions.specs.declared.frames.Number.{Number}
-use Rattle.questions.specs.declared.frames.Run.{Run}
-use Rattle.questions.specs.declared.frames.Time.{Time}
-use Rattle.questions.proofs.Chosen.{indexed-out, numbered-out, numbered-one, One, chosen-in}
-use Rattle.questions.proofs.Standing.{found-seen}
-use Rattle.questions.proofs.Framing.{numbered-some, this-one}
+
+-- M, F and T
+pub facts-found : {s : List ℕ} {i : ℕ} {o : Order} {q : Places} {r : Chosen} → FoundIn s i o q r → value (countsOf q) ≡ factsOf s i
+facts-found {q} {r} f =
+    let m : q .count ≡ length (r .this .recording .channels) = ap (λ (y : Places). y .count) (f .same) in
+    let t : q .seconds ≡ r .this .recording .seconds = ap (λ (y : Places). y .seconds) (f .same) in
+    rw (f .is) (ap value (λ n. record { channels = m n; frames = f .frames n; seconds = t n }))
 
 -- A channel
 

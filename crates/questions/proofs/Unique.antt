@@ -6,19 +6,19 @@ use Prim.Native.Nat.{ℕ}
 use denote.Ref.{RefT}
 use Rattle.rules.specs.declared.Refusal.{Refusal}
 use Rattle.records.specs.declared.Kind.{Kind}
-use Rattle.questions.specs.Answers.{Answer, value, refusal}
+use Rattle.find.specs.Answers.{Answer, value, refusal}
+use Rattle.find.specs.declared.Told.{Told}
+use Rattle.find.specs.declared.Told.the-variants as Told
+use Rattle.samples.specs.declared.Counted.{Counted}
+use Rattle.samples.specs.declared.Counted.the-variants as Counted
+use Rattle.samples.specs.declared.Sampled.{Sampled}
+use Rattle.samples.specs.declared.Sampled.the-variants as Sampled
+use Rattle.samples.specs.declared.Timed.{Timed}
+use Rattle.samples.specs.declared.Timed.the-variants as Timed
 use Rattle.questions.specs.Meanings.{meaningF, meaningD, meaningI, meaningT, meaningC, meaningS}
 use Rattle.questions.specs.Questions.{factsOf, channelOf, itemOf, clockOf, countOf, sampleOf, viewOf, Shows}
 use Rattle.questions.specs.declared.channels.Described.{Described}
 use Rattle.questions.specs.declared.channels.Described.the-variants as Described
-use Rattle.questions.specs.declared.find.Told.{Told}
-use Rattle.questions.specs.declared.find.Told.the-variants as Told
-use Rattle.questions.specs.declared.frames.Counted.{Counted}
-use Rattle.questions.specs.declared.frames.Counted.the-variants as Counted
-use Rattle.questions.specs.declared.frames.Sampled.{Sampled}
-use Rattle.questions.specs.declared.frames.Sampled.the-variants as Sampled
-use Rattle.questions.specs.declared.frames.Timed.{Timed}
-use Rattle.questions.specs.declared.frames.Timed.the-variants as Timed
 use Rattle.questions.specs.declared.items.Itemed.{Itemed}
 use Rattle.questions.specs.declared.items.Itemed.the-variants as Itemed
 

@@ -1,5 +1,4 @@
-pub mod Answers
 pub mod Values
 pub mod Questions
 pub mod Meanings
-pub mod Found
+pub mod Holding

@@ -1,21 +1,21 @@
 -- What each answer says: document 01's number and position, or the values.
 -- Assumes nothing.
 use Prim.Native.Nat.{ℕ}
-use Rattle.questions.specs.Answers.{Answer, value, refusal}
+use Rattle.find.specs.Answers.{Answer, value, refusal}
+use Rattle.find.specs.declared.Counts.{Counts}
+use Rattle.find.specs.declared.Told.{Told}
+use Rattle.find.specs.declared.Told.the-variants as Told
+use Rattle.samples.specs.declared.Counted.{Counted}
+use Rattle.samples.specs.declared.Counted.the-variants as Counted
+use Rattle.samples.specs.declared.Number.{Number}
+use Rattle.samples.specs.declared.Sampled.{Sampled}
+use Rattle.samples.specs.declared.Sampled.the-variants as Sampled
+use Rattle.samples.specs.declared.Time.{Time}
+use Rattle.samples.specs.declared.Timed.{Timed}
+use Rattle.samples.specs.declared.Timed.the-variants as Timed
 use Rattle.questions.specs.declared.channels.Described.{Described}
 use Rattle.questions.specs.declared.channels.Described.the-variants as Described
 use Rattle.questions.specs.declared.channels.Descriptor.{Descriptor}
-use Rattle.questions.specs.declared.find.Counts.{Counts}
-use Rattle.questions.specs.declared.find.Told.{Told}
-use Rattle.questions.specs.declared.find.Told.the-variants as Told
-use Rattle.questions.specs.declared.frames.Counted.{Counted}
-use Rattle.questions.specs.declared.frames.Counted.the-variants as Counted
-use Rattle.questions.specs.declared.frames.Number.{Number}
-use Rattle.questions.specs.declared.frames.Sampled.{Sampled}
-use Rattle.questions.specs.declared.frames.Sampled.the-variants as Sampled
-use Rattle.questions.specs.declared.frames.Time.{Time}
-use Rattle.questions.specs.declared.frames.Timed.{Timed}
-use Rattle.questions.specs.declared.frames.Timed.the-variants as Timed
 use Rattle.questions.specs.declared.items.Entry.{Entry}
 use Rattle.questions.specs.declared.items.Itemed.{Itemed}
 use Rattle.questions.specs.declared.items.Itemed.the-variants as Itemed

@@ -1,57 +1,26 @@
 -- The answer to each question about a file, by the rules' outcome for the file: its refusal, then 19 outside a range, then the values of the reading and where they stand.
 -- Assumes nothing.
 use mathlib.Core.Path.{_≡_}
-use mathlib.Core.Bool.{Bool}
-use mathlib.Core.List.{List, [], map}
+use mathlib.Core.List.{List, []}
 use Prim.Native.Nat.{ℕ, _+_, _-_, _*_}
 use lib.Dec.{eqb}
-use lib.ListN.{length, take, getD}
+use lib.ListN.{length, take}
 use denote.Ref.{RefT}
 use Rattle.words.specs.Numbers.{bytesAt}
-use Rattle.walk.specs.Walk.{pick, Outcome, refused, passed}
+use Rattle.walk.specs.Walk.{pick}
 use Rattle.rules.specs.Rules as R
-use Rattle.rules.specs.Places.{bytesBefore, holder}
-use Rattle.rules.specs.Reading.{Value, frameReading}
 use Rattle.records.specs.declared.Kind.{Kind}
 use Rattle.records.specs.declared.Kind.the-variants as Kind
-use Rattle.questions.specs.Answers.{Answer, value, refusal, _>>=_, indexed, numbered}
-use Rattle.questions.specs.Values.{numberIn, textAt, descriptorOf, entryOf, timeOf}
+use Rattle.find.specs.Answers.{Answer, value, refusal, _>>=_, indexed, numbered}
+use Rattle.find.specs.Recordings.{Chosen, recordingOf, startOf, at120, at130}
+use Rattle.find.specs.declared.Counts.{Counts}
+use Rattle.samples.specs.Frames.{frameOf, timeOf, Samples, samplesOf, numberIn}
+use Rattle.samples.specs.declared.Number.{Number}
+use Rattle.samples.specs.declared.Time.{Time}
+use Rattle.questions.specs.Values.{textAt, descriptorOf, entryOf}
 use Rattle.questions.specs.declared.channels.Descriptor.{Descriptor}
 use Rattle.questions.specs.declared.channels.Text.{Text}
-use Rattle.questions.specs.declared.find.Counts.{Counts}
-use Rattle.questions.specs.declared.frames.Number.{Number}
-use Rattle.questions.specs.declared.frames.Time.{Time}
 use Rattle.questions.specs.declared.items.Entry.{Entry}
-
--- A recording: the file's recordings, which of them it is, from 0, and what it is
-
-pub record Chosen : Type 0 where
-  pub all : List R.Placed
-  pub index : ℕ
-  pub this : R.Placed
-
-abbrev pub judged : Outcome R.File → ℕ → Answer Chosen
-judged (refused n p) i = refusal n p
-judged (passed v r t) i = numbered (v .recordings) i >>= λ x. value (record { all = v .recordings; index = i - 1; this = x })
-
-abbrev pub recordingOf : List ℕ → ℕ → Answer Chosen
-recordingOf s i = judged (R.judge s) i
-
--- where it starts
-abbrev pub startOf : Chosen → ℕ
-startOf r = 32 + bytesBefore (r .index) (r .all)
-
--- where the record stands that holds for it: in the recording itself, or in the nearest earlier one that has it
-unfoldable pub heldAt : (R.Recording → Bool) → (R.Layout → ℕ) → Chosen → ℕ
-heldAt own place r =
-    let k : ℕ = holder own (r .this .recording) (r .index) (map (λ (p : R.Placed). p .recording) (r .all)) in
-    32 + bytesBefore k (r .all) + place (getD (r .all) k (r .this) .layout)
-
-abbrev pub at120 : Chosen → ℕ
-at120 = heldAt (λ (r : R.Recording). r .ownChannels) (λ (l : R.Layout). l .at120)
-
-abbrev pub at130 : Chosen → ℕ
-at130 = heldAt (λ (r : R.Recording). r .ownPatient) (λ (l : R.Layout). l .at130)
 
 -- M, F and T
 
@@ -91,35 +60,12 @@ patientItemOf = itemOf Kind.Patient
 abbrev pub eventItemOf : List ℕ → ℕ → ℕ → Answer Entry
 eventItemOf = itemOf Kind.Event
 
--- A frame, and where it stands
-
-pub record ChosenFrame : Type 0 where
-  pub of : Chosen
-  pub frame : R.Frame
-  pub at : ℕ
-
-abbrev pub frameOf : List ℕ → ℕ → ℕ → Answer ChosenFrame
-frameOf s i j = do
-  r ← recordingOf s i
-  f ← numbered (r .this .recording .frames) j
-  value (record { of = r; frame = f; at = startOf r + r .this .layout .at140 + (32 + r .this .layout .frame * (j - 1)) })
+-- the clock time of a frame
 
 abbrev pub clockOf : List ℕ → ℕ → ℕ → Answer Time
 clockOf s i j = frameOf s i j >>= λ f. value (timeOf (f .frame))
 
--- The samples of a channel in a frame: where they stand, the channel's format, and their values
-
-pub record Samples : Type 0 where
-  pub at : ℕ
-  pub format : ℕ
-  pub values : List Value
-
-abbrev pub samplesOf : List ℕ → ℕ → ℕ → ℕ → Answer Samples
-samplesOf s i j k = do
-  f ← frameOf s i j
-  c ← numbered (f .of .this .recording .channels) k
-  vs ← numbered (frameReading (f .of .this .recording .channels) (f .frame) .channels) k
-  value (record { at = f .at + (24 + R.sampleBytes (f .of .this .recording .seconds) (take (k - 1) (f .of .this .recording .channels))); format = c .format; values = vs })
+-- the samples of a channel in a frame
 
 abbrev pub countOf : List ℕ → ℕ → ℕ → ℕ → Answer ℕ
 countOf s i j k = samplesOf s i j k >>= λ x. value (length (x .values))

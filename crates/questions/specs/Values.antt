@@ -1,28 +1,18 @@
 -- The values of the answers, by what the walk of the rules gives and where it stands.
 -- Assumes nothing.
-use mathlib.Core.List.{List}
 use Prim.Native.Nat.{ℕ, _+_}
 use lib.Dec.{eqb}
+use lib.ListN.{length}
 use Rattle.words.specs.Floats.{floatOf}
 use Rattle.words.specs.Values.{signed}
 use Rattle.walk.specs.Walk.{pick}
 use Rattle.rules.specs.Rules as R
-use Rattle.rules.specs.Reading.{Value, whole, float, channelReading, itemReading}
+use Rattle.rules.specs.Reading.{channelReading, itemReading}
 use Rattle.questions.specs.declared.channels.Calibration.{Calibration}
 use Rattle.questions.specs.declared.channels.Calibration.the-variants as Calibration
 use Rattle.questions.specs.declared.channels.Descriptor.{Descriptor}
 use Rattle.questions.specs.declared.channels.Text.{Text}
 use Rattle.questions.specs.declared.items.Entry.{Entry}
-use Rattle.questions.specs.declared.frames.Number.{Number}
-use Rattle.questions.specs.declared.frames.Number.the-variants as Number
-use Rattle.questions.specs.declared.frames.Run.{Run}
-use Rattle.questions.specs.declared.frames.Time.{Time}
-use lib.ListN.{length}
-
--- a number of the reading: a whole number, or the float of its bits
-abbrev pub numberIn : Value → Number
-numberIn (whole z) = Number.Whole z
-numberIn (float n) = Number.Float (floatOf n)
 
 -- four floats when the format is 4, else four whole numbers
 unfoldable pub calibrationOf : (format cal calAD offsetAD offsetCal : ℕ) → Calibration
@@ -53,10 +43,3 @@ descriptorOf c p = record {
 -- an item that stands at p
 abbrev pub entryOf : R.Item → ℕ → Entry
 entryOf i p = record { code = itemReading i .code; text = textAt (p + 8) (length (i .content)) }
-
-abbrev pub timeOf : R.Frame → Time
-timeOf f = record { hour = f .hour; minute = f .minute; second = f .second }
-
--- the samples of the channel c in the frame of t seconds at `at`, behind those of the channels before it
-abbrev pub runOf : ℕ → List R.Channel → R.Channel → ℕ → Run
-runOf t before c at = record { at = at + (24 + R.sampleBytes t before); count = R.samplesIn t c; format = c .format }

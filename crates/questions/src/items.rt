@@ -8,15 +8,15 @@ ghost use Rattle.walk.specs.See.{see, goes};
 ghost use Rattle.rules.specs.Rules as R;
 ghost use Rattle.questions.specs.Meanings.{meaningI};
 ghost use Rattle.questions.specs.Questions.{itemIn, itemOf};
-ghost use Rattle.questions.specs.Found.{holdingOf};
+ghost use Rattle.questions.specs.Holding.{holdingOf};
 use crate::channels::Text;
-use crate::find::Found;
-use judge::tables::Held;
-use judge::tables::Places;
+use find::Found;
 use records::Kind;
 use rules::Item;
 use rules::Items;
 use rules::Refusal;
+use tables::Held;
+use tables::Places;
 use words::Order;
 use words::int4;
 use words::number4;
@@ -61,7 +61,7 @@ fn item_in(o: Order, s: &[u8], at: usize, item: usize) -> Itemed
         return Itemed::Refused(Refusal(19, 0));
     }
     let count = number4(o, s, at + Items::COUNT);
-    if !crate::find::within(item, count) {
+    if !find::within(item, count) {
         return Itemed::Refused(Refusal(19, 0));
     }
     let p = item_place(o, s, at + Items::FIRST, item - 1);
@@ -96,9 +96,9 @@ fn holding(k: Kind, q: Places) -> Held
 pub fn item_asked(file: &[u8], k: Kind, recording: usize, item: usize) -> Itemed
     ensures { λ a. ⌜ meaningI a ≡ itemOf k (now (file .entry)) recording item ⌝ }
 {
-    let found = crate::find::recording_asked(file, recording);
+    let found = find::recording_asked(file, recording);
     let Found::At(order, q) = found else {
-        return Itemed::Refused(crate::find::of_found(found));
+        return Itemed::Refused(find::of_found(found));
     };
     let held = holding(k, q);
     match held {

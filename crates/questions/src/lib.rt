@@ -1,25 +1,26 @@
 // Questions about a file: each judges the file itself, and answers values or the refusal. Recordings, channels, items and frames are asked for from 1, samples from 0.
 pub mod channels;
-pub mod find;
-pub mod frames;
 pub mod items;
 
 ghost use mathlib.Core.Path.{_≡_};
 ghost use Rattle.questions.specs.Questions.{factsOf, channelOf, patientItemOf, eventItemOf, clockOf, countOf, sampleOf, viewOf, Shows};
 ghost use Rattle.questions.specs.Meanings.{meaningF, meaningD, meaningI, meaningT, meaningC, meaningS};
 use crate::channels::Described;
-use crate::find::Found;
-use crate::find::Told;
-use crate::frames::Counted;
-use crate::frames::Framed;
-use crate::frames::Ran;
-use crate::frames::Sampled;
-use crate::frames::Timed;
 use crate::items::Itemed;
+use find::Found;
+use find::Told;
 use records::Kind;
 use rules::Channel;
 use rules::Channels;
 use rules::Refusal;
+use samples::Counted;
+use samples::Framed;
+use samples::Ran;
+use samples::Sampled;
+use samples::Timed;
+
+// Samples are asked for from 0.
+const FIRST_SAMPLE: usize = 0;
 
 // How many channels and frames a recording has, and the seconds of a frame: M, F and T.
 pub fn facts(file: &[u8], recording: usize) -> Told
@@ -65,9 +66,9 @@ pub fn event_item(file: &[u8], recording: usize, item: usize) -> Itemed
 pub fn clock(file: &[u8], recording: usize, frame: usize) -> Timed
     ensures { λ a. ⌜ meaningT a ≡ clockOf (now (file .entry)) recording frame ⌝ }
 {
-    let framed = frames::frame_asked(file, recording, frame);
+    let framed = samples::frame_asked(file, recording, frame);
     match framed {
-        Framed::At(order, _, at) => Timed::At(frames::time_at(order, file, at)),
+        Framed::At(order, _, at) => Timed::At(samples::time_at(order, file, at)),
         Framed::Refused(r) => Timed::Refused(r),
     }
 }
@@ -76,7 +77,7 @@ pub fn clock(file: &[u8], recording: usize, frame: usize) -> Timed
 pub fn count(file: &[u8], recording: usize, frame: usize, channel: usize) -> Counted
     ensures { λ a. ⌜ meaningC a ≡ countOf (now (file .entry)) recording frame channel ⌝ }
 {
-    let ran = frames::samples_asked(file, recording, frame, channel);
+    let ran = samples::samples_asked(file, recording, frame, channel);
     match ran {
         Ran::At(_, run) => Counted::Samples(run.count),
         Ran::Refused(r) => Counted::Refused(r),
@@ -87,23 +88,23 @@ pub fn count(file: &[u8], recording: usize, frame: usize, channel: usize) -> Cou
 pub fn sample(file: &[u8], recording: usize, frame: usize, channel: usize, sample: usize) -> Sampled
     ensures { λ a. ⌜ meaningS a ≡ sampleOf (now (file .entry)) recording frame channel sample ⌝ }
 {
-    let ran = frames::samples_asked(file, recording, frame, channel);
+    let ran = samples::samples_asked(file, recording, frame, channel);
     let Ran::At(order, run) = ran else {
-        return Sampled::Refused(frames::of_ran(ran));
+        return Sampled::Refused(samples::of_ran(ran));
     };
     if run.count <= sample {
         return Sampled::Refused(Refusal(19, 0));
     }
-    let before = records::less(sample, frames::FIRST_SAMPLE);
+    let before = records::less(sample, FIRST_SAMPLE);
     let at = run.at + records::width(run.format) * before;
-    Sampled::Value(frames::number_at(order, file, at, run.format))
+    Sampled::Value(samples::number_at(order, file, at, run.format))
 }
 
 // The bytes of a channel in a frame, as a part of the file; the empty part at its start for a refusal and for a channel without samples.
 pub fn view(file: &[u8], recording: usize, frame: usize, channel: usize) -> &[u8]
     ensures { λ r. ⌜ Shows (file .entry) (viewOf (now (file .entry)) recording frame channel) r ⌝ }
 {
-    let ran = frames::samples_asked(file, recording, frame, channel);
+    let ran = samples::samples_asked(file, recording, frame, channel);
     let Ran::At(_, run) = ran else {
         return &file[0..0];
     };

@@ -10,13 +10,13 @@ use lib.ListN.{length}
 use Rattle.words.specs.declared.Order.{Order}
 use Rattle.walk.specs.See.{see, over, ends, onward, stops, goes}
 use Rattle.walk.proofs.Seen.{and-left}
-use Rattle.records.specs.Says.{headroom, fitsOf, FitsIn, tested}
-use Rattle.records.proofs.Steps.{next-stop, next-done, next-refused, next-more}
 use Rattle.rules.specs.Rules as R
+use Rattle.records.specs.Says.{headroom, fitsOf, FitsIn, tested}
 use Rattle.records.specs.declared.Tested.{Tested}
 use Rattle.records.specs.declared.Tested.the-variants as Tested
 use Rattle.records.specs.declared.Fits.{Fits}
 use Rattle.records.specs.declared.Fits.the-variants as Fits
+use Rattle.records.proofs.Steps.{next-stop, next-done, next-refused, next-more}
 
 pub fits-in : (f : Fits) (n : ℕ) → fitsOf f n ≡ true → FitsIn f n
 fits-in (Fits.Exactly m) n e = sym (eqb-true m n e)

@@ -6,15 +6,15 @@ use mathlib.Core.List.{List, [], _∷_}
 use Rattle.words.specs.Numbers.{numberAt}
 use lib.Dec.{leb, eqb}
 use Rattle.words.specs.declared.Order.{Order}
-use Rattle.rules.specs.declared.Refusal.{Refusal}
 use Rattle.walk.specs.See.{Verdict, stops, goes}
+use Rattle.rules.specs.declared.Refusal.{Refusal}
 use Rattle.rules.specs.Rules as R
 use Rattle.rules.specs.declared.Head.{Head}
+use Rattle.rules.specs.declared.Basic.{Basic}
 use Rattle.records.specs.declared.Headed.{Headed}
 use Rattle.records.specs.declared.Headed.the-variants as Headed
 use Rattle.records.specs.declared.Step.{Step}
 use Rattle.records.specs.declared.Step.the-variants as Step
-use Rattle.rules.specs.declared.Basic.{Basic}
 use Rattle.records.specs.declared.Basiced.{Basiced}
 use Rattle.records.specs.declared.Basiced.the-variants as Basiced
 use Rattle.records.specs.declared.Tested.{Tested}
@@ -33,6 +33,10 @@ halts r = stops (r .0) (r .1)
 -- a record's head, as the rules have it
 abbrev pub headOf : Head → R.Head
 headOf h = record { size = h .size; code = h .code; serial = h .serial; multiplier = h .multiplier }
+
+-- no record's head, at byte p
+abbrev pub noHead : ℕ → Head
+noHead p = record { at = p; size = 0; code = 0; serial = 0; multiplier = 0 }
 
 abbrev pub headed : ℕ → Headed → Verdict R.Head
 headed base (Headed.At h) = goes (headOf h) (base + (h .at + 16))

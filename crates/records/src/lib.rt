@@ -1,16 +1,16 @@
 // Judges a file by the rules of crate `rules`. Each answer is that of the rules' walk, by the contracts.
 ghost use mathlib.Core.Path.{_≡_};
-ghost use mathlib.Core.Bool.{Bool, true, false};
+ghost use mathlib.Core.Bool.{true, false};
 ghost use mathlib.Core.List.{List};
 ghost use Prim.Native.Nat.{ℕ, _+_, _-_, _*_, _≤_, _<_};
 ghost use lib.ListN.{length};
 ghost use lib.Dec.{leb, eqb};
 ghost use Rattle.words.specs.declared.Order.{Order};
-ghost use Rattle.words.specs.Numbers.{numberAt, bytesAt};
+ghost use Rattle.words.specs.Numbers.{numberAt};
 ghost use Rattle.walk.specs.See.{Verdict, gate, see, over, ends};
 ghost use Rattle.rules.specs.Rules as R;
 ghost use Rattle.rules.specs.Rules.{itemsBody, channelsBody, frameBody};
-ghost use Rattle.records.specs.Says.{headroom, Kept, headOf, headed, Placed, fitsOf, serialOf, stepped, Beyond, Advances, admitted, Admits, basicOf, basiced, okOf, Found, nexted, resumed, tested, refusalH, refusalS, refusalT};
+ghost use Rattle.records.specs.Says.{headroom, Kept, headOf, noHead, headed, Placed, fitsOf, serialOf, stepped, Beyond, Advances, admitted, Admits, basicOf, basiced, okOf, Found, nexted, resumed, tested, refusalH, refusalS, refusalT};
 use rules::Basic;
 use rules::Channel;
 use rules::Channels;
@@ -119,7 +119,7 @@ pub fn head_at(o: Order, s: &[u8], base: usize, p: usize) -> Headed
 
 // No record's head, at byte p.
 pub fn nothing(p: usize) -> Head
-    ensures { λ r. ⌜ r .at ≡ p ⌝ }
+    ensures { λ r. ⌜ r ≡ noHead p ⌝ }
 {
     Head {
         at: p,

@@ -1,7 +1,7 @@
 -- The answer of `rewrite` is the one that the rules fix for the file, the letter and the buffer, by what the calls in it say.
 -- Assumes nothing.
 use mathlib.Core.Path.{_≡_, refl, sym, ap, _∙_}
-use mathlib.Core.List.{List, [], _++_, map}
+use mathlib.Core.List.{List, _++_, map}
 use mathlib.Core.Option.{Option, none}
 use Prim.Native.Nat.{ℕ, _+_, _-_, _≤_, _<_}
 use native.Mathlib.Omega.{arith}
@@ -13,7 +13,7 @@ use Rattle.words.specs.Runs.{pasted}
 use Rattle.words.specs.declared.Order.{Order}
 use Rattle.walk.specs.Walk.{Walk, refused, render, size}
 use Rattle.walk.specs.Tell.{tell}
-use Rattle.walk.proofs.Laws.{size-append, length-render}
+use Rattle.walk.proofs.Laws.{length-render}
 use Rattle.walk.proofs.Tracing.{render-append}
 use Rattle.rules.specs.Rules as R
 use Rattle.rules.specs.Canonical as C
@@ -22,10 +22,10 @@ use Rattle.rules.proofs.Canon.{ContentsOk, file-ok, header-size}
 use Rattle.rules.proofs.Renew.{and-true}
 use Rattle.rules.proofs.Rewrite.{rewritten-of, reading-words}
 use Rattle.rules.proofs.Turn.{accepted}
+use Rattle.header.specs.Opened.{lettered}
+use Rattle.header.specs.declared.Lettered.{Lettered}
+use Rattle.header.specs.declared.Lettered.the-variants as Lettered
 use Rattle.judge.specs.Judged.{AcceptedAs}
-use Rattle.judge.specs.Opened.{lettered}
-use Rattle.judge.specs.declared.header.Lettered.{Lettered}
-use Rattle.judge.specs.declared.header.Lettered.the-variants as Lettered
 use Rattle.table.proofs.Answers.{listed}
 use Rattle.makers.specs.Makers.{firstMaker}
 use Rattle.permit.specs.Permit.{Answer, bytes, refusal, meaning, permitted, Writes}

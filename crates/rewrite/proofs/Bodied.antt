@@ -24,19 +24,19 @@ use Rattle.rules.specs.Rules.{Head, head, span, Basic, Channel, sampleBytes, Fr
 use Rattle.rules.specs.declared.Channels.{Channels}
 use Rattle.rules.proofs.Sized.{sized}
 use Rattle.records.specs.Says.{Kept}
-use Rattle.judge.specs.Halves.{Tables, tables}
-use Rattle.table.proofs.Lists.{admit-went}
-use Rattle.copies.specs.Copy.{copy, Pastes}
-use Rattle.copies.specs.declared.Way.{Way}
-use Rattle.copies.proofs.Pieces.{put}
-use Rattle.rewrite.specs.Shapes.{ShapeOf, ShapeIn, signalsIn, behindHead}
-use Rattle.rewrite.specs.declared.shapes.Shape.{Shape}
-use Rattle.rewrite.specs.declared.shapes.Sized.{Sized}
-use Rattle.rewrite.proofs.Canonic.{bare}
-use Rattle.rewrite.proofs.Chained.{tablesEvents, tables-bare, next-bare}
-use Rattle.rewrite.proofs.Framing.{begun, ended, render-record, padded-events}
-use Rattle.rewrite.proofs.Lengths.{Accepted, accepted}
-use Rattle.rewrite.proofs.Measures.{stands, in-body}
+use Rattle.tables.specs.Halves.{Tables, tables}
+use Rattle.rows.proofs.Lists.{admit-went}
+use Rattle.bodies.specs.Copy.{copy, Pastes}
+use Rattle.bodies.specs.declared.Way.{Way}
+use Rattle.bodies.proofs.Pieces.{put}
+use Rattle.shapes.specs.Shapes.{ShapeOf, ShapeIn, signalsIn, behindHead}
+use Rattle.shapes.specs.declared.Shape.{Shape}
+use Rattle.shapes.specs.declared.Sized.{Sized}
+use Rattle.shapes.proofs.Canonic.{bare}
+use Rattle.shapes.proofs.Chained.{tablesEvents, tables-bare, next-bare}
+use Rattle.shapes.proofs.Lengths.{Accepted, accepted}
+use Rattle.shapes.proofs.Measures.{stands, in-body}
+use Rattle.anew.proofs.Framing.{begun, ended, render-record, padded-events}
 
 -- the first of the bytes that are written first
 take-written : (d₀ d₁ t h : List ℕ) (at : ℕ) → length t ≡ at → d₁ ≡ pasted d₀ 0 (t ++ h) → take at d₁ ≡ t

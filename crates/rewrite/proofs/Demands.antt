@@ -16,9 +16,9 @@ use Rattle.rules.specs.Rules.{File, judge, orderOf}
 use Rattle.rules.specs.Turned.{turned}
 use Rattle.rules.proofs.Rewrite.{rewrite-canonical, rewrite-order, rewrite-turned}
 use Rattle.rules.proofs.Turn.{turn-judge}
-use Rattle.judge.specs.Opened.{lettered}
-use Rattle.judge.specs.declared.header.Lettered.the-variants as Lettered
-use Rattle.copies.specs.Copy.{sameOrder}
+use Rattle.header.specs.Opened.{lettered}
+use Rattle.header.specs.declared.Lettered.the-variants as Lettered
+use Rattle.bodies.specs.Copy.{sameOrder}
 use Rattle.makers.specs.Makers.{firstMaker}
 use Rattle.permit.specs.declared.Written.{Written}
 use Rattle.permit.specs.declared.Written.the-variants as Written

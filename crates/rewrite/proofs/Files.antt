@@ -20,17 +20,17 @@ use Rattle.rules.specs.Rules as R
 use Rattle.rules.specs.Rules.{recording, recordings}
 use Rattle.rules.specs.Canonical as C
 use Rattle.rules.proofs.Canon.{recording-size}
+use Rattle.tables.specs.Tabled.{Stand, HeldAs}
+use Rattle.tables.specs.declared.Before.{Before}
+use Rattle.tables.specs.declared.Before.the-variants as Before
+use Rattle.tables.specs.declared.Places.{Places}
 use Rattle.judge.specs.Recorded.{leaves, Places-of}
-use Rattle.judge.specs.Tabled.{Stand, HeldAs}
-use Rattle.judge.specs.declared.tables.Before.{Before}
-use Rattle.judge.specs.declared.tables.Before.the-variants as Before
-use Rattle.judge.specs.declared.tables.Places.{Places}
 use Rattle.judge.proofs.Led.{Led, led, led-stop}
-use Rattle.copies.specs.Copy.{Pastes}
-use Rattle.rewrite.specs.Shapes.{ShapeOf, Bounded, Given, lengthIn, behindHead}
-use Rattle.rewrite.specs.declared.shapes.Sized.{Sized}
-use Rattle.rewrite.specs.declared.shapes.Shaped.{Shaped}
-use Rattle.rewrite.specs.declared.shapes.Shaped.the-variants as Shaped
+use Rattle.bodies.specs.Copy.{Pastes}
+use Rattle.shapes.specs.Shapes.{ShapeOf, Bounds, Each, Given, lengthIn, behindHead}
+use Rattle.shapes.specs.declared.Sized.{Sized}
+use Rattle.shapes.specs.declared.Shaped.{Shaped}
+use Rattle.shapes.specs.declared.Shaped.the-variants as Shaped
 
 -- the canonical events of recordings that the walk read, with the serials from i on
 abbrev pub eventsOf : ℕ → List R.Placed → List Event
@@ -55,7 +55,7 @@ given-size (Shaped.On f) i x g = ap (λ (z : Sized). z .length) (g .whole) ∙ s
 given-size Shaped.Nothing i x g = absurd g
 
 -- no shape asks for more
-pub length-most : (n : ℕ) (a : Shaped) → Bounded n a → lengthIn a < 549755813888
+pub length-most : (n : ℕ) (a : Shaped) → Each a (Bounds n) → lengthIn a < 549755813888
 length-most n (Shaped.On f) b = b .most
 length-most n Shaped.Nothing b = omega arith
 

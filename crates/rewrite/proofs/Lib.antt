@@ -1,8 +1,4 @@
-pub mod Canonic
-pub mod Chained
-pub mod Lengths
-pub mod Measures
-pub mod Framing
+pub mod Headed
 pub mod Bodied
 pub mod Placed
 pub mod Files

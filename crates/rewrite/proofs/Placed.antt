@@ -19,16 +19,16 @@ use Rattle.rules.specs.Canonical as C
 use Rattle.rules.proofs.Canon.{recording-size}
 use Rattle.rules.proofs.Renew.{record-size}
 use Rattle.records.specs.Says.{Kept}
-use Rattle.judge.specs.Tabled.{Stand}
-use Rattle.judge.specs.declared.tables.Places.{Places}
-use Rattle.copies.specs.Copy.{Pastes}
-use Rattle.copies.specs.declared.Way.{Way}
-use Rattle.copies.proofs.Pieces.{put}
-use Rattle.rewrite.specs.Shapes.{sizedFor, ShapeOf, ShapeIn, behindHead}
-use Rattle.rewrite.specs.declared.shapes.Sized.{Sized}
-use Rattle.rewrite.specs.declared.shapes.Shape.{Shape}
-use Rattle.rewrite.proofs.Framing.{render-record}
-use Rattle.rewrite.proofs.Lengths.{within}
+use Rattle.tables.specs.Tabled.{Stand}
+use Rattle.tables.specs.declared.Places.{Places}
+use Rattle.rows.proofs.Recorded.{within}
+use Rattle.bodies.specs.Copy.{Pastes}
+use Rattle.bodies.specs.declared.Way.{Way}
+use Rattle.bodies.proofs.Pieces.{put}
+use Rattle.shapes.specs.Shapes.{sizedFor, ShapeOf, ShapeIn, behindHead}
+use Rattle.shapes.specs.declared.Sized.{Sized}
+use Rattle.shapes.specs.declared.Shape.{Shape}
+use Rattle.anew.proofs.Framing.{render-record}
 
 -- a head is 16 bytes long
 head-length : (o : Order) (h : R.Head) → length (render o (C.numerals h)) ≡ 16

@@ -8,12 +8,12 @@ use Rattle.words.specs.declared.Order.{Order}
 use Rattle.walk.specs.Walk.{Event, pick, Outcome, refused, passed, rows}
 use Rattle.rules.specs.Rules as R
 use Rattle.rules.specs.Canonical as C
-use Rattle.judge.specs.Opened.{lettered}
-use Rattle.judge.specs.declared.header.Lettered.{Lettered}
-use Rattle.judge.specs.declared.header.Lettered.the-variants as Lettered
-use Rattle.copies.specs.Copy.{sameOrder}
+use Rattle.header.specs.Opened.{lettered}
+use Rattle.header.specs.declared.Lettered.{Lettered}
+use Rattle.header.specs.declared.Lettered.the-variants as Lettered
+use Rattle.bodies.specs.Copy.{sameOrder}
 use Rattle.makers.specs.Makers.{firstMaker}
-use Rattle.permit.specs.Permit.{Answer, bytes, refusal, permitted, settled}
+use Rattle.permit.specs.Permit.{Answer, refusal, permitted, settled}
 
 -- a maker's record stands in the way only where the order asked for is not the file's
 abbrev pub barrier : Order → Order → Option ℕ → Option ℕ

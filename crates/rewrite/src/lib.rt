@@ -1,8 +1,5 @@
 // Writes a file anew, in its one canonical form.
-pub mod frames;
-pub mod heads;
 pub mod recordings;
-pub mod shapes;
 
 ghost use mathlib.Core.Path.{_≡_};
 ghost use mathlib.Core.List.{List};
@@ -15,8 +12,8 @@ ghost use Rattle.rules.specs.Rules as R;
 ghost use Rattle.makers.specs.Makers.{firstMaker, found};
 ghost use Rattle.permit.specs.Permit.{meaning};
 ghost use Rattle.rewrite.specs.Rewrite.{barrier, answerOf, afterwards};
+use header::Lettered;
 use judge::Judged;
-use judge::header::Lettered;
 use makers::Found;
 use permit::Written;
 use rules::Refusal;
@@ -28,7 +25,7 @@ fn in_the_way(o: Order, to: Order, file: &[u8], count: u32) -> Found
     ensures { λ a. ⌜ ((ps : List R.Placed) (e : ℕ) → see o 0 (now (file .entry)) 32 (R.recordings count none (length (now (file .entry)) - 32) 1) ≡ goes ps e → found a ≡ barrier o to (firstMaker (tell o 0 (now (file .entry)) 32 (R.recordings count none (length (now (file .entry)) - 32) 1)))) ⌝ }
 {
     let made = makers::first_maker(o, file, count);
-    if copies::runs::same_order(o, to) {
+    if bodies::runs::same_order(o, to) {
         return Found::Nothing;
     }
     made
@@ -42,7 +39,7 @@ pub fn rewrite(file: &[u8], order: u8, out: &mut [u8]) -> Written
     let Judged::Accepted(h) = judged else {
         return Written::Refused(judge::of_judged(judged));
     };
-    let asked = judge::header::order_of(order as u32);
+    let asked = header::order_of(order as u32);
     let Lettered::Names(to) = asked else {
         return Written::Refused(Refusal(19, 0));
     };

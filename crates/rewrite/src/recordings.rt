@@ -11,34 +11,33 @@ ghost use Rattle.walk.specs.See.{see, goes};
 ghost use Rattle.rules.specs.Rules as R;
 ghost use Rattle.rules.specs.Canonical as C;
 ghost use Rattle.records.specs.Says.{Kept};
-ghost use Rattle.judge.specs.Tabled.{Room, Stand};
-ghost use Rattle.copies.specs.Copy.{Pastes};
-ghost use Rattle.rewrite.specs.Shapes.{ShapeOf, ShapeIn, Bounds, Bounded, Each, Given, lengthIn, behindHead};
-use crate::frames::frames_body;
-use crate::heads::put_head;
-use crate::shapes::Shape;
-use crate::shapes::Shaped;
-use crate::shapes::read_shape;
-use copies::Way;
-use copies::runs::letter;
-use copies::tables;
+ghost use Rattle.tables.specs.Tabled.{Room, Stand};
+ghost use Rattle.bodies.specs.Copy.{Pastes};
+ghost use Rattle.shapes.specs.Shapes.{ShapeOf, ShapeIn, Bounds, Each, Given, lengthIn, behindHead};
+use anew::frames::frames_body;
+use anew::heads::put_head;
+use bodies::Way;
+use bodies::runs::letter;
+use bulk::clear_run;
+use bulk::copy_run;
 use judge::recording::Recorded;
 use judge::recording::recording_again;
-use judge::tables::Before;
-use judge::tables::Places;
 use rules::Channels;
 use rules::FileHeader;
 use rules::Frames;
 use rules::Head;
 use rules::Recording;
+use shapes::Shape;
+use shapes::Shaped;
+use shapes::read_shape;
+use tables::Before;
+use tables::Places;
 use words::Order;
-use words::clear_run;
-use words::copy_run;
 
 // The shape of the recording from byte p on, which has these places.
 fn shape_at(o: Order, file: &[u8], p: usize, q: Places) -> Shaped
     requires { ⌜ (p ≤ q .end) × (q .end ≤ length (now file)) × (length (now file) < 9223372036854775808) × Room (length (now file)) (q .channels) (q .count) ⌝ }
-    ensures { λ a. ⌜ Bounded (q .end - (p + 16)) a × Each a (ShapeIn o (p + 16) (take (q .end - (p + 16)) (drop (p + 16) (now (file .entry))))) × ((held : Option R.Held) (i : ℕ) (x : R.Placed) → see o 0 (now (file .entry)) p (R.recording held (length (now (file .entry)) - p) i) ≡ goes x (q .end) → Stand o (now (file .entry)) (q .channels) (q .count) (x .recording .channels) → q .frames ≡ p + x .layout .at140 → Given a (λ f. ShapeOf f x)) ⌝ }
+    ensures { λ a. ⌜ Each a (Bounds (q .end - (p + 16))) × Each a (ShapeIn o (p + 16) (take (q .end - (p + 16)) (drop (p + 16) (now (file .entry))))) × ((held : Option R.Held) (i : ℕ) (x : R.Placed) → see o 0 (now (file .entry)) p (R.recording held (length (now (file .entry)) - p) i) ≡ goes x (q .end) → Stand o (now (file .entry)) (q .channels) (q .count) (x .recording .channels) → q .frames ≡ p + x .layout .at140 → Given a (λ f. ShapeOf f x)) ⌝ }
 {
     let base = p + Head::LENGTH;
     let end = q.end;
@@ -107,7 +106,7 @@ fn body(w: Way, file: &[u8], cs: Channels, f: Shape, s: &[u8], base: usize, d: &
     let stop = f.end;
     let from = at + Head::LENGTH;
     let end = at + signals.length;
-    tables::tables(w, s, base, d, 0);
+    copies::tables(w, s, base, d, 0);
     put_head(
         to,
         signals.size,
@@ -127,7 +126,7 @@ fn body(w: Way, file: &[u8], cs: Channels, f: Shape, s: &[u8], base: usize, d: &
         &s[from..stop],
         &mut d[from..end],
     );
-    let n = tables::next(w, s, base, stop, d, end);
+    let n = copies::next(w, s, base, stop, d, end);
     let rest = n.k;
     clear_run(&mut d[rest..]);
 }

@@ -16,11 +16,11 @@ use Rattle.walk.specs.Plays.{Plays}
 use Rattle.walk.specs.Walk.{Event, numeral, piece, blank, row, Row, rows, size, render, run, Walk, passed, give, refuse, _>>=_, _>>_, number}
 use Rattle.walk.proofs.Laws.{by-parts, by-split, by-check, checked, taken, plays-gave, traced}
 use Rattle.rules.specs.Rules.{between, padding, padded, makerCode, zeros, delimiter, basicBody, Head, head, span, admit, Basic, basic, Channel, channel, channels, Item, item, itemBytes, items, patientCode, eventCode, Frame, frame, frames, numberList, width, samplesIn, sampleBytes, FileHeader, Next, next, Part, part, Held, heldChannels, heldPatient, Placed, recording, recordings, File, fileHeader, file, orderOf, judge, recordingBody}
+use Rattle.rules.specs.Places.{bytesBefore}
 use Rattle.rules.proofs.Canon.{recordings-ok}
 use Rattle.rules.proofs.Places.{numbers-found, Found, found-run, found-whole, found-first, found-second, found-at, head-size, admit-size, join, gave-nothing, fixed-size, channels-bytes, items-bytes, channel-found, frames-found, frame-found, samples-found, items-in, zeros-none, piece-size}
 use Rattle.rules.proofs.Renew.{if-case, pick-case, admit-ok, basic-size, next-ok, channels-ok, items-ok, frames-ok}
 use Rattle.rules.proofs.Turn.{accepted, is-render}
-use Rattle.rules.specs.Places.{bytesBefore}
 
 -- the rows of events that follow others
 pub rows-append : (at : ℕ) (t u : List Event) → rows at (t ++ u) ≡ rows at t ++ rows (at + size t) u

@@ -14,10 +14,9 @@ use Rattle.walk.specs.Plays.{Plays, gives, checks, lists}
 use Rattle.walk.specs.Walk.{Event, row, size, Walk, give, refuse, _>>=_, _>>_}
 use Rattle.walk.proofs.Laws.{plays-bind, plays-split, plays-give, traced, size-append, by-split, by-check, by-read, plays-gave}
 use Rattle.rules.specs.Canonical.{zeroes, numerals, rowOf, plainHead, recordOf, basicFields, channelsHead, channelsWritten, itemsHead, itemsWritten, frameSize, framesBytes, framesHead, framesWritten, makerEvents, optional, delimiterHead, delimiterEvents, content}
-use Rattle.rules.specs.Rules.{between, padding, padded, makerCode, zeros, Head, head, lengthOf, span, admit, padOk, Basic, basicBody, basic, Channel, channels, Item, items, patientCode, eventCode, frames, Maker, Next, next, Part, part, Recording, heldChannels, heldPatient, contentLimit, delimiter, Layout, Placed, recording, frame, recordingBody}
+use Rattle.rules.specs.Rules.{between, padding, padded, makerCode, zeros, Head, head, lengthOf, span, admit, padOk, Basic, basicBody, basic, Channel, channels, Item, items, patientCode, eventCode, frames, Maker, Next, next, Part, part, Recording, heldChannels, heldPatient, contentLimit, delimiter, Layout, Placed, recording, frame, recordingBody, between, padding, padded, makerCode, zeros, Head, head, lengthOf, span, admit, padOk, Basic, basicBody, basic, Channel, channels, Item, items, patientCode, eventCode, frames, Maker, Held as Inherited, Next, next, Part, part, Recording, heldChannels, heldPatient, contentLimit, delimiter, Layout, Placed, recording}
 use Rattle.rules.proofs.Renew.{HeadOk, head-plays, Admitted, admit-plays, fixed-plays, basic-ok, basic-size, All, record-size, ChannelsOk, few-channels, channels-size, channels-ok, channels-plays, ItemsOk, items-ok, items-size, items-plays, padding-plays, FramesOk, frames-ok, frames-size, frames-plays, if-true, if-false, if-case, MakerOk, next-ok, next-plays, makers-count}
 use Rattle.rules.proofs.Sized.{sized}
-use Rattle.rules.specs.Rules.{between, padding, padded, makerCode, zeros, limit, Head, head, lengthOf, span, admit, padOk, Basic, basicBody, basic, Channel, channels, Item, items, itemBytes, patientCode, eventCode, Frame, Frames, frames, Maker, Held as Inherited, Next, next, Part, part, Recording, heldChannels, heldPatient, contentLimit, delimiter, Layout, Placed, recording}
 
 abbrev pub pick : Bool → Head → Head → Head
 pick true h k = h

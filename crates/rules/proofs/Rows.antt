@@ -8,8 +8,7 @@ use lib.ListN.{length}
 use Rattle.walk.specs.Tell.{tell}
 use Rattle.walk.specs.Trace.{trace}
 use Rattle.walk.specs.Walk.{Event, passed, rows}
-use Rattle.walk.proofs.Told.{told}
-use Rattle.walk.proofs.Tracing.{traces}
+use Rattle.walk.proofs.Tracing.{told, traces}
 use Rattle.rules.specs.Rules.{File, file, orderOf, judge}
 use Rattle.rules.proofs.Refusals.{room}
 use Rattle.rules.proofs.Turn.{whole-passed}

@@ -21,11 +21,11 @@ use Rattle.rules.specs.declared.FileHeader.{FileHeader}
 use Rattle.rules.proofs.Rows.{judge-rows}
 use Rattle.judge.specs.Judged.{AcceptedAs}
 use Rattle.judge.proofs.Verdicts.{accepted-seen}
-use Rattle.table.specs.Rows.{written, Wrote}
+use Rattle.rows.specs.Rows.{written, Wrote}
+use Rattle.rows.proofs.Lists.{Silent, silent}
 use Rattle.table.specs.Table.{rows, refusal, meaning, answerOf, afterwards, counted, kept}
 use Rattle.table.specs.declared.Listed.{Listed}
 use Rattle.table.specs.declared.Listed.the-variants as Listed
-use Rattle.table.proofs.Lists.{Silent, silent}
 
 -- what the contract of `table` says
 abbrev pub Lists : List ℕ → List ℤ → List ℤ → Listed → Type 0

@@ -1,6 +1,1 @@
-pub mod Written
-pub mod Makers
-pub mod Lists
-pub mod Body
-pub mod Recorded
 pub mod Answers

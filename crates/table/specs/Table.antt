@@ -9,7 +9,7 @@ use lib.ListN.{length}
 use Rattle.walk.specs.Walk as W
 use Rattle.walk.specs.Walk.{pick, Row, Outcome, refused, passed}
 use Rattle.rules.specs.Rules as R
-use Rattle.table.specs.Rows.{written}
+use Rattle.rows.specs.Rows.{written}
 use Rattle.table.specs.declared.Listed.{Listed}
 use Rattle.table.specs.declared.Listed.the-variants as Listed
 

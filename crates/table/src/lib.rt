@@ -1,6 +1,4 @@
 // The table of a file's records: four signed numbers a record, by position.
-pub mod rows;
-
 ghost use mathlib.Core.Path.{_≡_};
 ghost use lib.ListN.{length};
 ghost use Rattle.table.specs.Table.{meaning, answerOf, afterwards};

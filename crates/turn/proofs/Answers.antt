@@ -8,13 +8,13 @@ use lib.ListN.{length}
 use Rattle.words.specs.Numbers.{other}
 use Rattle.words.specs.Runs.{pasted}
 use Rattle.words.specs.declared.Order.{Order}
-use Rattle.walk.specs.Walk.{Walk, Event, give, _>>=_, refused, render, rows}
+use Rattle.walk.specs.Walk.{Walk, Event, give, _>>=_, refused}
 use Rattle.walk.specs.See.{goes, see}
 use Rattle.walk.specs.Tell.{tell}
 use Rattle.walk.specs.Trace.{trace}
 use Rattle.walk.proofs.Tracing.{trace-bind, trace-give, render-append}
 use Rattle.rules.specs.Rules as R
-use Rattle.rules.specs.Rules.{orderOf, fileHeader, recordings, file}
+use Rattle.rules.specs.Rules.{fileHeader, recordings, file}
 use Rattle.rules.specs.Turned as T
 use Rattle.rules.specs.declared.FileHeader.{FileHeader}
 use Rattle.rules.proofs.Rows.{judge-trace}
@@ -22,7 +22,7 @@ use Rattle.rules.proofs.Turn.{turned-of}
 use Rattle.judge.specs.Judged.{AcceptedAs}
 use Rattle.judge.proofs.Verdicts.{accepted-seen}
 use Rattle.table.proofs.Answers.{listed}
-use Rattle.copies.specs.Copy.{copy}
+use Rattle.bodies.specs.Copy.{copy}
 use Rattle.makers.specs.Makers.{firstMaker}
 use Rattle.permit.specs.Permit.{Answer, bytes, refusal, meaning, permitted, Writes}
 use Rattle.permit.specs.declared.Written.{Written}

@@ -8,7 +8,7 @@ use Prim.Native.Nat.{ℕ, suc, _+_, _-_, _≤_, _<_}
 use native.Mathlib.Nat.{zero-add, sub-zero}
 use native.Mathlib.Numerals.{add-one}
 use native.Mathlib.Omega.{arith}
-use borrow.Author.Tests.{leb-true, eqb-true}
+use borrow.Author.Tests.{eqb-true}
 use lib.Dec.{leb, eqb}
 use lib.ListN.{length, getD, set, take, drop, length-append, length-drop}
 use lib.Seq.{take-add, take-all, drop-drop, length-take-le}
@@ -20,7 +20,7 @@ use Rattle.walk.specs.Walk.{Letter, laid, Walk, give, refuse, check, number, re
 use Rattle.walk.specs.See.{stops, goes, see, Goes, Stays}
 use Rattle.walk.specs.Trace.{trace, written}
 use Rattle.walk.proofs.Laid.{laid-text, length-laid}
-use Rattle.walk.proofs.Seen.{stays-goes, see-part, body-length}
+use Rattle.walk.proofs.Seen.{see-part, body-length}
 use Rattle.walk.proofs.Tracing.{written-append, written-none, written-row, written-piece}
 use Rattle.walk.proofs.Went.{gate-went, went-first, goes-same}
 use Rattle.rules.specs.Rules as R
@@ -28,19 +28,19 @@ use Rattle.rules.specs.Rules.{head, coded, admit, span, basic, next, part, chan
 use Rattle.rules.specs.declared.Head.{Head}
 use Rattle.rules.proofs.Room.{stays-recordingBody, stays-recording}
 use Rattle.records.specs.Says.{Kept}
-use Rattle.judge.specs.Halves.{Tables, tables, signals}
+use Rattle.tables.specs.Halves.{Tables, tables, signals}
+use Rattle.tables.specs.Tabled.{Stand, HeldAs}
+use Rattle.tables.specs.declared.Before.{Before}
+use Rattle.tables.specs.declared.Before.the-variants as Before
+use Rattle.tables.specs.declared.Places.{Places}
 use Rattle.judge.specs.Recorded.{leaves, Places-of}
-use Rattle.judge.specs.Tabled.{Stand, HeldAs}
-use Rattle.judge.specs.declared.tables.Before.{Before}
-use Rattle.judge.specs.declared.tables.Before.the-variants as Before
-use Rattle.judge.specs.declared.tables.Places.{Places}
 use Rattle.judge.proofs.Led.{Led, led, led-stop}
-use Rattle.table.specs.Rows.{Marks}
-use Rattle.table.proofs.Lists.{admit-went, require-went, head-went}
-use Rattle.table.proofs.Recorded.{led-events}
-use Rattle.copies.specs.Copy.{copy, Pastes, Holds, RecordCopied}
-use Rattle.copies.specs.declared.Way.{Way}
-use Rattle.copies.proofs.Copying.{copy-bind, copy-part, length-copy, holds-join}
+use Rattle.rows.specs.Rows.{Marks}
+use Rattle.rows.proofs.Lists.{require-went}
+use Rattle.rows.proofs.Recorded.{Begun, begun, led-events}
+use Rattle.bodies.specs.Copy.{copy, Pastes, Holds, RecordCopied}
+use Rattle.bodies.specs.declared.Way.{Way}
+use Rattle.bodies.proofs.Copying.{copy-bind, copy-part, length-copy, holds-join}
 use Rattle.copies.proofs.Onward.{copy-admit}
 use Rattle.turn.proofs.Turning.{filled-first, read-part, copy-require, copy-padding}
 
@@ -140,47 +140,23 @@ module _ (w : Way) (b : ℕ) (s : List ℕ) where
         ap (copy w b s b) (sym (halved held h)) ∙ (copy-bind w b s b v f (y .is) ∙ ap (λ (i : ℕ). copy w b s b v ++ copy w b s i (signals (y .value) h)) (m .0 .3)) in
         subst (λ (l : List ℕ). Holds out₀ out₂ k₀ l) (sym c) (holds-join out₀ out out₂ k₀ k k₂ (copy w b s b v) (copy w b s (b + (g .at + 16)) (signals (y .value) h)) (m .1) r)
 
--- a recording that the walk accepted: its head, and its body
-record Begun (w : Way) (s : List ℕ) (p : ℕ) (held : Option R.Held) (i : ℕ) (x : R.Placed) (e : ℕ) : Type 0 where
-  top : R.Head
-  least : 16 ≤ span top
-  ends : e ≡ p + span top
-  inside : e ≤ length s
-  body : see (w .from) 0 s (p + 16) (recordingBody held top) ≡ goes x e
-  bytes : copy w 0 s p (recording held (length s - p) i) ≡ copy w 0 s p (head (length s - p)) ++ copy w 0 s (p + 16) (recordingBody held top)
-
-begun : (w : Way) (s : List ℕ) (p : ℕ) (held : Option R.Held) (i : ℕ) {x : R.Placed} {e : ℕ} → see (w .from) 0 s p (recording held (length s - p) i) ≡ goes x e → Begun w s p held i x e
+-- the bytes of a recording that the walk accepted: those of its head, and of its body
+begun-bytes : (w : Way) (s : List ℕ) (p : ℕ) (held : Option R.Held) (i : ℕ) {x : R.Placed} {e : ℕ} (v : Begun (w .from) s p held i x e) →
+    copy w 0 s p (recording held (length s - p) i) ≡ copy w 0 s p (head (length s - p)) ++ copy w 0 s (p + 16) (recordingBody held (v .opens .top))
 unfolding recording
-begun w s p held i {x} {e} g =
-    let o : Order = w .from in
+begun-bytes w s p held i v =
     let room : ℕ = length s - p in
+    let h = v .opens .top in
     let k : R.Head → Walk R.Placed = λ h. coded h 10 >> (admit room 128 (leb 16) (eqb i) h >> recordingBody held h) in
-    let f = went-first o 0 s p (head room) k g in
-    let h = f .value in
-    let t = head-went o 0 s p room (f .is) in
-    let c = require-went o 0 s (f .end) (eqb (h .code) 10) 9 12 (admit room 128 (leb 16) (eqb i) h >> recordingBody held h) (f .kept) in
-    let d = admit-went o 0 s (f .end) room 128 (leb 16) (eqb i) h (recordingBody held h) (c .1) in
-    let l : 16 ≤ span h = leb-true 16 (span h) (d .length) in
-    let b : see o 0 s (p + 16) (recordingBody held h) ≡ goes x e = ap (λ (q : ℕ). see o 0 s q (recordingBody held h)) (sym t) ∙ d .rest in
-    let z = stays-goes o 0 s (p + 16 + (span h - 16)) (omega (arith, d .inside, l)) (recordingBody held h) (p + 16) _ (omega arith) (stays-recordingBody held h (p + 16) l) b in
-    record {
-      top = h;
-      least = l;
-      ends = omega (arith, z .1);
-      inside = omega (arith, z .1, d .inside, l);
-      body = b;
-      bytes =
-          copy-bind w 0 s p (head room) k (f .is)
-          ∙ ap (λ (q : List ℕ). copy w 0 s p (head room) ++ q)
-          (copy-require w 0 s (f .end) (eqb (h .code) 10) 9 12 (admit room 128 (leb 16) (eqb i) h >> recordingBody held h)
-          ∙ (copy-admit w 0 s (f .end) room 128 (leb 16) (eqb i) h (recordingBody held h) ∙ ap (λ (q : ℕ). copy w 0 s q (recordingBody held h)) t));
-    }
+    copy-bind w 0 s p (head room) k (v .opens .first)
+    ∙ ap (λ (q : List ℕ). copy w 0 s p (head room) ++ q)
+    (copy-require w 0 s (p + 16) (eqb (h .code) 10) 9 12 (admit room 128 (leb 16) (eqb i) h >> recordingBody held h) ∙ copy-admit w 0 s (p + 16) room 128 (leb 16) (eqb i) h (recordingBody held h))
 
 -- the recording from byte p of the file up to q
 module _ (w : Way) (s : List ℕ) (p q : ℕ) where
   -- one that ends before its body begins was not accepted
   pub recording-short : (held : Option R.Held) (i : ℕ) {x : R.Placed} → q < p + 16 → see (w .from) 0 s p (recording held (length s - p) i) ≡ goes x q → ⊥
-  recording-short held i l g = let v = begun w s p held i g in omega (arith, v .least, v .ends)
+  recording-short held i l g = let v = begun (w .from) s p held i g in omega (arith, v .least, v .ends)
 
   abbrev within : List ℕ
   within = take (q - (p + 16)) (drop (p + 16) s)
@@ -191,18 +167,18 @@ module _ (w : Way) (s : List ℕ) (p q : ℕ) where
       ((held : Option R.Held) (h : R.Head) (x : R.Placed) (e : ℕ) → span h ≡ 16 + length within → length (x .recording .channels) ≡ count → Kept (w .from) s (at + 32) (x .recording .channels) → see (w .from) (p + 16) within (p + 16) (recordingBody held h) ≡ goes x e → Holds out₁ out₂ k (copy w (p + 16) within (p + 16) (recordingBody held h))) →
       (held : Option R.Held) (i : ℕ) (x : R.Placed) → see (w .from) 0 s p (recording held (length s - p) i) ≡ goes x q → Stand (w .from) s at count (x .recording .channels) → out₂ ≡ pasted out p (copy w 0 s p (recording held (length s - p) i))
   recording-copied at count out out₁ out₂ k fit first later held i x g stand =
-      let v = begun w s p held i g in
-      let u : Walk R.Placed = recordingBody held (v .top) in
+      let v = begun (w .from) s p held i g in
+      let u : Walk R.Placed = recordingBody held (v .opens .top) in
       let xs : List ℕ = copy w 0 s p (head (length s - p)) in
       let l : 16 + length within ≡ q - p = body-length p q s (omega (arith, v .ends, v .least)) (v .inside) in
-      let z : p + 16 + (span (v .top) - 16) ≡ p + 16 + (q - (p + 16)) = omega (arith, v .ends, v .least) in
-      let stays = rw z at (stays-recordingBody held (v .top) (p + 16) (v .least)) in
+      let z : p + 16 + (span (v .opens .top) - 16) ≡ p + 16 + (q - (p + 16)) = omega (arith, v .ends, v .least) in
+      let stays = rw z at (stays-recordingBody held (v .opens .top) (p + 16) (v .least)) in
       let f : p + 16 + (q - (p + 16)) ≤ length s = omega (arith, v .ends, v .least, v .inside) in
-      let same : copy w (p + 16) within (p + 16) u ≡ copy w 0 s (p + 16) u = copy-part w 0 (p + 16) (p + 16) (q - (p + 16)) s (omega arith) f u (p + 16) _ (omega arith) stays (v .body) in
-      let body = later held (v .top) x q (omega (arith, l, v .ends)) (stand .0) (stand .1) (see-part (w .from) 0 (p + 16) (p + 16) (q - (p + 16)) s (omega arith) f u (p + 16) _ (omega arith) stays ∙ v .body) in
+      let same : copy w (p + 16) within (p + 16) u ≡ copy w 0 s (p + 16) u = copy-part w 0 (p + 16) (p + 16) (q - (p + 16)) s (omega arith) f u (p + 16) _ (omega arith) stays (v .opens .given .rest) in
+      let body = later held (v .opens .top) x q (omega (arith, l, v .ends)) (stand .0) (stand .1) (see-part (w .from) 0 (p + 16) (p + 16) (q - (p + 16)) s (omega arith) f u (p + 16) _ (omega arith) stays ∙ v .opens .given .rest) in
       let n = length-copy w 0 s (p + (length s - p)) (omega (arith, v .ends, v .inside)) (recording held (length s - p) i) p _ (omega arith) (stays-recording held i p (length s - p)) g in
-      let m : p + length (xs ++ copy w (p + 16) within (p + 16) u) ≤ length out = subst (λ (y : List ℕ). p + length y ≤ length out) (v .bytes ∙ ap (λ (y : List ℕ). xs ++ y) (sym same)) (omega (arith, n, v .inside)) in
-      holds-join out out₁ out₂ p k k xs (copy w (p + 16) within (p + 16) u) (rw zero-add at (first 0 (length s - p))) body m ∙ ap (pasted out p) (ap (λ (y : List ℕ). xs ++ y) same ∙ sym (v .bytes))
+      let m : p + length (xs ++ copy w (p + 16) within (p + 16) u) ≤ length out = subst (λ (y : List ℕ). p + length y ≤ length out) (begun-bytes w s p held i v ∙ ap (λ (y : List ℕ). xs ++ y) (sym same)) (omega (arith, n, v .inside)) in
+      holds-join out out₁ out₂ p k k xs (copy w (p + 16) within (p + 16) u) (rw zero-add at (first 0 (length s - p))) body m ∙ ap (pasted out p) (ap (λ (y : List ℕ). xs ++ y) same ∙ sym (begun-bytes w s p held i v))
 
 -- i of the recordings are written, and the walk goes on at byte p of the file, holding what the code has of the recording before
 pub record Sending (w : Way) (s : List ℕ) (count : ℕ) (out₀ out : List ℕ) (p i : ℕ) (before : Before) : Type 0 where

@@ -28,11 +28,11 @@ use Rattle.rules.proofs.Room.{stays-series, stays-frame, stays-frameBody, stays
 use Rattle.records.specs.Says.{headOf}
 use Rattle.records.proofs.Facts.{between-in, both-false}
 use Rattle.records.proofs.Steps.{ends-samples}
-use Rattle.judge.proofs.FramesBody.{size-fits}
-use Rattle.table.proofs.Lists.{admit-went, require-went}
-use Rattle.copies.specs.Copy.{copy, filling}
-use Rattle.copies.specs.declared.Way.{Way}
-use Rattle.copies.proofs.Copying.{copy-part, copy-body, length-copy}
+use Rattle.signals.proofs.FramesBody.{size-fits}
+use Rattle.rows.proofs.Lists.{admit-went, require-went}
+use Rattle.bodies.specs.Copy.{copy, filling}
+use Rattle.bodies.specs.declared.Way.{Way}
+use Rattle.bodies.proofs.Copying.{copy-part, copy-body, length-copy}
 use Rattle.copies.proofs.Onward.{copy-admit}
 
 -- bytes written front to back: the first of them, and a part behind what stands

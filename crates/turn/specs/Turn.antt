@@ -9,7 +9,7 @@ use Rattle.words.specs.declared.Order.{Order}
 use Rattle.walk.specs.Walk.{Outcome, refused, passed, rows}
 use Rattle.rules.specs.Rules as R
 use Rattle.rules.specs.Turned as T
-use Rattle.copies.specs.declared.Way.{Way}
+use Rattle.bodies.specs.declared.Way.{Way}
 use Rattle.makers.specs.Makers.{firstMaker}
 use Rattle.permit.specs.Permit.{Answer, refusal, permitted, settled}
 

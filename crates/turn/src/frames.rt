@@ -8,14 +8,15 @@ ghost use Rattle.words.specs.Numbers.{numberAt};
 ghost use Rattle.walk.specs.See.{see, goes};
 ghost use Rattle.rules.specs.Rules as R;
 ghost use Rattle.records.specs.Says.{Kept};
-ghost use Rattle.copies.specs.Copy.{copy, Pastes, RecordCopied};
-use copies::Way;
-use copies::bodies::fits;
-use copies::bodies::frame_body;
-use copies::runs::numbers;
-use copies::runs::reserved;
-use copies::tables::Marked;
-use copies::tables::next;
+ghost use Rattle.bodies.specs.Copy.{copy, Pastes, RecordCopied};
+use bodies::Way;
+use bodies::fits;
+use bodies::frame_body;
+use bodies::runs::numbers;
+use bodies::runs::reserved;
+use bulk::copy_run;
+use copies::Marked;
+use copies::next;
 use records::Fits;
 use records::Serial;
 use records::Step;
@@ -23,7 +24,6 @@ use rules::Channels;
 use rules::Frame;
 use rules::Frames;
 use rules::Head;
-use words::copy_run;
 
 // A record 145 whose samples end at byte `filled`.
 fn frame(w: Way, file: &[u8], cs: Channels, t: u32, filled: usize, s: &[u8], d: &mut [u8])

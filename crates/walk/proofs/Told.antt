@@ -1,20 +1,17 @@
--- The rows that a walk lists over a part of the file: of one walk after the other, of a part as of the whole, and as `run` keeps them.
+-- The rows that a walk lists over a part of the file: of one walk after the other, and of a part as of the whole.
 -- Assumes nothing.
-use mathlib.Core.Path.{_≡_, refl, sym, ap, _∙_}
+use mathlib.Core.Path.{_≡_, refl, ap, _∙_}
 use mathlib.Core.Bool.{true, false}
-use mathlib.Core.List.{List, [], _∷_, _++_}
+use mathlib.Core.List.{List, _∷_, _++_}
 use Prim.Native.Nat.{ℕ, _+_, _-_, _≤_}
 use native.Mathlib.Nat.{add-assoc}
 use native.Mathlib.Omega.{arith}
-use borrow.Author.Tests.{le-leb}
-use lib.ListN.{length, take, drop, length-drop}
-use lib.Seq.{drop-drop, length-take-le}
+use lib.ListN.{length, take, drop}
 use Rattle.words.specs.Numbers.{bytesAt, numberAt}
 use Rattle.words.specs.declared.Order.{Order}
 use Rattle.walk.specs.See.{goes, gate, see, Stays, numbered}
 use Rattle.walk.specs.Tell.{tell}
-use Rattle.walk.specs.Walk.{laid, Event, numeral, piece, blank, row, rows, Row, Walk, give, refuse, check, number, read, skip, list, Outcome, refused, passed, _>>_, logged, run, _>>=_}
-use Rattle.walk.proofs.Laws.{run-read, run-number}
+use Rattle.walk.specs.Walk.{laid, Row, Walk, give, refuse, check, number, read, skip, list, _>>_, _>>=_}
 use Rattle.walk.proofs.Seen.{passes, part-bytes, length-bytesAt}
 
 module _ {A B : Type 0} where
@@ -73,37 +70,3 @@ module _ {A : Type 0} where
   tell-body o b p q s w Q h f k =
       let z : b + q ≡ b + p + 16 + (q - (p + 16)) = omega arith in
       tell-part o b (b + p + 16) (p + 16) (q - (p + 16)) s (add-assoc b p 16) (omega arith) w (b + p + 16) Q (omega arith) (rw z at k) ∙ ap (λ (x : ℕ). tell o b s x w) (add-assoc b p 16)
-
-  -- a run that passed, behind one event
-  pub by-logged : {X : Type 0} (v : Event) (y : Outcome A) {x : A} {r : List ℕ} {t : List Event} → logged (v ∷ []) y ≡ passed x r t → ((u : List Event) → y ≡ passed x r u → t ≡ v ∷ u → X) → X
-  unfolding logged
-  by-logged v (refused n p) h k = absurd (let z : _≡_ {A = ℕ} 0 1 = cc in omega arith)
-  by-logged v (passed x r u) h k = k u (cc) (cc)
-
-  module _ (o : Order) (b : ℕ) (s : List ℕ) (L : ℕ) (fit : L ≤ b + length s) where
-    -- the rows of a run that passed
-    pub told : (w : Walk A) (at : ℕ) (Q : A → ℕ → Type 0) {x : A} {r : List ℕ} {t : List Event} → b ≤ at → Stays L at w Q → run o at (drop (at - b) s) w ≡ passed x r t → rows at t ≡ tell o b s at w
-    unfolding tell run rows numberAt bytesAt
-    told (give a) at Q {x} {r} {t} g h q = let i : t ≡ [] = cc in rw i
-    told (refuse n p) at Q g h q = absurd (let z : _≡_ {A = ℕ} 0 1 = cc in omega arith)
-    told (check true n p w) at Q g h q = told w at Q g (passes (numbered n) h refl) q
-    told (check false n p w) at Q g h q = absurd (let z : _≡_ {A = ℕ} 0 1 = cc in omega arith)
-    told (number n f) at Q g h q =
-        let l : n ≤ length (drop (at - b) s) = rw length-drop (omega (arith, h .0)) in
-        let d : at - b + n ≡ at + n - b = omega arith in
-        by-logged (numeral n (numberAt o n s (at - b))) (run o (at + n) (drop n (drop (at - b) s)) (f (numberAt o n s (at - b)))) (sym (run-number o at (drop (at - b) s) n f l) ∙ q)
-        (λ u y i. rw i (told (f (numberAt o n s (at - b))) (at + n) Q (omega arith) (h .1 _) (rw (drop-drop n (at - b) s, d) at y)))
-    told (read k n f) at Q g h q =
-        let l : n ≤ length (drop (at - b) s) = rw length-drop (omega (arith, h .0)) in
-        let d : at - b + n ≡ at + n - b = omega arith in
-        let e : length (laid o k (take n (drop (at - b) s))) ≡ n = length-bytesAt o b s k n at (omega (arith, h .0)) g in
-        by-logged (piece k (laid o k (take n (drop (at - b) s)))) (run o (at + n) (drop n (drop (at - b) s)) (f (laid o k (bytesAt n s (at - b))))) (sym (run-read o at (drop (at - b) s) k n f l) ∙ q)
-        (λ u y i. rw (i, e) (told (f (laid o k (bytesAt n s (at - b)))) (at + n) Q (omega arith) (h .1 _ e) (rw (drop-drop n (at - b) s, d) at y)))
-    told (skip n w) at Q g h q =
-        let l : n ≤ length (drop (at - b) s) = rw length-drop (omega (arith, h .0)) in
-        let d : at - b + n ≡ at + n - b = omega arith in
-        let e : length (take n (drop (at - b) s)) ≡ n = length-take-le n (drop (at - b) s) l in
-        by-logged (blank (take n (drop (at - b) s))) (run o (at + n) (drop n (drop (at - b) s)) w) (rw (run, le-leb n (length (drop (at - b) s)) l) at q)
-        (λ u y i. rw (i, e) (told w (at + n) Q (omega arith) (h .1) (rw (drop-drop n (at - b) s, d) at y)))
-    told (list p l c m w) at Q g h q =
-        by-logged (row p l c m) (run o at (drop (at - b) s) w) q (λ u y i. rw i (ap (λ (v : List Row). record { start = at - p; size = l; code = c; serial = m } ∷ v) (told w at Q g h y)))

@@ -1,4 +1,4 @@
--- The events of a walk over a part of the file: of one walk after the other, of a part as of the whole, as `run` keeps them; and events written, one list after the other.
+-- The events of a walk over a part of the file: of one walk after the other, of a part as of the whole, as `run` keeps them, and the rows among them; and events written, one list after the other.
 -- Assumes nothing.
 use mathlib.Core.Path.{_≡_, refl, sym, ap, _∙_}
 use mathlib.Core.Bool.{Bool, true, false}
@@ -11,12 +11,12 @@ use lib.ListN.{length, take, drop, replicate, length-drop}
 use lib.Seq.{drop-drop, length-take-le}
 use Rattle.words.specs.Numbers.{bytesAt, numberAt, bytesIn}
 use Rattle.words.specs.declared.Order.{Order}
-use Rattle.walk.specs.See.{goes, gate, see, Stays, numbered}
+use Rattle.walk.specs.See.{goes, gate, see, verdict, Stays, numbered}
+use Rattle.walk.specs.Tell.{tell}
 use Rattle.walk.specs.Trace.{trace, written}
-use Rattle.walk.specs.Walk.{Kind, laid, Event, numeral, piece, blank, row, render, cleared, size, Walk, give, refuse, check, number, read, skip, list, passed, _>>_, run, _>>=_}
+use Rattle.walk.specs.Walk.{Kind, laid, Event, numeral, piece, blank, row, rows, Row, render, cleared, size, Walk, give, refuse, check, number, read, skip, list, Outcome, refused, passed, _>>_, logged, run, _>>=_}
 use Rattle.walk.proofs.Laws.{run-read, run-number, length-render, size-cleared}
-use Rattle.walk.proofs.Seen.{passes, part-bytes, length-bytesAt}
-use Rattle.walk.proofs.Told.{by-logged}
+use Rattle.walk.proofs.Seen.{passes, part-bytes, length-bytesAt, seen}
 
 module _ {A B : Type 0} where
   -- one walk after the other, where the first goes on
@@ -77,6 +77,12 @@ module _ {A : Type 0} where
       let z : b + q ≡ b + p + 16 + (q - (p + 16)) = omega arith in
       trace-part o b (b + p + 16) (p + 16) (q - (p + 16)) s (add-assoc b p 16) (omega arith) w (b + p + 16) Q (omega arith) (rw z at k) {x = x} {e = e} (rw (add-assoc b p 16) v) ∙ ap (λ (y : ℕ). trace o b s y w) (add-assoc b p 16)
 
+  -- a run that passed, behind one event
+  pub by-logged : {X : Type 0} (v : Event) (y : Outcome A) {x : A} {r : List ℕ} {t : List Event} → logged (v ∷ []) y ≡ passed x r t → ((u : List Event) → y ≡ passed x r u → t ≡ v ∷ u → X) → X
+  unfolding logged
+  by-logged v (refused n p) h k = absurd (let z : _≡_ {A = ℕ} 0 1 = cc in omega arith)
+  by-logged v (passed x r u) h k = k u (cc) (cc)
+
   module _ (o : Order) (b : ℕ) (s : List ℕ) (L : ℕ) (fit : L ≤ b + length s) where
     -- the events of a run that passed
     pub traces : (w : Walk A) (at : ℕ) (Q : A → ℕ → Type 0) {x : A} {r : List ℕ} {t : List Event} → b ≤ at → Stays L at w Q → run o at (drop (at - b) s) w ≡ passed x r t → t ≡ trace o b s at w
@@ -102,6 +108,24 @@ module _ {A : Type 0} where
         by-logged (blank (take n (drop (at - b) s))) (run o (at + n) (drop n (drop (at - b) s)) w) (rw (run, le-leb n (length (drop (at - b) s)) l) at q)
         (λ u y i. i ∙ ap (λ (t : List Event). blank (bytesAt n s (at - b)) ∷ t) (traces w (at + n) Q (omega arith) (h .1) (rw (drop-drop n (at - b) s, d) at y)))
     traces (list p l c m w) at Q g h q = by-logged (row p l c m) (run o at (drop (at - b) s) w) q (λ u y i. i ∙ ap (λ (v : List Event). row p l c m ∷ v) (traces w at Q g h y))
+
+    -- the rows among them, where the walk goes on
+    rows-trace : (w : Walk A) (at : ℕ) (Q : A → ℕ → Type 0) {x : A} {e : ℕ} → b ≤ at → Stays L at w Q → see o b s at w ≡ goes x e → rows at (trace o b s at w) ≡ tell o b s at w
+    unfolding trace tell see gate rows bytesAt numberAt
+    rows-trace (give a) at Q g h q = refl
+    rows-trace (refuse n p) at Q g h q = absurd (let z : _≡_ {A = ℕ} 0 1 = cc in omega arith)
+    rows-trace (check true n p w) at Q g h q = rows-trace w at Q g (passes (numbered n) h refl) q
+    rows-trace (check false n p w) at Q g h q = absurd (let z : _≡_ {A = ℕ} 0 1 = cc in omega arith)
+    rows-trace (number n f) at Q g h q = rows-trace (f (numberAt o n s (at - b))) (at + n) Q (omega arith) (h .1 _) q
+    rows-trace (read k n f) at Q g h q = let e = length-bytesAt o b s k n at (omega (arith, h .0)) g in rw (rows, e) (rows-trace (f (laid o k (bytesAt n s (at - b)))) (at + n) Q (omega arith) (h .1 _ e) q)
+    rows-trace (skip n w) at Q g h q =
+        let e : length (bytesAt n s (at - b)) ≡ n = length-take-le n (drop (at - b) s) (rw length-drop (omega (arith, h .0))) in
+        rw (rows, e) (rows-trace w (at + n) Q (omega arith) (h .1) q)
+    rows-trace (list p l c m w) at Q g h q = ap (λ (v : List Row). record { start = at - p; size = l; code = c; serial = m } ∷ v) (rows-trace w at Q g h q)
+
+    -- the rows of a run that passed
+    pub told : (w : Walk A) (at : ℕ) (Q : A → ℕ → Type 0) {x : A} {r : List ℕ} {t : List Event} → b ≤ at → Stays L at w Q → run o at (drop (at - b) s) w ≡ passed x r t → rows at t ≡ tell o b s at w
+    told w at Q g h q = ap (rows at) (traces w at Q g h q) ∙ rows-trace w at Q g h (sym (seen o b s L fit w at Q g h) ∙ ap (verdict at) q)
 
     -- how many bytes they are, where the walk goes on
     pub size-trace : (w : Walk A) (at : ℕ) (Q : A → ℕ → Type 0) {x : A} {e : ℕ} → b ≤ at → Stays L at w Q → see o b s at w ≡ goes x e → at + size (trace o b s at w) ≡ e

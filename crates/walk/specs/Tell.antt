@@ -1,6 +1,5 @@
 -- The table's rows that a walk lists over a part of the file, for code that writes them by position.
 -- Assumes nothing.
-use mathlib.Core.Bool.{Bool, true, false}
 use mathlib.Core.List.{List, [], _∷_}
 use Prim.Native.Nat.{ℕ, _+_, _-_}
 use Rattle.words.specs.Numbers.{bytesAt, numberAt}

@@ -5,5 +5,3 @@ pub mod Ints
 pub mod Floats
 pub mod Runs
 pub mod Zeros
-pub mod Blocks
-pub mod Loops

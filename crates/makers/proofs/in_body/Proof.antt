@@ -2,7 +2,7 @@
 -- x₁ to x₄: where it went on behind 100, 120, 130 and 200; z: the start. Assumes nothing.
 use native.Mathlib.Omega.{arith}
 use denote.Ref.{now}
-use Rattle.table.proofs.Body.{body-short}
+use Rattle.rows.proofs.Body.{body-short}
 use Rattle.makers.proofs.Body.{stop, on, past, ended-last, finds-body}
 use borrow.Author.Needs.{needs}
 use Rattle.makers.proofs.in_body.Statement.{statement}

@@ -3,7 +3,7 @@
 use native.Mathlib.Omega.{arith}
 use denote.Ref.{now}
 use lib.ListN.{length-take, length-drop}
-use Rattle.table.proofs.Recorded.{recording-unread, recording-refused}
+use Rattle.rows.proofs.Recorded.{recording-unread, recording-refused}
 use Rattle.makers.proofs.Recorded.{finds-recording}
 use borrow.Author.Needs.{needs}
 use Rattle.makers.proofs.in_recording.Statement.{statement}

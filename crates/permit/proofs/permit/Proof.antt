@@ -1,6 +1,5 @@
 -- `permit::permit` meets its contract: the first of the two refusals.
 -- Assumes nothing.
-use mathlib.Core.Path.{_≡_, _∙_, ap}
 use borrow.Author.Needs.{needs}
 use Rattle.permit.proofs.permit.Statement.{statement}
 use Rattle.permit.proofs.permit.Tie as tie

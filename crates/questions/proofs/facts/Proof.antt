@@ -1,5 +1,5 @@
 use borrow.Author.Needs.{needs}
-use Rattle.questions.proofs.Reach.{facts-found}
+use Rattle.questions.proofs.Replies.{facts-found}
 use Rattle.questions.proofs.facts.Statement.{statement}
 use Rattle.questions.proofs.facts.Tie as tie
 

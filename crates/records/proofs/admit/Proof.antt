@@ -1,7 +1,7 @@
 use Rattle.walk.proofs.Seen.{leb-fits, walks, tests}
 use Rattle.rules.specs.Rules.{admit}
-use Rattle.records.proofs.Laws.{fits-in}
 use Rattle.rules.specs.Rules as R
+use Rattle.records.proofs.Laws.{fits-in}
 use native.Mathlib.Omega.{arith}
 use borrow.Author.Tests.{not-true, not-false}
 use borrow.Author.Needs.{needs}

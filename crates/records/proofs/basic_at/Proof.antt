@@ -1,6 +1,6 @@
+use Rattle.walk.proofs.Seen.{see-part, places, walks, tests}
 use Rattle.rules.specs.Rules.{fixed, basicBody}
 use Rattle.rules.proofs.Room.{stays-basicBody}
-use Rattle.walk.proofs.Seen.{see-part, places, walks, tests}
 use mathlib.Core.Path.{_≡_}
 use lib.ListN.{length-take, length-drop}
 use mathlib.Core.Path.{refl}

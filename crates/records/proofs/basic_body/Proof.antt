@@ -1,5 +1,5 @@
-use Rattle.records.proofs.Steps.{basic-open}
 use Rattle.walk.proofs.Seen.{gates, tests}
+use Rattle.records.proofs.Steps.{basic-open}
 use borrow.Author.Tests.{not-true, not-false}
 use borrow.Author.Needs.{needs}
 use Rattle.records.proofs.basic_body.Statement.{statement}

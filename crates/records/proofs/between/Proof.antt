@@ -1,5 +1,5 @@
-use Rattle.rules.specs.Rules.{between}
 use Rattle.walk.proofs.Seen.{tests}
+use Rattle.rules.specs.Rules.{between}
 use Rattle.records.proofs.between.Statement.{statement}
 use Rattle.records.proofs.between.Tie as tie
 

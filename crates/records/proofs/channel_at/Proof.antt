@@ -1,7 +1,7 @@
+use Rattle.walk.specs.See.{goes}
+use Rattle.walk.proofs.Seen.{see-body, walks, tests}
 use Rattle.rules.specs.Rules.{fixed, channelBody}
 use Rattle.rules.proofs.Room.{stays-channelBody}
-use Rattle.walk.proofs.Seen.{see-body, walks, tests}
-use Rattle.walk.specs.See.{goes}
 use lib.ListN.{length-take, length-drop}
 use mathlib.Core.Path.{_≡_, ap, _∙_}
 use denote.Ref.{now}

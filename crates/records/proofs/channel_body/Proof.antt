@@ -1,7 +1,7 @@
 use Rattle.walk.specs.See.{gate, see, over}
-use Rattle.rules.specs.Rules.{channelBody}
-use Rattle.walk.proofs.Seen.{tests, places}
 use Rattle.walk.specs.Walk.{_>>=_, _>>_}
+use Rattle.walk.proofs.Seen.{tests, places}
+use Rattle.rules.specs.Rules.{channelBody}
 use borrow.Author.Tests.{not-true, not-false}
 use borrow.Author.Needs.{needs}
 use Rattle.records.proofs.channel_body.Statement.{statement}

@@ -1,7 +1,7 @@
-use Rattle.walk.proofs.Seen.{see-body, body-length, stopped, walks, tests}
 use Rattle.walk.specs.See.{goes}
-use Rattle.rules.proofs.Room.{stays-channelsBody}
+use Rattle.walk.proofs.Seen.{see-body, body-length, stopped, walks, tests}
 use Rattle.rules.specs.Rules.{channelsBody}
+use Rattle.rules.proofs.Room.{stays-channelsBody}
 use Rattle.records.proofs.Steps.{channels-split}
 use lib.ListN.{length-take, length-drop}
 use Rattle.rules.specs.Rules as R

@@ -4,8 +4,8 @@ use Prim.Native.Nat.{_+_, _-_}
 use mathlib.Core.Path.{_≡_}
 use Prim.Native.Nat.{ℕ}
 use mathlib.Core.Path.{ap, _∙_}
-use Rattle.walk.proofs.Seen.{places, walks, tests}
 use Rattle.walk.specs.See.{goes}
+use Rattle.walk.proofs.Seen.{places, walks, tests}
 use Rattle.rules.specs.Rules.{channelsBody}
 use native.Mathlib.Omega.{arith}
 use borrow.Author.Tests.{not-true, not-false, eq-eqb}

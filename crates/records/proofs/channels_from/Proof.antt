@@ -1,6 +1,6 @@
-use Rattle.records.proofs.Steps.{series-stop, series-go, series-none}
-use Rattle.rules.specs.Rules.{channel, series}
 use Rattle.walk.specs.See.{see, ends}
+use Rattle.rules.specs.Rules.{channel, series}
+use Rattle.records.proofs.Steps.{series-stop, series-go, series-none}
 use borrow.Author.Needs.{needs}
 use native.Mathlib.Nat.{sub-zero}
 use lib.ListN.{length}

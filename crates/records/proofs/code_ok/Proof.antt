@@ -1,6 +1,6 @@
-use Rattle.records.specs.Says.{okOf}
-use Rattle.rules.specs.Rules.{patientCode, eventCode}
 use Rattle.walk.proofs.Seen.{tests}
+use Rattle.rules.specs.Rules.{patientCode, eventCode}
+use Rattle.records.specs.Says.{okOf}
 use borrow.Author.Tests.{not-true, not-false, eq-eqb}
 use borrow.Author.Needs.{needs}
 use Rattle.records.proofs.code_ok.Statement.{statement}

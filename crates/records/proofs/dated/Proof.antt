@@ -1,5 +1,5 @@
-use Rattle.rules.specs.Rules.{dated}
 use Rattle.walk.proofs.Seen.{tests}
+use Rattle.rules.specs.Rules.{dated}
 use borrow.Author.Needs.{needs}
 use Rattle.records.proofs.dated.Statement.{statement}
 use Rattle.records.proofs.dated.Tie as tie

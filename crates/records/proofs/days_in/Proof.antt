@@ -2,8 +2,8 @@ use native.Mathlib.Omega.{arith}
 use Prim.Native.Nat.{_-_}
 use mathlib.Core.Path.{sym}
 use lib.ListN.{List·getD-eq-default}
-use Rattle.rules.specs.Rules.{daysIn, monthDays}
 use Rattle.walk.proofs.Seen.{tests}
+use Rattle.rules.specs.Rules.{daysIn, monthDays}
 use borrow.Author.Needs.{needs}
 use Rattle.records.proofs.days_in.Statement.{statement}
 use Rattle.records.proofs.days_in.Tie as tie

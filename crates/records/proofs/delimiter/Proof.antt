@@ -1,5 +1,5 @@
-use Rattle.rules.specs.Rules.{delimiter}
 use Rattle.walk.proofs.Seen.{walks, tests}
+use Rattle.rules.specs.Rules.{delimiter}
 use borrow.Author.Tests.{eq-eqb}
 use borrow.Author.Needs.{needs}
 use Rattle.records.proofs.delimiter.Statement.{statement}

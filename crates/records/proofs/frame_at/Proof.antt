@@ -1,8 +1,8 @@
 use lib.ListN.{length-take, length-drop}
-use Rattle.rules.proofs.Room.{stays-frameBody}
-use Rattle.walk.proofs.Seen.{see-body, body-length, walks, tests}
 use Rattle.walk.specs.See.{goes}
+use Rattle.walk.proofs.Seen.{see-body, body-length, walks, tests}
 use Rattle.rules.specs.Rules.{sampleBytes, frameBody}
+use Rattle.rules.proofs.Room.{stays-frameBody}
 use Rattle.records.proofs.Steps.{frame-split}
 use mathlib.Core.Path.{_≡_, ap, _∙_}
 use denote.Ref.{now}

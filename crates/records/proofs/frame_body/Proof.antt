@@ -1,7 +1,7 @@
-use Rattle.records.proofs.Laws.{tested-give}
-use Rattle.records.proofs.Steps.{ends-samples}
 use Rattle.walk.proofs.Seen.{then-skip, walks, tests}
 use Rattle.rules.specs.Rules.{sampleBytes, padding, frameBody}
+use Rattle.records.proofs.Laws.{tested-give}
+use Rattle.records.proofs.Steps.{ends-samples}
 use lib.ListN.{length}
 use mathlib.Core.Path.{_≡_}
 use denote.Ref.{now}

@@ -1,5 +1,5 @@
-use Rattle.rules.specs.Rules.{head}
 use Rattle.walk.proofs.Seen.{walks, tests}
+use Rattle.rules.specs.Rules.{head}
 use borrow.Author.Needs.{needs}
 use Rattle.records.proofs.head_at.Statement.{statement}
 use Rattle.records.proofs.head_at.Tie as tie

@@ -1,7 +1,7 @@
 use Rattle.walk.specs.See.{gate, over, goes, see}
+use Rattle.walk.specs.Walk.{_>>=_, _>>_}
 use Rattle.walk.proofs.Seen.{leb-fits, tests, places}
 use Rattle.rules.specs.Rules.{item}
-use Rattle.walk.specs.Walk.{_>>=_, _>>_}
 use Prim.Native.Nat.{ℕ}
 use mathlib.Core.Path.{ap}
 use native.Mathlib.Omega.{arith}

@@ -1,8 +1,8 @@
-use Rattle.walk.proofs.Seen.{see-body, body-length, stopped, walks, tests}
 use Rattle.walk.specs.See.{goes}
-use Rattle.records.specs.Says.{okOf}
-use Rattle.rules.proofs.Room.{stays-itemsBody}
+use Rattle.walk.proofs.Seen.{see-body, body-length, stopped, walks, tests}
 use Rattle.rules.specs.Rules.{itemsBody}
+use Rattle.rules.proofs.Room.{stays-itemsBody}
+use Rattle.records.specs.Says.{okOf}
 use Rattle.records.proofs.Steps.{items-split}
 use lib.ListN.{length-take, length-drop}
 use Rattle.rules.specs.Rules as R

@@ -1,7 +1,7 @@
-use Rattle.records.proofs.Steps.{list-stop, list-go, list-none}
-use Rattle.records.specs.Says.{okOf}
-use Rattle.rules.specs.Rules.{itemList}
 use Rattle.walk.specs.See.{see, ends}
+use Rattle.rules.specs.Rules.{itemList}
+use Rattle.records.specs.Says.{okOf}
+use Rattle.records.proofs.Steps.{list-stop, list-go, list-none}
 use borrow.Author.Needs.{needs}
 use native.Mathlib.Nat.{sub-zero}
 use lib.ListN.{length}

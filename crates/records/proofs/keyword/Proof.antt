@@ -1,6 +1,6 @@
 use borrow.Author.Needs.{needs}
-use Rattle.records.proofs.Facts.{isIn-yes, isIn-no, isIn-end}
 use Rattle.rules.specs.Rules.{isIn, keywords}
+use Rattle.records.proofs.Facts.{isIn-yes, isIn-no, isIn-end}
 use lib.ListN.{drop}
 use mathlib.Core.Path.{_≡_, _∙_, sym, refl}
 use Prim.Native.Nat.{_-_}

@@ -1,5 +1,5 @@
-use Rattle.rules.specs.Rules.{leap}
 use Rattle.walk.proofs.Seen.{tests}
+use Rattle.rules.specs.Rules.{leap}
 use Rattle.records.proofs.leap.Statement.{statement}
 use Rattle.records.proofs.leap.Tie as tie
 

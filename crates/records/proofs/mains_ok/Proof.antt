@@ -1,5 +1,5 @@
-use Rattle.rules.specs.Rules.{isMains}
 use Rattle.walk.proofs.Seen.{tests}
+use Rattle.rules.specs.Rules.{isMains}
 use Rattle.records.proofs.mains_ok.Statement.{statement}
 use Rattle.records.proofs.mains_ok.Tie as tie
 

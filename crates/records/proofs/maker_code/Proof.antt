@@ -1,5 +1,5 @@
-use Rattle.rules.specs.Rules.{makerCode}
 use Rattle.walk.proofs.Seen.{tests}
+use Rattle.rules.specs.Rules.{makerCode}
 use Rattle.records.proofs.maker_code.Statement.{statement}
 use Rattle.records.proofs.maker_code.Tie as tie
 

@@ -1,5 +1,5 @@
-use Rattle.records.proofs.Facts.{max-one}
 use Rattle.rules.specs.Rules.{padded}
+use Rattle.records.proofs.Facts.{max-one}
 use Rattle.records.proofs.pad_ok.Statement.{statement}
 use Rattle.records.proofs.pad_ok.Tie as tie
 

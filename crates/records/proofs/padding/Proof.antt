@@ -1,7 +1,7 @@
-use Rattle.records.proofs.Steps.{pad-none, pad-more, pad-stop}
+use Rattle.words.specs.declared.Order.{Order}
 use Rattle.walk.specs.See.{see}
 use Rattle.rules.specs.Rules as R
-use Rattle.words.specs.declared.Order.{Order}
+use Rattle.records.proofs.Steps.{pad-none, pad-more, pad-stop}
 use mathlib.Core.Path.{_≡_, _∙_, refl}
 use Prim.Native.Nat.{_-_, _≤_, _+_}
 use borrow.Author.Needs.{needs}

@@ -1,5 +1,5 @@
-use Rattle.rules.specs.Rules.{rateOk}
 use Rattle.walk.proofs.Seen.{tests}
+use Rattle.rules.specs.Rules.{rateOk}
 use borrow.Author.Tests.{eq-eqb}
 use Rattle.records.proofs.rate_ok.Statement.{statement}
 use Rattle.records.proofs.rate_ok.Tie as tie

@@ -1,6 +1,6 @@
 use native.Mathlib.Omega.{arith}
-use Rattle.records.proofs.Facts.{same-end, same-more, same-not, same-length}
 use Rattle.rules.specs.Rules.{sameBytes}
+use Rattle.records.proofs.Facts.{same-end, same-more, same-not, same-length}
 use lib.ListN.{length, drop}
 use mathlib.Core.Path.{_≡_, _∙_, sym, refl}
 use Prim.Native.Nat.{_-_}

@@ -1,7 +1,7 @@
-use Rattle.records.proofs.Facts.{bytes-short}
-use Rattle.records.specs.Says.{Kept}
-use Rattle.records.proofs.Steps.{Rest, rest-none, rest-more}
 use Rattle.rules.specs.Rules as R
+use Rattle.records.specs.Says.{Kept}
+use Rattle.records.proofs.Facts.{bytes-short}
+use Rattle.records.proofs.Steps.{Rest, rest-none, rest-more}
 use lib.ListN.{length}
 use native.Mathlib.Nat.{zero-add, sub-zero}
 use mathlib.Core.List.{List}

@@ -1,8 +1,8 @@
 use Prim.Native.Nat.{_*_}
 use native.Mathlib.Nat.{div-le-self}
-use Rattle.records.proofs.Facts.{samples-short}
-use Rattle.rules.specs.Rules.{samplesOf}
 use Rattle.walk.proofs.Seen.{tests}
+use Rattle.rules.specs.Rules.{samplesOf}
+use Rattle.records.proofs.Facts.{samples-short}
 use native.Mathlib.Omega.{arith}
 use borrow.Author.Tests.{eq-eqb}
 use borrow.Author.Needs.{needs}

@@ -1,5 +1,5 @@
-use Rattle.rules.specs.Rules.{isType}
 use Rattle.walk.proofs.Seen.{tests}
+use Rattle.rules.specs.Rules.{isType}
 use Rattle.records.proofs.type_ok.Statement.{statement}
 use Rattle.records.proofs.type_ok.Tie as tie
 

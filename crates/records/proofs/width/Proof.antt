@@ -1,5 +1,5 @@
-use Rattle.rules.specs.Rules.{width}
 use Rattle.walk.proofs.Seen.{tests}
+use Rattle.rules.specs.Rules.{width}
 use native.Mathlib.Omega.{arith}
 use borrow.Author.Tests.{eq-eqb}
 use Rattle.records.proofs.width.Statement.{statement}

@@ -1,6 +1,6 @@
 -- `rewrite::in_the_way` meets its contract: where the orders are one, nothing stands in the way.
 -- Assumes nothing.
-use mathlib.Core.Path.{_≡_, refl}
+use mathlib.Core.Path.{refl}
 use borrow.Author.Needs.{needs}
 use Rattle.rewrite.proofs.in_the_way.Statement.{statement}
 use Rattle.rewrite.proofs.in_the_way.Tie as tie

@@ -1,6 +1,6 @@
 -- `rewrite::rewrite` meets its contract: what `judge` says of the file, the order that the letter names, the leave to write, and what `file_anew` wrote, by the laws of Answers.
 -- x: behind the judge's answer; y: behind the letter's. Assumes nothing.
-use mathlib.Core.Path.{_≡_, sym, ap, _∙_}
+use mathlib.Core.Path.{sym, ap, _∙_}
 use native.Mathlib.Omega.{arith}
 use denote.Ref.{now}
 use borrow.Author.Needs.{needs}
@@ -11,7 +11,7 @@ use Rattle.makers.specs.Makers.{found}
 use Rattle.permit.specs.Permit.{meaning}
 use Rattle.permit.proofs.Settled.{permit-room}
 use Rattle.turn.proofs.Answers.{went}
-use Rattle.rewrite.proofs.Answers.{rewrites-refused, few, script-low, rewrites-unnamed, length-anew, rewrites-stopped, rewrites-room}
+use Rattle.rewrite.proofs.Answers.{rewrites-refused, few, script-low, rewrites-unnamed, rewrites-stopped, rewrites-room}
 use Rattle.rewrite.proofs.rewrite.Statement.{statement}
 use Rattle.rewrite.proofs.rewrite.Tie as tie
 

@@ -1,6 +1,6 @@
 -- `turn::turn` meets its contract: what `judge` says of the file, what the search for a maker's record found, the leave to write, and what `file_turned` wrote, by the laws of Answers.
 -- x: behind the judge's answer. Assumes nothing.
-use mathlib.Core.Path.{_≡_, sym, ap, _∙_}
+use mathlib.Core.Path.{sym, ap, _∙_}
 use denote.Ref.{now}
 use borrow.Author.Needs.{needs}
 use lib.ListN.{length}

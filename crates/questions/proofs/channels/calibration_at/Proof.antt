@@ -1,8 +1,8 @@
 use borrow.Author.Needs.{needs}
 use borrow.Author.Tests.{eq-eqb, ne-eqb}
+use Rattle.samples.proofs.Clocked.{held}
 use Rattle.questions.specs.Values.{calibrationOf}
 use Rattle.questions.specs.declared.channels.Calibration.the-variants.{Floats, Numbers}
-use Rattle.questions.proofs.Fields.{held}
 use Rattle.questions.proofs.channels.calibration_at.Statement.{statement}
 use Rattle.questions.proofs.channels.calibration_at.Tie as tie
 

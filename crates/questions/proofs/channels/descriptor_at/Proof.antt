@@ -1,7 +1,8 @@
 use borrow.Author.Needs.{needs}
 use Prim.Native.Nat.{ℕ, _+_}
+use Rattle.samples.proofs.Clocked.{held}
 use Rattle.questions.specs.Values.{descriptorOf, textAt}
-use Rattle.questions.proofs.Fields.{held, channel-read}
+use Rattle.questions.proofs.Fields.{channel-read}
 use Rattle.questions.proofs.channels.descriptor_at.Statement.{statement}
 use Rattle.questions.proofs.channels.descriptor_at.Tie as tie
 

@@ -1,4 +1,4 @@
--- `recordings::body` meets its contract: the tables, the canonical 140 and what follows it are written one behind the other, and zeros to the end.
+-- `rewrite::recordings::body` meets its contract: the tables, the canonical 140 and what follows it are written one behind the other, and zeros to the end.
 -- z: the start. Assumes nothing.
 use native.Mathlib.Omega.{arith}
 use borrow.Author.Needs.{needs}

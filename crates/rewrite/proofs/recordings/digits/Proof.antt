@@ -1,4 +1,4 @@
--- `whole::digits` meets its contract.
+-- `rewrite::recordings::digits` meets its contract.
 -- Assumes nothing.
 use native.Mathlib.Omega.{arith}
 use lib.ListN.{length-set}

@@ -1,4 +1,4 @@
--- `recordings::file_anew` meets its contract. The loop's invariant: behind the header stands the canonical form of the recordings read so far.
+-- `rewrite::recordings::file_anew` meets its contract. The loop's invariant: behind the header stands the canonical form of the recordings read so far.
 -- The measure is how many recordings are left. Assumes nothing.
 use mathlib.Core.Path.{_≡_, refl, sym, _∙_}
 use mathlib.Core.List.{List}
@@ -11,7 +11,7 @@ use lib.Seq.{length-take-le}
 use borrow.Author.Needs.{needs}
 use Rattle.walk.specs.See.{see, goes}
 use Rattle.rules.specs.Rules.{Placed, recordings}
-use Rattle.judge.specs.Tabled.{Within}
+use Rattle.tables.specs.Tabled.{Within}
 use Rattle.rewrite.proofs.Files.{going-led, going-stop, Written, written-start, written-next, written-end, behind-header}
 use Rattle.rewrite.proofs.recordings.file_anew.Statement.{statement}
 use Rattle.rewrite.proofs.recordings.file_anew.Tie as tie

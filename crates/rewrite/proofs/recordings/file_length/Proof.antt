@@ -1,4 +1,4 @@
--- `recordings::file_length` meets its contract. The loop's invariant: the sum is what the header and the recordings read so far take.
+-- `rewrite::recordings::file_length` meets its contract. The loop's invariant: the sum is what the header and the recordings read so far take.
 -- The measure is how many recordings are left. Assumes nothing.
 use mathlib.Core.Path.{_≡_}
 use mathlib.Core.List.{List}
@@ -9,7 +9,7 @@ use lib.ListN.{length}
 use borrow.Author.Needs.{needs}
 use Rattle.walk.specs.See.{see, goes}
 use Rattle.rules.specs.Rules.{Placed, recordings}
-use Rattle.judge.specs.Tabled.{Within}
+use Rattle.tables.specs.Tabled.{Within}
 use Rattle.rewrite.proofs.Files.{length-most, going-led, going-stop, Counted, counted-start, counted-next, counted-end}
 use Rattle.rewrite.proofs.recordings.file_length.Statement.{statement}
 use Rattle.rewrite.proofs.recordings.file_length.Tie as tie

@@ -1,11 +1,11 @@
--- `whole::header` meets its contract: what is written piece by piece is the header.
+-- `rewrite::recordings::header` meets its contract: what is written piece by piece is the header.
 -- Assumes nothing.
 use mathlib.Core.Path.{sym}
 use native.Mathlib.Omega.{arith}
 use lib.ListN.{length-set}
 use lib.Seq.{length-take-le}
 use Rattle.rules.specs.Rules as R
-use Rattle.rewrite.proofs.Measures.{header-written}
+use Rattle.rewrite.proofs.Headed.{header-written}
 use borrow.Author.Needs.{needs}
 use Rattle.rewrite.proofs.recordings.header.Statement.{statement}
 use Rattle.rewrite.proofs.recordings.header.Tie as tie

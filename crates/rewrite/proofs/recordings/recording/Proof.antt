@@ -1,4 +1,4 @@
--- `recordings::recording` meets its contract: its head, and its body as a part of the file, written one behind the other.
+-- `rewrite::recordings::recording` meets its contract: its head, and its body as a part of the file, written one behind the other.
 -- z: the start; f: the recording's shape; t: what is known of it. Assumes nothing.
 use mathlib.Core.Path.{_≡_}
 use Prim.Native.Nat.{_+_, _-_}

@@ -1,4 +1,4 @@
--- `recordings::shape_at` meets its contract: an accepted recording's 140 stands inside it, and its body is a part of the file.
+-- `rewrite::recordings::shape_at` meets its contract: an accepted recording's 140 stands inside it, and its body is a part of the file.
 -- z: the start. Assumes nothing.
 use mathlib.Core.Path.{_≡_}
 use Prim.Native.Nat.{_+_, _-_}
@@ -7,7 +7,8 @@ use borrow.Author.Needs.{needs}
 use lib.ListN.{length, take, drop, length-drop}
 use lib.Seq.{length-take-le}
 use Rattle.words.proofs.Words.{bytes}
-use Rattle.rewrite.proofs.Lengths.{within, within-at}
+use Rattle.rows.proofs.Recorded.{within}
+use Rattle.shapes.proofs.Lengths.{within-at}
 use Rattle.rewrite.proofs.recordings.shape_at.Statement.{statement}
 use Rattle.rewrite.proofs.recordings.shape_at.Tie as tie
 

@@ -1,4 +1,4 @@
--- `whole::shape_length` meets its contract.
+-- `rewrite::recordings::shape_length` meets its contract.
 -- Assumes nothing.
 use borrow.Author.Needs.{needs}
 use Rattle.rewrite.proofs.recordings.shape_length.Statement.{statement}

@@ -1,4 +1,4 @@
--- `frames::body_if_room` meets its contract: where the walk accepts the body, no test of the code fails, and it is written where there is room.
+-- `turn::frames::body_if_room` meets its contract: where the walk accepts the body, no test of the code fails, and it is written where there is room.
 -- x: behind its three numbers; z: the start. Assumes nothing.
 use mathlib.Core.Path.{_≡_, sym, ap, _∙_}
 use mathlib.Core.List.{List}
@@ -11,7 +11,7 @@ use lib.Seq.{length-take-le}
 use Rattle.walk.specs.See.{see, goes}
 use Rattle.rules.specs.Rules as R
 use Rattle.records.proofs.Facts.{both-true}
-use Rattle.copies.specs.Copy.{copy}
+use Rattle.bodies.specs.Copy.{copy}
 use Rattle.copies.proofs.Onward.{pastes-whole, pastes-full}
 use Rattle.turn.proofs.Turning.{Framed, framed, framed-length, framed-fits}
 use borrow.Author.Needs.{needs}

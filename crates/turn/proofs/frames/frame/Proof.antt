@@ -1,4 +1,4 @@
--- `frames::frame` meets its contract: its head, what fills it and the bytes behind that are written one behind the other.
+-- `turn::frames::frame` meets its contract: its head, what fills it and the bytes behind that are written one behind the other.
 -- x: behind what fills it; y: behind its head; z: the start. Assumes nothing.
 use mathlib.Core.Path.{_≡_, refl, sym}
 use Prim.Native.Nat.{_+_, _-_}

@@ -1,15 +1,15 @@
--- `frames::frames` meets its contract: where the walk accepts the 140, its head is admitted, and its body is written where there is room.
+-- `turn::frames::frames` meets its contract: where the walk accepts the 140, its head is admitted, and its body is written where there is room.
 -- x: behind the head's tests; z: the start. Assumes nothing.
 use mathlib.Core.Path.{_≡_}
 use Prim.Native.Nat.{_+_, _-_, _≤_}
 use native.Mathlib.Omega.{arith}
 use denote.Ref.{now}
 use lib.ListN.{length, length-take, length-drop}
-use Rattle.rules.proofs.Room.{stays-framesRest}
 use Rattle.rules.specs.Rules as R
+use Rattle.rules.proofs.Room.{stays-framesRest}
 use Rattle.records.specs.Says.{headOf}
-use Rattle.judge.proofs.FramesBody.{body-fills}
-use Rattle.table.proofs.Lists.{frames-refused}
+use Rattle.signals.proofs.FramesBody.{body-fills}
+use Rattle.rows.proofs.Lists.{frames-refused}
 use Rattle.copies.proofs.Onward.{record-copied}
 use Rattle.turn.proofs.Turning.{frames-in}
 use borrow.Author.Needs.{needs}

@@ -1,4 +1,4 @@
--- `frames::frames_body` meets its contract. The loop's invariant: what is written of the body is what stands before the next frame, which is read where it is written.
+-- `turn::frames::frames_body` meets its contract. The loop's invariant: what is written of the body is what stands before the next frame, which is read where it is written.
 -- The measure is how many frames are left. Assumes nothing.
 use mathlib.Core.Path.{_≡_, refl, sym, _∙_}
 use mathlib.Core.List.{List}
@@ -12,8 +12,8 @@ use Rattle.words.specs.Numbers.{numberAt}
 use Rattle.walk.specs.See.{see, goes}
 use Rattle.rules.specs.Rules as R
 use Rattle.records.specs.Says.{Kept}
-use Rattle.table.proofs.Written.{series-reach}
-use Rattle.copies.specs.Copy.{copy}
+use Rattle.rows.proofs.Written.{series-reach}
+use Rattle.bodies.specs.Copy.{copy}
 use Rattle.turn.proofs.Turning.{Framing, framed, framing-start, framing-more, framing-end}
 use borrow.Author.Needs.{needs}
 use Rattle.turn.proofs.frames.frames_body.Statement.{statement}

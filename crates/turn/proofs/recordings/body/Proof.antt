@@ -1,4 +1,4 @@
--- `recordings::body` meets its contract: the tables, the 140 and the bytes behind the delimiter are written one behind the other.
+-- `turn::recordings::body` meets its contract: the tables, the 140 and the bytes behind the delimiter are written one behind the other.
 -- Assumes nothing.
 use native.Mathlib.Omega.{arith}
 use denote.Ref.{now}

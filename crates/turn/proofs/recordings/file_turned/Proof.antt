@@ -1,4 +1,4 @@
--- `recordings::file_turned` meets its contract. The loop's invariant: what is written of all recordings is what stands before the next one.
+-- `turn::recordings::file_turned` meets its contract. The loop's invariant: what is written of all recordings is what stands before the next one.
 -- The measure is how many recordings are left. Assumes nothing.
 use mathlib.Core.Path.{_≡_, refl, sym, _∙_}
 use mathlib.Core.Bool.{true}
@@ -11,7 +11,7 @@ use lib.ListN.{length}
 use lib.Seq.{length-take-le}
 use Rattle.walk.specs.See.{see, goes}
 use Rattle.rules.specs.Rules.{Placed, recordings}
-use Rattle.judge.specs.Tabled.{Within}
+use Rattle.tables.specs.Tabled.{Within}
 use Rattle.turn.proofs.Sent.{Sending, sending-start, sending-led, sending-stop, sending-next, sending-end, file-copied}
 use borrow.Author.Needs.{needs}
 use Rattle.turn.proofs.recordings.file_turned.Statement.{statement}

@@ -1,4 +1,4 @@
--- `recordings::header` meets its contract: all its bytes stand as they are, but for the letter.
+-- `turn::recordings::header` meets its contract: all its bytes stand as they are, but for the letter.
 -- Assumes nothing.
 use denote.Ref.{now}
 use Rattle.turn.proofs.Sent.{header-copied}

@@ -1,4 +1,4 @@
--- `recordings::other` meets its contract.
+-- `turn::recordings::other` meets its contract.
 -- Assumes nothing.
 use Rattle.words.specs.Numbers.{other}
 use borrow.Author.Needs.{needs}

@@ -1,4 +1,4 @@
--- `recordings::recording` meets its contract: its head, and its body as a part of the file.
+-- `turn::recordings::recording` meets its contract: its head, and its body as a part of the file.
 -- Assumes nothing.
 use denote.Ref.{now}
 use Rattle.turn.proofs.Sent.{recording-short, recording-copied}

@@ -1,0 +1,3 @@
+pub mod Copying
+pub mod Pieces
+pub mod Filling

@@ -1,0 +1,416 @@
+-- Walks that read as many bytes whatever they are, and what is written of them piece by piece: runs of numbers, reserve areas, texts.
+-- Assumes nothing.
+use mathlib.Core.Path.{_≡_, refl, sym, ap, _∙_}
+use mathlib.Core.Bool.{Bool, true, false, not}
+use mathlib.Core.List.{List, [], _∷_, _++_, reverse, append-assoc, append-nil}
+use Prim.Native.Nat.{ℕ, zero, suc, _+_, _-_, _*_, _≤_, _<_}
+use native.Mathlib.Nat.{sub-zero, zero-mul, suc-mul, add-assoc, add-comm, sub-self}
+use native.Mathlib.Numerals.{add-one}
+use native.Mathlib.Omega.{arith}
+use lib.ListN.{length, take, drop, replicate, length-append, length-drop}
+use lib.Seq.{drop-drop, take-add, take-at, take-all, length-take-le}
+use Rattle.words.specs.Numbers.{other, Bytes, bytesIn, wordIn, bytesAt, numberAt}
+use Rattle.words.specs.Runs.{turned}
+use Rattle.words.specs.declared.Order.{Order}
+use Rattle.words.specs.declared.Order.the-variants.{Little, Big}
+use Rattle.words.proofs.Words.{bytes-take, bytes-drop, bytesIn-wordIn}
+use Rattle.words.proofs.Runs.{bytesIn-other}
+use Rattle.walk.specs.Trace.{trace, written}
+use Rattle.walk.specs.Walk.{Text, laid, Event, numeral, piece, blank, row, render, cleared, size, Walk, give, refuse, check, number, read, skip, list, _>>=_, _>>_, pick, text, reserve}
+use Rattle.walk.proofs.Laid.{laid-text}
+use Rattle.walk.proofs.Seen.{part-bytes, length-bytesAt}
+use Rattle.walk.proofs.Tracing.{trace-give, written-append, written-none, written-piece, length-written}
+use Rattle.rules.specs.Rules as R
+use Rattle.bodies.specs.Copy.{copy, sameOrder}
+use Rattle.bodies.specs.declared.Way.{Way}
+
+-- walks of one length
+
+module _ {A : Type 0} where
+  -- the walk comes from the position at to e, whatever the bytes are; its tests do not count
+  abbrev pub Reaches : ℕ → ℕ → Walk A → Type 0
+  Reaches e at (give a) = at ≡ e
+  Reaches e at (refuse n p) = ⊥
+  Reaches e at (check c n p v) = Reaches e at v
+  Reaches e at (number n f) = (x : ℕ) → Reaches e (at + n) (f x)
+  Reaches e at (read k n f) = (bs : List ℕ) → Reaches e (at + n) (f bs)
+  Reaches e at (skip n v) = Reaches e (at + n) v
+  Reaches e at (list p l c m v) = Reaches e at v
+
+  -- it reads n bytes
+  abbrev pub Takes : ℕ → Walk A → Type 0
+  Takes n v = (at : ℕ) → Reaches (at + n) at v
+
+  reaches-le : (v : Walk A) (at e : ℕ) → Reaches e at v → at ≤ e
+  reaches-le (give a) at e h = omega arith
+  reaches-le (refuse n p) at e h = absurd h
+  reaches-le (check c n p v) at e h = reaches-le v at e h
+  reaches-le (number n f) at e h = omega (arith, reaches-le (f 0) (at + n) e (h 0))
+  reaches-le (read k n f) at e h = omega (arith, reaches-le (f []) (at + n) e (h []))
+  reaches-le (skip n v) at e h = omega (arith, reaches-le v (at + n) e h)
+  reaches-le (list p l c m v) at e h = reaches-le v at e h
+
+  module _ (o : Order) (b c a m : ℕ) (s : List ℕ) (stands : c ≡ b + a) where
+    -- a part has the same events as the whole
+    trace-within : (v : Walk A) (at e : ℕ) → c ≤ at → e ≤ c + m → Reaches e at v → trace o c (take m (drop a s)) at v ≡ trace o b s at v
+    unfolding trace numberAt bytesAt
+    trace-within (give x) at e g l h = refl
+    trace-within (refuse n p) at e g l h = refl
+    trace-within (check t n p v) at e g l h = trace-within v at e g l h
+    trace-within (number n f) at e g l h =
+        let d : a + (at - c) ≡ at - b = omega arith in
+        rw (part-bytes s a m (at - c) n (omega (arith, reaches-le (f 0) (at + n) e (h 0))), d) (ap (λ (t : List Event). numeral n (numberAt o n s (at - b)) ∷ t) (trace-within (f (numberAt o n s (at - b))) (at + n) e (omega arith) l (h _)))
+    trace-within (read k n f) at e g l h =
+        let d : a + (at - c) ≡ at - b = omega arith in
+        rw (part-bytes s a m (at - c) n (omega (arith, reaches-le (f []) (at + n) e (h []))), d) (ap (λ (t : List Event). piece k (laid o k (bytesAt n s (at - b))) ∷ t) (trace-within (f (laid o k (bytesAt n s (at - b)))) (at + n) e (omega arith) l (h _)))
+    trace-within (skip n v) at e g l h =
+        let d : a + (at - c) ≡ at - b = omega arith in
+        rw (part-bytes s a m (at - c) n (omega (arith, reaches-le v (at + n) e h)), d) (ap (λ (t : List Event). blank (bytesAt n s (at - b)) ∷ t) (trace-within v (at + n) e (omega arith) l h))
+    trace-within (list p i x y v) at e g l h = ap (λ (t : List Event). row p i x y ∷ t) (trace-within v at e g l h)
+
+  module _ (o : Order) (b : ℕ) (s : List ℕ) where
+    -- how many bytes they are
+    size-within : (v : Walk A) (at e : ℕ) → b ≤ at → e ≤ b + length s → Reaches e at v → at + size (trace o b s at v) ≡ e
+    unfolding trace size numberAt bytesAt
+    size-within (give x) at e g l h = omega arith
+    size-within (refuse n p) at e g l h = absurd h
+    size-within (check t n p v) at e g l h = size-within v at e g l h
+    size-within (number n f) at e g l h = omega (arith, size-within (f (numberAt o n s (at - b))) (at + n) e (omega arith) l (h _))
+    size-within (read k n f) at e g l h =
+        let r = h (laid o k (bytesAt n s (at - b))) in
+        let i = reaches-le (f (laid o k (bytesAt n s (at - b)))) (at + n) e r in
+        omega (arith, length-bytesAt o b s k n at (omega arith) g, size-within (f (laid o k (bytesAt n s (at - b)))) (at + n) e (omega arith) l r)
+    size-within (skip n v) at e g l h =
+        let i = reaches-le v (at + n) e h in
+        let j : length (bytesAt n s (at - b)) ≡ n = length-take-le n (drop (at - b) s) (rw length-drop (omega arith)) in
+        omega (arith, size-within v (at + n) e (omega arith) l h)
+    size-within (list p i x y v) at e g l h = size-within v at e g l h
+
+module _ {A B : Type 0} where
+  reaches-bind : (v : Walk A) (k : A → Walk B) (at d e : ℕ) → Reaches d at v → ((a : A) → Reaches e d (k a)) → Reaches e at (v >>= k)
+  unfolding _>>=_
+  reaches-bind (give x) k at d e h f = rw h (f x)
+  reaches-bind (refuse n p) k at d e h f = absurd h
+  reaches-bind (check c n p v) k at d e h f = reaches-bind v k at d e h f
+  reaches-bind (number n g) k at d e h f = λ x. reaches-bind (g x) k (at + n) d e (h x) f
+  reaches-bind (read κ n g) k at d e h f = λ bs. reaches-bind (g bs) k (at + n) d e (h bs) f
+  reaches-bind (skip n v) k at d e h f = reaches-bind v k (at + n) d e h f
+  reaches-bind (list p l c m v) k at d e h f = reaches-bind v k at d e h f
+
+module _ {A B : Type 0} (o : Order) (b : ℕ) (s : List ℕ) where
+  -- one walk after the other, where what follows is the same whatever was read
+  trace-follows : (v : Walk A) (k : A → Walk B) (at e : ℕ) (t : List Event) → Reaches e at v → ((a : A) → trace o b s e (k a) ≡ t) → trace o b s at (v >>= k) ≡ trace o b s at v ++ t
+  unfolding trace _>>=_
+  trace-follows (give x) k at e t h f = rw h (f x)
+  trace-follows (refuse n p) k at e t h f = absurd h
+  trace-follows (check c n p v) k at e t h f = trace-follows v k at e t h f
+  trace-follows (number n g) k at e t h f = ap (λ (u : List Event). numeral n (numberAt o n s (at - b)) ∷ u) (trace-follows (g (numberAt o n s (at - b))) k (at + n) e t (h _) f)
+  trace-follows (read κ n g) k at e t h f = ap (λ (u : List Event). piece κ (laid o κ (bytesAt n s (at - b))) ∷ u) (trace-follows (g (laid o κ (bytesAt n s (at - b)))) k (at + n) e t (h _) f)
+  trace-follows (skip n v) k at e t h f = ap (λ (u : List Event). blank (bytesAt n s (at - b)) ∷ u) (trace-follows v k (at + n) e t h f)
+  trace-follows (list p l c m v) k at e t h f = ap (λ (u : List Event). row p l c m ∷ u) (trace-follows v k at e t h f)
+
+module _ {A : Type 0} (w : Way) (b : ℕ) (s : List ℕ) (n : ℕ) (v : Walk A) (takes : Takes n v) where
+  -- what is written of them: of a part as of the whole, as many bytes, and before what follows
+  pub copy-within : (a : ℕ) → copy w (b + a) (take n (drop a s)) (b + a) v ≡ copy w b s (b + a) v
+  copy-within a = ap (written (w .keep) (w .to)) (trace-within (w .from) b (b + a) a n s refl v (b + a) (b + a + n) (omega arith) (omega arith) (takes (b + a)))
+
+  pub length-within : (at : ℕ) → b ≤ at → at + n ≤ b + length s → length (copy w b s at v) ≡ n
+  length-within at g l =
+      let i = size-within (w .from) b s v at (at + n) g l (takes at) in
+      length-written (w .keep) (w .to) (trace (w .from) b s at v) ∙ omega arith
+
+  pub copy-follows : {B C : Type 0} (at : ℕ) (k : A → Walk B) (u : Walk C) → ((a : A) → trace (w .from) b s (at + n) (k a) ≡ trace (w .from) b s (at + n) u) → copy w b s at (v >>= k) ≡ copy w b s at v ++ copy w b s (at + n) u
+  copy-follows at k u h =
+      ap (written (w .keep) (w .to)) (trace-follows (w .from) b s v k at (at + n) (trace (w .from) b s (at + n) u) (takes at) h)
+      ∙ written-append (w .keep) (w .to) (trace (w .from) b s at v) (trace (w .from) b s (at + n) u)
+
+  pub copy-next : {C : Type 0} (at : ℕ) (u : Walk C) → copy w b s at (v >> u) ≡ copy w b s at v ++ copy w b s (at + n) u
+  unfolding _>>_
+  copy-next at u = copy-follows at (λ _. u) u (λ _. refl)
+
+-- a buffer with ys in the place of its m bytes from n on
+abbrev pub put : ℕ → ℕ → List ℕ → List ℕ → List ℕ
+put n m d ys = take n d ++ (ys ++ drop m (drop n d))
+
+-- piece by piece: the first n bytes of d are those of the walk u, but for what is left of it, v
+pub record Left {A B : Type 0} (w : Way) (b : ℕ) (s d : List ℕ) (n : ℕ) (u : Walk A) (v : Walk B) : Type 0 where
+  pub long : length d ≡ length s
+  pub is : copy w b s b u ≡ take n d ++ copy w b s (b + n) v
+
+module _ {A : Type 0} (w : Way) (b : ℕ) (s d : List ℕ) (u : Walk A) where
+  -- nothing is written, and the walk is written as another is
+  pub left-whole : {B : Type 0} (v : Walk B) → length d ≡ length s → copy w b s b u ≡ copy w b s b v → Left w b s d 0 u v
+  left-whole v l e = record { long = l; is = e ∙ ap (λ (x : ℕ). copy w b s x v) (omega arith) }
+
+  -- the bytes of a piece come next
+  pub left-more : {B C D : Type 0} (n m : ℕ) (ys : List ℕ) (x : Walk B) (v : Walk C) (y : Walk D) →
+      Takes m v → n + m ≤ length s → copy w b s (b + n) x ≡ copy w b s (b + n) v ++ copy w b s (b + n + m) y →
+      ((c : ℕ) → ys ≡ copy w c (take m (drop n s)) c v) → Left w b s d n u x → Left w b s (put n m d ys) (n + m) u y
+  left-more n m ys x v y takes f e h l =
+      let g : ys ≡ copy w b s (b + n) v = h (b + n) ∙ copy-within w b s m v takes n in
+      let i : length ys ≡ m = ap length g ∙ length-within w b s m v takes (b + n) (omega arith) (omega arith) in
+      let j : length (take n d) ≡ n = length-take-le n d (omega (arith, l .long)) in
+      let r : take (n + m) (put n m d ys) ≡ take n d ++ ys = rw (← append-assoc) (take-at (take n d ++ ys) (drop m (drop n d)) (n + m) (length-append (take n d) ys ∙ omega arith)) in
+      record {
+        long = length-append (take n d) (ys ++ drop m (drop n d)) ∙ omega (arith, length-append ys (drop m (drop n d)), length-drop m (drop n d), length-drop n d, l .long);
+        is = l .is ∙ rw (r, append-assoc, e, g, add-assoc);
+      }
+
+  pub left-next : {C D : Type 0} (n m : ℕ) (ys : List ℕ) (v : Walk C) (y : Walk D) →
+      Takes m v → n + m ≤ length s → ((c : ℕ) → ys ≡ copy w c (take m (drop n s)) c v) → Left w b s d n u (v >> y) → Left w b s (put n m d ys) (n + m) u y
+  left-next n m ys v y takes f = left-more n m ys (v >> y) v y takes f (copy-next w b s m v takes (b + n) y)
+
+  -- nothing is left
+  pub left-nothing : {B : Type 0} (n : ℕ) (x : B) → n ≡ length s → Left w b s d n u (give x) → d ≡ copy w b s b u
+  unfolding trace
+  left-nothing n x e l = sym (l .is ∙ rw (written-none, append-nil) (take-all n d (omega (arith, l .long))))
+
+-- the two orders are one
+
+pub order-little : (b : Order) → sameOrder b Little ≡ sameOrder Little b
+unfolding sameOrder
+order-little Little = refl
+order-little Big = refl
+
+pub order-big : (b : Order) → not (sameOrder b Little) ≡ sameOrder Big b
+unfolding sameOrder
+order-big Little = refl
+order-big Big = refl
+
+-- a run of numbers: each as it stands, or turned
+
+pub takes-numbers : (k n : ℕ) → Takes (n * k) (R.numberList k n)
+unfolding R.numberList _>>=_
+takes-numbers k zero at = omega (arith, zero-mul k)
+takes-numbers k (suc n) at = λ v. reaches-bind (R.numberList k n) (λ l. give (v ∷ l)) (at + k) (at + k + n * k) (at + suc n * k) (takes-numbers k n (at + k)) (λ l. omega (arith, suc-mul n k))
+
+abbrev anew : Bool → ℕ → ℕ → List ℕ → List ℕ
+anew same k n s = pick same (take (n * k) s) (turned k n s)
+
+anew-none : (same : Bool) (k : ℕ) (s : List ℕ) → anew same k 0 s ≡ []
+unfolding turned
+anew-none true k s = rw zero-mul
+anew-none false k s = refl
+
+anew-more : (same : Bool) (k n : ℕ) (s : List ℕ) → anew same k (suc n) s ≡ pick same (take k s) (reverse (take k s)) ++ anew same k n (drop k s)
+unfolding turned
+anew-more true k n s = rw (suc-mul, add-comm (n * k) k) (take-add k (n * k) s)
+anew-more false k n s = refl
+
+-- one number
+unturned : (o : Order) (k : ℕ) (x : List ℕ) → Bytes x → length x ≡ k → bytesIn o k (wordIn o x) ≡ x
+unturned o k x h l = ap (λ (n : ℕ). bytesIn o n (wordIn o x)) (sym l) ∙ bytesIn-wordIn o x h
+
+one-anew : (from to : Order) (k : ℕ) (x : List ℕ) → Bytes x → length x ≡ k → bytesIn to k (wordIn from x) ≡ pick (sameOrder from to) x (reverse x)
+unfolding sameOrder other
+one-anew Little Little k x h l = unturned Little k x h l
+one-anew Little Big k x h l = bytesIn-other Little k (wordIn Little x) ∙ ap reverse (unturned Little k x h l)
+one-anew Big Little k x h l = bytesIn-other Big k (wordIn Big x) ∙ ap reverse (unturned Big k x h l)
+one-anew Big Big k x h l = unturned Big k x h l
+
+written-number : (keep : Bool) (o : Order) (k v : ℕ) (t : List Event) → written keep o (numeral k v ∷ t) ≡ bytesIn o k v ++ written keep o t
+unfolding render cleared
+written-number true o k v t = refl
+written-number false o k v t = refl
+
+module _ (w : Way) (b : ℕ) (s : List ℕ) (k : ℕ) (bytes : Bytes s) where
+  numbers-anew : (n at : ℕ) → b ≤ at → at + n * k ≤ b + length s → copy w b s at (R.numberList k n) ≡ anew (sameOrder (w .from) (w .to)) k n (drop (at - b) s)
+  unfolding R.numberList trace numberAt _>>=_
+  numbers-anew zero at g l = rw (written-none, anew-none)
+  numbers-anew (suc n) at g l =
+      let i : at + k + n * k ≤ b + length s = omega (arith, suc-mul n k) in
+      let x = take k (drop (at - b) s) in
+      let j : length x ≡ k = length-take-le k (drop (at - b) s) (rw length-drop (omega arith)) in
+      let d : at - b + k ≡ at + k - b = omega arith in
+      written-number (w .keep) (w .to) k (wordIn (w .from) x) (trace (w .from) b s (at + k) (R.numberList k n >>= λ l. give (wordIn (w .from) x ∷ l)))
+      ∙ rw (trace-give (w .from) b s (at + k) (R.numberList k n) (λ l. wordIn (w .from) x ∷ l), one-anew (w .from) (w .to) k x (bytes-take k (drop (at - b) s) (bytes-drop (at - b) s bytes)) j, anew-more, drop-drop, d)
+      (ap (λ (y : List ℕ). pick (sameOrder (w .from) (w .to)) x (reverse x) ++ y) (numbers-anew n (at + k) (omega arith) i))
+
+  -- the whole part
+  pub numbers-same : (n : ℕ) → length s ≡ n * k → sameOrder (w .from) (w .to) ≡ true → s ≡ copy w b s b (R.numberList k n)
+  numbers-same n l e = sym (numbers-anew n b (omega arith) (omega arith) ∙ rw (sub-self, e) (take-all (n * k) s (omega arith)))
+
+  pub numbers-turned : (n : ℕ) → length s ≡ n * k → sameOrder (w .from) (w .to) ≡ false → turned k n s ≡ copy w b s b (R.numberList k n)
+  numbers-turned n l e = sym (numbers-anew n b (omega arith) (omega arith) ∙ rw (sub-self, e))
+
+-- a reserve area, as it stands or zero
+pub takes-reserve : (n : ℕ) → Takes n (reserve n)
+takes-reserve n at = refl
+
+copy-reserve : (w : Way) (b : ℕ) (s : List ℕ) → copy w b s b (reserve (length s)) ≡ pick (w .keep) s (replicate (length s) 0)
+unfolding trace bytesAt render cleared
+copy-reserve w b s = rw (sub-self, take-all (length s) s (omega arith)) (blank-written (w .keep))
+  where
+    blank-written : (keep : Bool) → written keep (w .to) (blank s ∷ []) ≡ pick keep s (replicate (length s) 0)
+    blank-written true = append-nil s
+    blank-written false = append-nil (replicate (length s) 0)
+
+pub reserve-same : (w : Way) (b : ℕ) (s : List ℕ) → w .keep ≡ true → s ≡ copy w b s b (reserve (length s))
+reserve-same w b s e = sym (copy-reserve w b s ∙ rw e)
+
+pub reserve-cleared : (w : Way) (b : ℕ) (s : List ℕ) (n : ℕ) → n ≡ length s → w .keep ≡ false → replicate n 0 ≡ copy w b s b (reserve (length s))
+reserve-cleared w b s n l e = sym (copy-reserve w b s ∙ rw (e, l))
+
+-- a text, or two that are handed on as one
+pub takes-text : (n : ℕ) → Takes n (text n)
+takes-text n at = λ _. refl
+
+pub copy-text : (w : Way) (b : ℕ) (s : List ℕ) (at n : ℕ) → copy w b s at (text n) ≡ bytesAt n s (at - b)
+unfolding trace
+copy-text w b s at n = written-piece (w .keep) (w .to) Text (laid (w .from) Text (bytesAt n s (at - b))) [] ∙ rw (written-none, append-nil, laid-text (w .to), laid-text (w .from))
+
+pub text-whole : (w : Way) (b : ℕ) (s : List ℕ) (n : ℕ) → length s ≡ n → s ≡ copy w b s b (text n)
+unfolding bytesAt
+text-whole w b s n l = sym (copy-text w b s b n ∙ rw sub-self (take-all n s (omega arith)))
+
+pub takes-texts : (m n : ℕ) → Takes (m + n) (text m >> text n)
+unfolding _>>_ _>>=_
+takes-texts m n at = λ _ _. omega arith
+
+pub texts-whole : (w : Way) (b : ℕ) (s : List ℕ) (m n : ℕ) → length s ≡ m + n → s ≡ copy w b s b (text m >> text n)
+unfolding bytesAt
+texts-whole w b s m n l =
+    let d : b + m - b ≡ m = omega arith in
+    sym (copy-next w b s m (text m) (takes-text m) b (text n) ∙ rw (copy-text w b s b m, copy-text w b s (b + m) n, sub-self, d) (sym (take-add m n s) ∙ take-all (m + n) s (omega arith)))
+
+-- events that are written the same
+same-written : (keep : Bool) (o : Order) (t u : List Event) → render o t ≡ render o u → render o (cleared t) ≡ render o (cleared u) → written keep o t ≡ written keep o u
+same-written true o t u h g = h
+same-written false o t u h g = g
+
+-- a 100 and a 125 with their heads
+abbrev basicPieces : Walk (Unit {0})
+basicPieces = R.numberList 4 7 >> (reserve 4 >> (R.numberList 4 6 >> (text 20 >> (R.numberList 4 1 >> (reserve 16 >> (text 32 >> give tt))))))
+
+abbrev channelPieces : Walk (Unit {0})
+channelPieces = R.numberList 4 17 >> (reserve 4 >> ((text 16 >> text 16) >> (reserve 92 >> (text 60 >> give tt))))
+
+copy-basic : (w : Way) (b : ℕ) (s : List ℕ) (at room : ℕ) → copy w b s at (R.basic room) ≡ copy w b s at basicPieces
+unfolding R.numberList R.fixed R.head R.admit R.basicBody trace render cleared _>>=_ _>>_
+copy-basic w b s at room = same-written (w .keep) (w .to) (trace (w .from) b s at (R.basic room)) (trace (w .from) b s at basicPieces) refl refl
+
+copy-channel : (w : Way) (b : ℕ) (s : List ℕ) (at room i : ℕ) → copy w b s at (R.channel room i) ≡ copy w b s at channelPieces
+unfolding R.numberList R.fixed R.head R.admit R.channelBody trace render cleared _>>=_ _>>_
+copy-channel w b s at room i = same-written (w .keep) (w .to) (trace (w .from) b s at (R.channel room i)) (trace (w .from) b s at channelPieces) refl refl
+
+length-part : (s : List ℕ) (n m : ℕ) → n + m ≤ length s → length (take m (drop n s)) ≡ m
+length-part s n m f = length-take-le m (drop n s) (rw length-drop (omega arith))
+
+module _ {A D : Type 0} (w : Way) (b : ℕ) (s d : List ℕ) (u : Walk A) (y : Walk D) (n : ℕ) (ys : List ℕ) where
+  pub left-numbers : (k m : ℕ) → n + m * k ≤ length s → ((c : ℕ) → ys ≡ copy w c (take (m * k) (drop n s)) c (R.numberList k m)) → Left w b s d n u (R.numberList k m >> y) → Left w b s (put n (m * k) d ys) (n + m * k) u y
+  left-numbers k m f h = left-next w b s d u n (m * k) ys (R.numberList k m) y (takes-numbers k m) f h
+
+  pub left-reserve : (m : ℕ) → n + m ≤ length s → ((c : ℕ) → ys ≡ copy w c (take m (drop n s)) c (reserve (length (take m (drop n s))))) → Left w b s d n u (reserve m >> y) → Left w b s (put n m d ys) (n + m) u y
+  left-reserve m f h =
+      left-next w b s d u n m ys (reserve m) y (takes-reserve m) f (λ c. h c ∙ ap (λ (x : ℕ). copy w c (take m (drop n s)) c (reserve x)) (length-part s n m f))
+
+  pub left-text : (m : ℕ) → n + m ≤ length s → ys ≡ take m (drop n s) → Left w b s d n u (text m >> y) → Left w b s (put n m d ys) (n + m) u y
+  left-text m f h =
+      left-next w b s d u n m ys (text m) y (takes-text m) f (λ c. h ∙ text-whole w c (take m (drop n s)) m (length-part s n m f))
+
+  pub left-texts : (m k : ℕ) → n + (m + k) ≤ length s → ys ≡ take (m + k) (drop n s) → Left w b s d n u (text m >> text k >> y) → Left w b s (put n (m + k) d ys) (n + (m + k)) u y
+  left-texts m k f h =
+      left-next w b s d u n (m + k) ys (text m >> text k) y (takes-texts m k) f (λ c. h ∙ texts-whole w c (take (m + k) (drop n s)) m k (length-part s n (m + k) f))
+
+-- a text that goes up to the end comes last
+pub left-end : {A B : Type 0} (w : Way) (b : ℕ) (s d : List ℕ) (u : Walk A) (n : ℕ) (ys : List ℕ) (m : ℕ) (x : B) → length s ≡ n + m → ys ≡ take (length s - n) (drop n s) → Left w b s d n u (text m >> give x) → put n (length d - n) d ys ≡ copy w b s b u
+left-end w b s d u n ys m x f h l =
+    let i : length s - n ≡ m = omega arith in
+    let j : length d - n ≡ m = omega (arith, l .long) in
+    rw j (left-nothing w b s (put n m d ys) u (n + m) x (sym f) (left-text w b s d u (give x) n ys m (omega arith) (rw i at h) l))
+
+module _ (w : Way) (s : List ℕ) where
+  -- what a call wrote in the place of a piece that begins at n
+  abbrev pub Numbers : List ℕ → ℕ → ℕ → Type 0
+  Numbers ys n m = (c : ℕ) → ys ≡ copy w c (take (m * 4) (drop n s)) c (R.numberList 4 m)
+
+  abbrev pub Reserved : List ℕ → ℕ → ℕ → Type 0
+  Reserved ys n m = (c : ℕ) → ys ≡ copy w c (take m (drop n s)) c (reserve (length (take m (drop n s))))
+
+  pub basic-written : (d y₁ y₂ y₃ y₄ y₅ y₆ y₇ : List ℕ) → length s ≡ 128 → length d ≡ length s →
+      Numbers y₁ 0 7 → Reserved y₂ 28 4 → Numbers y₃ 32 6 → y₄ ≡ take 20 (drop 56 s) → Numbers y₅ 76 1 → Reserved y₆ 80 16 → y₇ ≡ take (length s - 96) (drop 96 s) →
+      let d₆ = put 80 16 (put 76 4 (put 56 20 (put 32 24 (put 28 4 (put 0 28 d y₁) y₂) y₃) y₄) y₅) y₆ in
+      (b room : ℕ) → put 96 (length d₆ - 96) d₆ y₇ ≡ copy w b s b (R.basic room)
+  basic-written d y₁ y₂ y₃ y₄ y₅ y₆ y₇ l k h₁ h₂ h₃ h₄ h₅ h₆ h₇ b room =
+      left-end w b s _ (R.basic room) 96 y₇ 32 tt l h₇
+      (left-reserve w b s _ (R.basic room) _ 80 y₆ 16 (omega arith) h₆
+      (left-numbers w b s _ (R.basic room) _ 76 y₅ 4 1 (omega arith) h₅
+      (left-text w b s _ (R.basic room) _ 56 y₄ 20 (omega arith) h₄
+      (left-numbers w b s _ (R.basic room) _ 32 y₃ 4 6 (omega arith) h₃
+      (left-reserve w b s _ (R.basic room) _ 28 y₂ 4 (omega arith) h₂
+      (left-numbers w b s d (R.basic room) _ 0 y₁ 4 7 (omega arith) h₁ (left-whole w b s d (R.basic room) basicPieces k (copy-basic w b s b room))))))))
+
+  pub channel-written : (d y₁ y₂ y₃ y₄ y₅ : List ℕ) → length s ≡ 256 → length d ≡ length s →
+      Numbers y₁ 0 17 → Reserved y₂ 68 4 → y₃ ≡ take 32 (drop 72 s) → Reserved y₄ 104 92 → y₅ ≡ take (length s - 196) (drop 196 s) →
+      let d₄ = put 104 92 (put 72 32 (put 68 4 (put 0 68 d y₁) y₂) y₃) y₄ in
+      (b room i : ℕ) → put 196 (length d₄ - 196) d₄ y₅ ≡ copy w b s b (R.channel room i)
+  channel-written d y₁ y₂ y₃ y₄ y₅ l k h₁ h₂ h₃ h₄ h₅ b room i =
+      left-end w b s _ (R.channel room i) 196 y₅ 60 tt l h₅
+      (left-reserve w b s _ (R.channel room i) _ 104 y₄ 92 (omega arith) h₄
+      (left-texts w b s _ (R.channel room i) _ 72 y₃ 16 16 (omega arith) h₃
+      (left-reserve w b s _ (R.channel room i) _ 68 y₂ 4 (omega arith) h₂
+      (left-numbers w b s d (R.channel room i) _ 0 y₁ 4 17 (omega arith) h₁ (left-whole w b s d (R.channel room i) channelPieces k (copy-channel w b s b room i))))))
+
+-- the body of a 120
+
+pub takes-channel : (room i : ℕ) → Takes 256 (R.channel room i)
+unfolding R.fixed R.head R.admit R.channelBody _>>=_ _>>_
+takes-channel room i at = λ _ _ _ _ _ _ _ _ _ _ _ _ _ _ _ _ _ _ _ _. omega arith
+
+-- the first of walks that stand one after the other, and the others
+pub copy-series : {A : Type 0} (w : Way) (b : ℕ) (s : List ℕ) (at n i step room : ℕ) (v : ℕ → ℕ → Walk A) → Takes step (v room i) →
+    copy w b s at (R.series (suc n) i step room v) ≡ copy w b s at (v room i) ++ copy w b s (at + step) (R.series n (suc i) step (room - step) v)
+unfolding R.series
+copy-series w b s at n i step room v takes =
+    copy-follows w b s step (v room i) takes at (λ a. R.series n (suc i) step (room - step) v >>= λ l. give (a ∷ l)) (R.series n (suc i) step (room - step) v)
+    (λ a. trace-give (w .from) b s (at + step) (R.series n (suc i) step (room - step) v) (λ l. a ∷ l))
+
+copy-channels : (w : Way) (b : ℕ) (s : List ℕ) (c : R.Basic) (n m : ℕ) → numberAt (w .from) 4 s 0 ≡ m → copy w b s b (R.channelsBody c n) ≡ copy w b s b (R.numberList 4 2 >> (reserve 8 >> R.series m 1 256 (n - 32) R.channel))
+unfolding R.numberList R.channelsBody trace render cleared _>>=_ _>>_
+copy-channels w b s c n m h =
+    let e : numberAt (w .from) 4 s (b - b) ≡ m = rw sub-self h in
+    same-written (w .keep) (w .to) (trace (w .from) b s b (R.channelsBody c n)) (trace (w .from) b s b (R.numberList 4 2 >> (reserve 8 >> R.series m 1 256 (n - 32) R.channel))) (rw e) (rw e)
+
+-- i of the m channels are written
+pub record SoFar (w : Way) (m : ℕ) (s d : List ℕ) (at i : ℕ) : Type 0 where
+  pub place : at ≡ 16 + 256 * i
+  pub within : i ≤ m
+  pub whole : length s ≡ 16 + 256 * m
+  pub long : length d ≡ length s
+  pub left : (b n : ℕ) (c : R.Basic) → numberAt (w .from) 4 s 0 ≡ m → Left w b s d at (R.channelsBody c n) (R.series (m - i) (suc i) 256 (n - 32 - 256 * i) R.channel)
+
+module _ (w : Way) (m : ℕ) (s d : List ℕ) where
+  pub channels-front : (y₁ y₂ : List ℕ) → length s ≡ 16 + 256 * m → length d ≡ length s → length (put 8 8 (put 0 8 d y₁) y₂) ≡ length d → Numbers w s y₁ 0 2 → Reserved w s y₂ 8 8 → SoFar w m s (put 8 8 (put 0 8 d y₁) y₂) 16 0
+  channels-front y₁ y₂ f l k h₁ h₂ =
+      record {
+        place = omega arith;
+        within = omega arith;
+        whole = f;
+        long = k ∙ l;
+        left = λ b n c e.
+            rw (sub-zero m, sub-zero (n - 32))
+            (left-reserve w b s _ (R.channelsBody c n) _ 8 y₂ 8 (omega arith) h₂
+            (left-numbers w b s d (R.channelsBody c n) _ 0 y₁ 4 2 (omega arith) h₁ (left-whole w b s d (R.channelsBody c n) _ l (copy-channels w b s c n m e))));
+      }
+
+  pub channels-more : (at i k e : ℕ) (ys : List ℕ) → i < m → k ≡ 256 → e ≡ at + 256 → length (put at k d ys) ≡ length d → ((b room j : ℕ) → ys ≡ copy w b (take k (drop at s)) b (R.channel room j)) → SoFar w m s d at i → SoFar w m s (put at k d ys) e (i + 1)
+  channels-more at i k e ys f l g o h q =
+      record {
+        place = omega (arith, q .place);
+        within = omega arith;
+        whole = q .whole;
+        long = o ∙ q .long;
+        left = λ b n c x.
+            let r = n - 32 - 256 * i in
+            let y : m - i ≡ suc (m - suc i) = omega arith in
+            let z : n - 32 - 256 * (i + 1) ≡ r - 256 = omega arith in
+            rw (l, g, z, add-one)
+            (left-more w b s d (R.channelsBody c n) at 256 ys _ (R.channel r (suc i)) (R.series (m - suc i) (suc (suc i)) 256 (r - 256) R.channel) (takes-channel r (suc i)) (omega (arith, q .place, q .whole))
+            (copy-series w b s (b + at) (m - suc i) (suc i) 256 r R.channel (takes-channel r (suc i))) (λ p. rw l at (h p r (suc i))) (rw y at (q .left b n c x)));
+      }
+
+  pub channels-all : (at i : ℕ) → i ≡ m → SoFar w m s d at i → (b n : ℕ) (c : R.Basic) → numberAt (w .from) 4 s 0 ≡ m → d ≡ copy w b s b (R.channelsBody c n)
+  unfolding R.series
+  channels-all at i f q b n c e =
+      let z : m - i ≡ 0 = omega arith in
+      left-nothing w b s d (R.channelsBody c n) at [] (omega (arith, q .place, q .whole)) (rw z at (q .left b n c e))

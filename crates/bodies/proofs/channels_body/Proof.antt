@@ -1,0 +1,75 @@
+-- `bodies::channels_body` meets its contract: after i turns i channels are written behind the front.
+-- Assumes nothing.
+use mathlib.Core.Path.{sym, _∙_}
+use Prim.Native.Nat.{_+_, _-_}
+use native.Mathlib.Omega.{arith}
+use lib.Seq.{length-take-le}
+use borrow.Author.Needs.{needs}
+use Rattle.bodies.proofs.Pieces.{SoFar, channels-front, channels-more, channels-all}
+use Rattle.bodies.proofs.channels_body.Statement.{statement}
+use Rattle.bodies.proofs.channels_body.Tie as tie
+
+abbrev Inv-loop : tie.InvT-loop
+Inv-loop w m s d₀ reserve at₀ i₀ d at i = SoFar w m s d at i
+
+abbrev μ-loop : tie.MeasureT-loop
+μ-loop w m s d₀ reserve at₀ i₀ d at i = m - i
+
+slice-aggregate-numbers : tie.Need-slice-aggregate-numbers Inv-loop μ-loop
+slice-aggregate-numbers c = sym (length-take-le 8 (c .before .before .before .args .s .now) (omega arith))
+
+slice-aggregate-numbers-2 : tie.Need-slice-aggregate-numbers-2 Inv-loop μ-loop
+slice-aggregate-numbers-2 c = sym (length-take-le 8 (c .before .before .before .before .args .d .now) (omega arith))
+
+numbers-requires : tie.Need-numbers-requires Inv-loop μ-loop
+numbers-requires c κs = (omega arith, omega arith, length-take-le 8 (c .before .before .before .before .args .s .now) (omega arith), length-take-le 8 (c .before .before .before .before .args .d .now) (omega arith))
+
+loop-holds : tie.Need-loop-holds Inv-loop μ-loop
+loop-holds c =
+    let start = c .before .before .before .before .before .before .before .before .before .before .before .before in
+    let a = start .args in
+    channels-front (a .w) (a .m) (a .s .now) (a .d .now) _ _ (start .pre .0) (start .pre .1 ∙ sym (start .pre .0)) (c .before .d2 .given .1 ∙ c .before .before .before .before .before .before .d .given .1) (c .before .before .before .before .before .before .before .numbers .ensures) (c .before .before .reserved .ensures)
+
+loop-again : tie.Need-loop-again Inv-loop μ-loop
+loop-again c =
+    let l = c .before .before .before .before .before .before .loop in
+    let a = c .before .before .before .before .before .before .before .before .before .before .before .before .before .before .before .before .before .before .before .args in
+    channels-more (a .w) (a .m) (a .s .now) (l .d) (l .at) (l .i) (l .at + 256 - l .at) (l .at + 256) _ (c .before .before .before .before .before .loop-test .taken) (omega arith) (omega arith) (c .before .d3 .given .1) (c .before .before .channel .ensures) (l .inv)
+
+returns : tie.Need-returns Inv-loop μ-loop
+returns c =
+    let l = c .before .loop in
+    let a = c .before .before .before .before .before .before .before .before .before .before .before .before .before .before .args in
+    channels-all (a .w) (a .m) (a .s .now) (l .d) (l .at) (l .i) (omega arith) (l .inv)
+
+pub channels-body-spec : {M : Type 1} → statement M
+channels-body-spec =
+    tie.close
+    (tie.spec
+    Inv-loop
+    μ-loop
+    slice-aggregate-numbers
+    (λ c. search needs)
+    slice-aggregate-numbers-2
+    numbers-requires
+    (λ c. search needs)
+    (λ c. search needs)
+    (λ c. search needs)
+    (λ c. search needs)
+    (λ c. search needs)
+    (λ c. search needs)
+    (λ c κs. search needs)
+    loop-holds
+    (λ c. search needs)
+    (λ c. search needs)
+    (λ c. search needs)
+    (λ c. search needs)
+    (λ c. search needs)
+    (λ c. search needs)
+    (λ c. search needs)
+    (λ c κs. search needs)
+    (λ c. search needs)
+    (λ c. search needs)
+    loop-again
+    (λ c. search needs)
+    returns)

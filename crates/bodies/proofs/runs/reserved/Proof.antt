@@ -1,0 +1,24 @@
+-- `bodies::runs::reserved` meets its contract: the area stands, or is zero.
+-- Assumes nothing.
+use mathlib.Core.Path.{_∙_}
+use borrow.Author.Needs.{needs}
+use Rattle.bodies.proofs.Pieces.{reserve-same, reserve-cleared}
+use Rattle.bodies.proofs.runs.reserved.Statement.{statement}
+use Rattle.bodies.proofs.runs.reserved.Tie as tie
+
+returns : tie.Need-returns
+returns c = λ b. c .before .before .copy-run .ensures ∙ reserve-same _ b _ (c .before .before .before .before .if1 .taken)
+
+returns-2 : tie.Need-returns-2
+returns-2 c = λ b. c .before .before .clear-run .ensures ∙ reserve-cleared _ b _ _ (c .before .before .before .before .before .before .before .pre) (c .before .before .before .before .if1 .left)
+
+pub reserved-spec : {M : Type 1} → statement M
+reserved-spec =
+    tie.close
+    (tie.spec
+    (λ c κs. search needs)
+    (λ c κs. search needs)
+    (λ c. search needs)
+    returns
+    (λ c. search needs)
+    returns-2)

@@ -1,0 +1,54 @@
+-- What is written of a walk's events, and where.
+-- Assumes nothing.
+use mathlib.Core.Path.{_≡_}
+use mathlib.Core.Bool.{Bool, true, false}
+use mathlib.Core.List.{List, _++_}
+use mathlib.Core.Option.{Option}
+use Prim.Native.Nat.{ℕ, _+_, _-_, _≤_, _<_}
+use lib.ListN.{length}
+use Rattle.words.specs.Runs.{pasted}
+use Rattle.words.specs.declared.Order.{Order}
+use Rattle.words.specs.declared.Order.the-variants.{Little, Big}
+use Rattle.walk.specs.See.{goes, see}
+use Rattle.walk.specs.Trace.{trace, written}
+use Rattle.walk.specs.Walk.{Walk, _>>_, reserve}
+use Rattle.rules.specs.Rules as R
+use Rattle.rules.specs.declared.Head.{Head}
+use Rattle.records.specs.Says.{headOf}
+use Rattle.rows.specs.Rows.{Marks}
+use Rattle.bodies.specs.declared.Way.{Way}
+
+-- the two orders are one
+unfoldable pub sameOrder : Order → Order → Bool
+sameOrder Little Little = true
+sameOrder Little Big = false
+sameOrder Big Little = false
+sameOrder Big Big = true
+
+-- the bytes of the events of a walk over the part s of the file, which stands at b, written anew
+abbrev pub copy : {A : Type 0} → Way → ℕ → List ℕ → ℕ → Walk A → List ℕ
+copy w b s at v = written (w .keep) (w .to) (trace (w .from) b s at v)
+
+-- where there is room, the bytes stand from k on in the buffer, and the next go behind them
+abbrev pub Pastes : List ℕ → List ℕ → ℕ → ℕ → List ℕ → Type 0
+Pastes out out′ k k′ xs = (k + length xs ≤ length out → (k′ ≡ k + length xs) × (out′ ≡ pasted out k xs))
+
+-- the same where nothing is said of what follows
+abbrev pub Holds : List ℕ → List ℕ → ℕ → List ℕ → Type 0
+Holds out out′ k xs = (k + length xs ≤ length out → out′ ≡ pasted out k xs)
+
+-- a frame's clock and its samples, without what pads it
+unfoldable pub filling : ℕ → List R.Channel → Walk (List (List ℕ))
+filling t cs = R.numberList 2 3 >> (reserve 2 >> R.samples t cs)
+
+-- a part of a recording with the head h, and the makers' records behind it: where the walk accepts them, they are written, and it comes to the head h′
+abbrev pub PartCopied : {A : Type 0} → Way → ℕ → List ℕ → Head → ℕ → (ℕ → R.Head → Walk A) → List ℕ → List ℕ → ℕ → ℕ → Head → Type 0
+PartCopied {A} w b s h code body out out′ k k′ h′ =
+    (held : Option A) (n : R.Next) (fuel : ℕ) (x : R.Part A) (e : ℕ) → Marks (w .from) b s h n (b + (h .at + 16)) → length s < fuel → see (w .from) b s (b + (h .at + 16)) (R.part fuel code body held n) ≡ goes x e →
+    Marks (w .from) b s h′ (x .next) e × Pastes out out′ k k′ (copy w b s (b + (h .at + 16)) (R.part fuel code body held n))
+
+-- the same of the rest of a record whose code is known
+abbrev pub RecordCopied : {A : Type 0} → Way → ℕ → List ℕ → Head → (ℕ → R.Head → Walk A) → List ℕ → List ℕ → ℕ → ℕ → Head → Type 0
+RecordCopied {A} w b s h body out out′ k k′ h′ =
+    (fuel : ℕ) (a : A) (e₁ : ℕ) (d : R.Next) (e₂ : ℕ) → length s < fuel → see (w .from) b s (b + (h .at + 16)) (body (length s - h .at) (headOf h)) ≡ goes a e₁ → see (w .from) b s e₁ (R.next fuel (length s - h .at - R.span (headOf h))) ≡ goes d e₂ →
+    Marks (w .from) b s h′ d e₂ × Pastes out out′ k k′ (copy w b s (b + (h .at + 16)) (body (length s - h .at) (headOf h)) ++ copy w b s e₁ (R.next fuel (length s - h .at - R.span (headOf h))))

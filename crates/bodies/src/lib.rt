@@ -1,0 +1,206 @@
+// The bodies of records, written anew into parts of the same length.
+pub mod runs;
+
+ghost use mathlib.Core.Path.{_≡_};
+ghost use mathlib.Core.Bool.{Bool, _&&_};
+ghost use mathlib.Core.List.{List, _∷_};
+ghost use Prim.Native.Nat.{ℕ, _+_, _-_, _*_, _≤_, _<_};
+ghost use lib.Dec.{leb};
+ghost use lib.ListN.{length};
+ghost use Rattle.words.specs.Numbers.{numberAt};
+ghost use Rattle.words.specs.Runs.{pasted};
+ghost use Rattle.walk.specs.See.{see, goes};
+ghost use Rattle.rules.specs.Rules as R;
+ghost use Rattle.records.specs.Says.{Kept};
+ghost use Rattle.bodies.specs.Copy.{copy, filling};
+use crate::runs::numbers;
+use crate::runs::reserved;
+use bulk::copy_run;
+use rules::Basic;
+use rules::Channel;
+use rules::Channels;
+use rules::Frame;
+use rules::Frames;
+use rules::Item;
+use rules::Items;
+use words::Order;
+use words::number4;
+
+// From the file's order to another or the same; `keep`: reserve areas stand as they are, else they are zero.
+pub struct Way {
+    pub from: Order,
+    pub to: Order,
+    pub keep: bool,
+}
+
+// A record 100.
+pub fn basic(w: Way, s: &[u8], d: &mut [u8])
+    requires { ⌜ (length (now s) ≡ 128) × (length (now d) ≡ 128) ⌝ }
+    ensures { λ _. ⌜ ((b room : ℕ) → now (d .exit) ≡ copy w b (now (s .entry)) b (R.basic room)) ⌝ }
+{
+    numbers(w, 4, 7, &s[..Basic::RESERVE], &mut d[..Basic::RESERVE]);
+    reserved(
+        w,
+        &s[Basic::RESERVE..Basic::YEAR],
+        &mut d[Basic::RESERVE..Basic::YEAR],
+    );
+    numbers(
+        w,
+        4,
+        6,
+        &s[Basic::YEAR..Basic::TIME],
+        &mut d[Basic::YEAR..Basic::TIME],
+    );
+    copy_run(
+        &s[Basic::TIME..Basic::MAINS],
+        &mut d[Basic::TIME..Basic::MAINS],
+    );
+    numbers(
+        w,
+        4,
+        1,
+        &s[Basic::MAINS..Basic::SPARE],
+        &mut d[Basic::MAINS..Basic::SPARE],
+    );
+    reserved(
+        w,
+        &s[Basic::SPARE..Basic::COMMENT],
+        &mut d[Basic::SPARE..Basic::COMMENT],
+    );
+    copy_run(&s[Basic::COMMENT..], &mut d[Basic::COMMENT..]);
+}
+
+// A record 125.
+fn channel(w: Way, s: &[u8], d: &mut [u8])
+    requires { ⌜ (length (now s) ≡ 256) × (length (now d) ≡ 256) ⌝ }
+    ensures { λ _. ⌜ ((b room i : ℕ) → now (d .exit) ≡ copy w b (now (s .entry)) b (R.channel room i)) ⌝ }
+{
+    numbers(w, 4, 17, &s[..Channel::RESERVE], &mut d[..Channel::RESERVE]);
+    reserved(
+        w,
+        &s[Channel::RESERVE..Channel::LABEL],
+        &mut d[Channel::RESERVE..Channel::LABEL],
+    );
+    copy_run(
+        &s[Channel::LABEL..Channel::SPARE],
+        &mut d[Channel::LABEL..Channel::SPARE],
+    );
+    reserved(
+        w,
+        &s[Channel::SPARE..Channel::COMMENT],
+        &mut d[Channel::SPARE..Channel::COMMENT],
+    );
+    copy_run(&s[Channel::COMMENT..], &mut d[Channel::COMMENT..]);
+}
+
+// The body of a record 120 of m channels.
+pub fn channels_body(w: Way, m: u32, s: &[u8], d: &mut [u8])
+    requires { ⌜ (length (now s) ≡ 16 + 256 * m) × (length (now d) ≡ 16 + 256 * m) ⌝ }
+    ensures { λ _. ⌜ ((b n : ℕ) (c : R.Basic) → numberAt (w .from) 4 (now (s .entry)) 0 ≡ m → now (d .exit) ≡ copy w b (now (s .entry)) b (R.channelsBody c n)) ⌝ }
+{
+    let reserve = Channels::BODY_RESERVE;
+    let mut at = Channels::BODY_SUBS;
+    numbers(w, 4, 2, &s[..reserve], &mut d[..reserve]);
+    reserved(w, &s[reserve..at], &mut d[reserve..at]);
+    let mut i: u32 = 0;
+    while i < m {
+        let end = at + Channel::LENGTH;
+        channel(w, &s[at..end], &mut d[at..end]);
+        at = end;
+        i += 1;
+    }
+}
+
+// The item at byte p of s: where the next one stands.
+fn item(w: Way, s: &[u8], p: usize, d: &mut [u8]) -> usize
+    requires { ⌜ (p ≤ length (now s)) × (length (now d) ≡ length (now s)) ⌝ }
+    ensures { λ r. ⌜ (r ≤ length (now (s .entry))) × ((b : ℕ) (ok : ℕ → Bool) (x : R.Item) (e : ℕ) → see (w .from) b (now (s .entry)) (b + p) (R.item ok (length (now (s .entry)) - p)) ≡ goes x e → (e ≡ b + r) × (r ≡ p + R.itemSize x) × (now (d .exit) ≡ pasted (now (d .entry)) p (copy w b (now (s .entry)) (b + p) (R.item ok (length (now (s .entry)) - p))))) ⌝ }
+{
+    let o = w.from;
+    let left = s.len() - p;
+    if left < Item::LEAST {
+        return p;
+    }
+    let size = number4(o, s, p) as usize;
+    if size < Item::LEAST {
+        return p;
+    }
+    if left < size {
+        return p;
+    }
+    let text = p + Item::TEXT;
+    let end = p + size;
+    numbers(w, 4, 2, &s[p..text], &mut d[p..text]);
+    copy_run(&s[text..end], &mut d[text..end]);
+    end
+}
+
+// The body of a record 130 or 200.
+pub fn items_body(w: Way, s: &[u8], d: &mut [u8])
+    requires { ⌜ (8 ≤ length (now s)) × (length (now d) ≡ length (now s)) ⌝ }
+    ensures { λ _. ⌜ ((b : ℕ) (ok : ℕ → Bool) (l : List R.Item) (e : ℕ) → see (w .from) b (now (s .entry)) b (R.itemsBody ok (16 + length (now (s .entry)))) ≡ goes l e → now (d .exit) ≡ copy w b (now (s .entry)) b (R.itemsBody ok (16 + length (now (s .entry))))) ⌝ }
+{
+    let o = w.from;
+    let count = number4(o, s, 0);
+    let reserve = Items::BODY_RESERVE;
+    let mut p = Items::BODY_FIRST;
+    numbers(w, 4, 1, &s[..reserve], &mut d[..reserve]);
+    reserved(w, &s[reserve..p], &mut d[reserve..p]);
+    let mut i: u32 = 0;
+    while i < count {
+        p = item(w, s, p, d);
+        i += 1;
+    }
+}
+
+// The samples, from byte p of s on, of the channel whose 125 stands at byte q of the file: where the next channel's stand.
+fn channel_samples(w: Way, file: &[u8], q: usize, t: u32, s: &[u8], p: usize, d: &mut [u8]) -> usize
+    requires { ⌜ (q + 256 ≤ length (now file)) × (t ≤ 3600) × (p ≤ length (now s)) × (length (now d) ≡ length (now s)) ⌝ }
+    ensures { λ r. ⌜ (r ≤ length (now (s .entry))) × ((b : ℕ) (c : R.Channel) (cs : List R.Channel) → Kept (w .from) (now (file .entry)) q (c ∷ cs) → p + R.samplesIn t c * R.width (c .format) ≤ length (now (s .entry)) → (r ≡ p + R.samplesIn t c * R.width (c .format)) × (now (d .exit) ≡ pasted (now (d .entry)) p (copy w b (now (s .entry)) (b + p) (R.numberList (R.width (c .format)) (R.samplesIn t c))))) ⌝ }
+{
+    let o = w.from;
+    let flags = number4(o, file, q + Channel::FLAGS);
+    let format = number4(o, file, q + Channel::FORMAT);
+    let rate = number4(o, file, q + Channel::RATE);
+    let width = records::width(format);
+    let n = records::samples_in(t, flags, rate);
+    let bytes = n * width;
+    if s.len() - p < bytes {
+        return p;
+    }
+    let end = p + bytes;
+    numbers(w, width, n, &s[p..end], &mut d[p..end]);
+    end
+}
+
+// A frame's clock and its samples, channel by channel; the 125s stand in the file.
+pub fn frame_body(w: Way, file: &[u8], cs: Channels, t: u32, s: &[u8], d: &mut [u8])
+    requires { ⌜ (cs .subs + 256 * cs .count ≤ length (now file)) × (t ≤ 3600) × (8 ≤ length (now s)) × (length (now d) ≡ length (now s)) ⌝ }
+    ensures { λ _. ⌜ ((b : ℕ) (ch : List R.Channel) → length ch ≡ cs .count → Kept (w .from) (now (file .entry)) (cs .subs) ch → length (now (s .entry)) ≡ 8 + R.sampleBytes t ch → now (d .exit) ≡ copy w b (now (s .entry)) b (filling t ch)) ⌝ }
+{
+    let reserve = Frame::BODY_RESERVE;
+    let mut p = Frame::BODY_SAMPLES;
+    numbers(w, 2, 3, &s[..reserve], &mut d[..reserve]);
+    reserved(w, &s[reserve..p], &mut d[reserve..p]);
+    let mut q = cs.subs;
+    let mut i: u32 = 0;
+    while i < cs.count {
+        p = channel_samples(w, file, q, t, s, p, d);
+        q += Channel::LENGTH;
+        i += 1;
+    }
+}
+
+// So many frames of this size, each with so many bytes of samples, have room in a body of so many bytes.
+pub fn fits(bytes: usize, size: usize, count: u32, length: usize) -> bool
+    requires { ⌜ size < 4294967296 ⌝ }
+    ensures { λ r. ⌜ r ≡ leb (24 + bytes) size && leb (16 + size * count) length ⌝ }
+{
+    if size < Frame::SAMPLES {
+        return false;
+    }
+    if size - Frame::SAMPLES < bytes {
+        return false;
+    }
+    Frames::BODY_FIRST + size * count as usize <= length
+}

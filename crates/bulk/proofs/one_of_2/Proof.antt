@@ -1,0 +1,26 @@
+-- `bulk::one_of_2` meets its contract, by the law of a block.
+-- Assumes nothing.
+use mathlib.Core.Path.{refl}
+use mathlib.Core.List.{[], _∷_}
+use borrow.Author.Needs.{needs}
+use Rattle.words.specs.Runs.{turned}
+use Rattle.bulk.proofs.Blocks.{block-turned}
+use Rattle.bulk.proofs.one_of_2.Statement.{statement}
+use Rattle.bulk.proofs.one_of_2.Tie as tie
+
+returns : tie.Need-returns
+unfolding turned
+returns c =
+    let start = c .before .before in
+    block-turned 2 1 (1 ∷ 0 ∷ []) (start .args .s .now) (start .args .d .now) (start .pre .0) (start .pre .1) refl
+
+pub one-of-2-spec : {M : Type 1} → statement M
+one-of-2-spec =
+    tie.close
+    (tie.spec
+    (λ c. search needs)
+    (λ c. search needs)
+    (λ c. search needs)
+    (λ c. search needs)
+    (λ c. search needs)
+    returns)

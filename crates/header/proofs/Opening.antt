@@ -1,0 +1,128 @@
+-- What the walk of the file header comes to, and what its texts say, byte by byte.
+-- Assumes nothing.
+use mathlib.Core.Path.{_≡_, refl, ap, _∙_}
+use mathlib.Core.Bool.{Bool, true, false}
+use mathlib.Core.List.{List, [], _∷_, map}
+use mathlib.Core.Option.{Option, none, some}
+use Prim.Native.Nat.{ℕ, zero, suc, _+_, _*_, _-_, _^_, _≤_, _<_}
+use native.Mathlib.Nat.{add-zero}
+use native.Mathlib.Numerals.{add-one}
+use native.Mathlib.Omega.{arith, pow-step}
+use borrow.Author.Tests.{eq-eqb, ne-eqb, eqb-true}
+use lib.Dec.{leb, eqb}
+use lib.ListN.{length, getD, drop, drop-of-length-le}
+use lib.Seq.{drop-cons, getD-take, getD-drop}
+use Rattle.words.specs.Numbers.{bytesAt}
+use Rattle.words.specs.declared.Order.{Order}
+use Rattle.words.specs.declared.Order.the-variants.{Little, Big}
+use Rattle.walk.specs.See.{gate, see, goes}
+use Rattle.walk.specs.Walk.{pick, swap, laid, Letter, _>>=_, _>>_}
+use Rattle.walk.proofs.Laid.{laid-text}
+use Rattle.rules.specs.Rules.{between, sameBytes, identifier, version, form, allSpaces, isDigit, decimal, countOf, countFits, countIs, isScript, fileHeader, orderOf}
+use Rattle.header.specs.Opened.{lettered, names}
+use Rattle.header.specs.declared.Lettered.{Lettered}
+use Rattle.header.specs.declared.Lettered.the-variants as Lettered
+
+-- spaces, one more and none
+module _ (s : List ℕ) (i : ℕ) where
+  pub spaces-end : length s ≤ i → allSpaces (drop i s) ≡ true
+  unfolding allSpaces
+  spaces-end h = rw (drop-of-length-le s h)
+
+  pub spaces-more : i < length s → getD s i 0 ≡ 32 → allSpaces (drop i s) ≡ allSpaces (drop (i + 1) s)
+  unfolding allSpaces
+  spaces-more h e = rw (add-one, drop-cons s i 0 h, eq-eqb (getD s i 0) 32 e)
+
+  pub spaces-not : i < length s → (getD s i 0 ≡ 32 → ⊥) → allSpaces (drop i s) ≡ false
+  unfolding allSpaces
+  spaces-not h e = rw (drop-cons s i 0 h, ne-eqb (getD s i 0) 32 e)
+
+-- a count that is none is 0, which is outside the range
+pub count-fits : (x : Option ℕ) → countFits x ≡ between 1 64 (countIs x)
+unfolding between
+count-fits none = refl
+count-fits (some k) = refl
+
+-- a count, digit by digit
+pub count-start : (s : List ℕ) → countIs (countOf s) ≡ countIs (decimal 0 s)
+unfolding countOf decimal
+count-start [] = refl
+count-start (b ∷ s) = go (isDigit b) (allSpaces (b ∷ s)) refl refl
+  where
+    go : (x y : Bool) → isDigit b ≡ x → allSpaces (b ∷ s) ≡ y → countIs (countOf (b ∷ s)) ≡ countIs (decimal 0 (b ∷ s))
+    go true y e f = rw (countOf, e)
+    go false true e f = rw (countOf, decimal, e, f)
+    go false false e f = rw (countOf, decimal, e, f)
+
+pub count-end : (s : List ℕ) (i v : ℕ) → length s ≤ i → countIs (decimal v (drop i s)) ≡ v
+unfolding decimal
+count-end s i v h = rw (drop-of-length-le s h)
+
+-- b: the byte at i
+module _ (s : List ℕ) (i v b : ℕ) (h : i < length s) (is : b ≡ getD s i 0) where
+  pub count-more : isDigit b ≡ true → countIs (decimal v (drop i s)) ≡ countIs (decimal (10 * v + (b - 48)) (drop (i + 1) s))
+  unfolding decimal
+  count-more e = let d : isDigit (getD s i 0) ≡ true = rw is at e in rw (is, add-one, drop-cons s i 0 h, decimal, d)
+
+  pub count-rest : (x : Bool) → isDigit b ≡ false → allSpaces (drop i s) ≡ x → countIs (decimal v (drop i s)) ≡ pick x v 0
+  unfolding decimal
+  count-rest x e f =
+      let d : isDigit (getD s i 0) ≡ false = rw is at e in
+      rw (drop-cons s i 0 h, decimal, d, rw (drop-cons s i 0 h) at f) (elim x as (λ y. countIs (elim y [ true ↦ some v | false ↦ none ]) ≡ pick y v 0) [ true ↦ refl | false ↦ refl ])
+
+-- the value of fewer than 4 digits, and one more
+pub digits-short : (i n v : ℕ) → i < n → n ≤ 4 → v < 10 ^ i → v < 1000
+digits-short i n v h k l = go i (omega arith) l
+  where
+    go : (j : ℕ) → j < 4 → v < 10 ^ j → v < 1000
+    go zero a b = omega arith
+    go (suc zero) a b = omega arith
+    go (suc (suc zero)) a b = omega arith
+    go (suc (suc (suc zero))) a b = b
+    go (suc (suc (suc (suc j)))) a b = absurd (omega arith)
+
+pub digits-more : (i v b : ℕ) → v < 10 ^ i → b ≤ 57 → 10 * v + (b - 48) < 10 ^ (i + 1)
+digits-more i v b h k = rw add-one (omega (arith, pow-step 10 i))
+
+-- one byte
+byte-at : (s : List ℕ) (k : ℕ) → getD (bytesAt 1 s k) 0 0 ≡ getD s k 0
+unfolding bytesAt
+byte-at s k = getD-take 1 (drop k s) 0 0 (omega arith) ∙ (getD-drop k s 0 0 ∙ ap (λ (n : ℕ). getD s n 0) (add-zero k))
+
+swap-first : (bs : List ℕ) → getD (map swap bs) 0 0 ≡ swap (getD bs 0 0)
+unfolding swap
+swap-first [] = refl
+swap-first (b ∷ bs) = refl
+
+-- the letter as the walk reads it, in the order that it names
+letter-names : (s : List ℕ) → eqb (getD (laid (orderOf s) Letter (bytesAt 1 s 16)) 0 0) 76 ≡ names (lettered (getD s 16 0))
+unfolding orderOf laid lettered swap
+letter-names s = go (eqb (getD s 16 0) 76) (eqb (getD s 16 0) 66) refl refl
+  where
+    go : (x y : Bool) → eqb (getD s 16 0) 76 ≡ x → eqb (getD s 16 0) 66 ≡ y → eqb (getD (laid (orderOf s) Letter (bytesAt 1 s 16)) 0 0) 76 ≡ names (lettered (getD s 16 0))
+    go x true e f = rw (orderOf, f, swap-first, byte-at, eqb-true (getD s 16 0) 66 f)
+    go true false e f = rw (orderOf, f, byte-at, lettered, e)
+    go false false e f = rw (orderOf, f, byte-at, lettered, e)
+
+pub letter-order : (s : List ℕ) (o : Order) → lettered (getD s 16 0) ≡ Lettered.Names o → orderOf s ≡ o
+unfolding orderOf lettered
+letter-order s o h = go (eqb (getD s 16 0) 76) (eqb (getD s 16 0) 66) refl refl
+  where
+    go : (x y : Bool) → eqb (getD s 16 0) 76 ≡ x → eqb (getD s 16 0) 66 ≡ y → orderOf s ≡ o
+    go true y e f = let l : Lettered.Names Little ≡ Lettered.Names o = rw (lettered, e) at h in rw (orderOf, eqb-true (getD s 16 0) 76 e) (cc)
+    go false true e f = let l : Lettered.Names Big ≡ Lettered.Names o = rw (lettered, e, f) at h in rw (orderOf, f) (cc)
+    go false false e f = let l : Lettered.Nothing ≡ Lettered.Names o = rw (lettered, e, f) at h in absurd (let z : _≡_ {A = ℕ} 0 1 = cc in omega arith)
+
+-- the walk of the file header: its tests, one after the other
+pub header-open : (s : List ℕ) → see (orderOf s) 0 s 0 (fileHeader (length s)) ≡
+    gate (leb 32 (length s)) (gate (sameBytes (bytesAt 8 s 0) identifier) (gate (sameBytes (bytesAt 6 s 8) version) (gate (sameBytes (bytesAt 2 s 14) form) (gate (names (lettered (getD s 16 0))) (gate (isScript (getD s 17 0)) (gate (between 1 64 (countIs (countOf (bytesAt 4 s 18)))) (gate (allSpaces (bytesAt 10 s 22)) (goes (record { script = getD s 17 0; count = countIs (countOf (bytesAt 4 s 18)) }) 32)
+    8 22)
+    7 18)
+    6 17)
+    5 16)
+    4 14)
+    3 8)
+    2 0)
+    1 0
+unfolding fileHeader see _>>=_ _>>_
+header-open s = simp (laid-text, byte-at, letter-names, count-fits)

@@ -1,0 +1,19 @@
+use borrow.Author.Tests.{eq-eqb}
+use Rattle.walk.proofs.Seen.{tests}
+use Rattle.header.proofs.script_ok.Statement.{statement}
+use Rattle.header.proofs.script_ok.Tie as tie
+
+returns : tie.Need-returns
+returns c = simp (eq-eqb _ _ (c .if1 .taken))
+
+returns-2 : tie.Need-returns-2
+returns-2 c = simp (tests, eq-eqb _ _ (c .if2 .taken), c .before .if1 .left)
+
+returns-3 : tie.Need-returns-3
+returns-3 c = simp (tests, eq-eqb _ _ (c .if3 .taken), c .before .if2 .left, c .before .before .if1 .left)
+
+returns-4 : tie.Need-returns-4
+returns-4 c = simp (tests, c .if3 .left, c .before .if2 .left, c .before .before .if1 .left)
+
+pub script-ok-spec : {M : Type 1} → statement M
+script-ok-spec = tie.close (tie.spec returns returns-2 returns-3 returns-4)

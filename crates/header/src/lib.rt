@@ -1,0 +1,148 @@
+// The file header: 32 bytes, all ASCII.
+ghost use mathlib.Core.Path.{_≡_};
+ghost use Prim.Native.Nat.{_≤_};
+ghost use lib.ListN.{length, drop};
+ghost use Rattle.words.specs.Numbers.{bytesAt};
+ghost use Rattle.walk.specs.See.{Verdict, gate, see};
+ghost use Rattle.rules.specs.Rules as R;
+ghost use Rattle.records.specs.Says.{resumed};
+ghost use Rattle.header.specs.Opened.{lettered, opened, Named, refusalO};
+use records::Tested;
+use records::between;
+use records::same;
+use rules::FileHeader;
+use rules::Refusal;
+use words::Order;
+use words::byte;
+
+pub enum Opened {
+    Holds(FileHeader),
+    Stop(Refusal),
+}
+
+// The order that a letter names.
+pub enum Lettered {
+    Names(Order),
+    Nothing,
+}
+
+pub fn of_opened(a: Opened) -> Refusal
+    ensures { λ r. ⌜ r ≡ refusalO a ⌝ }
+{
+    match a {
+        Opened::Holds(_) => Refusal(0, 0),
+        Opened::Stop(r) => r,
+    }
+}
+
+pub fn order_of(letter: u32) -> Lettered
+    ensures { λ a. ⌜ a ≡ lettered letter ⌝ }
+{
+    if letter == 76 {
+        return Lettered::Names(Order::Little);
+    }
+    if letter == 66 {
+        return Lettered::Names(Order::Big);
+    }
+    Lettered::Nothing
+}
+
+fn script_ok(letter: u32) -> bool
+    ensures { λ r. ⌜ r ≡ R.isScript letter ⌝ }
+{
+    if letter == 83 {
+        return true;
+    }
+    if letter == 74 {
+        return true;
+    }
+    if letter == 69 {
+        return true;
+    }
+    letter == 85
+}
+
+// Only spaces from byte `from` on.
+fn spaces(s: &[u8], from: usize) -> bool
+    ensures { λ r. ⌜ r ≡ R.allSpaces (drop from (now (s .entry))) ⌝ }
+{
+    let mut i = from;
+    while i < s.len() {
+        if s[i] != 32 {
+            return false;
+        }
+        i += 1;
+    }
+    true
+}
+
+// The number that digits and then only spaces stand for, and 0 for anything else.
+fn count_of(s: &[u8]) -> u32
+    requires { ⌜ length (now s) ≤ 4 ⌝ }
+    ensures { λ r. ⌜ r ≡ R.countIs (R.countOf (now (s .entry))) ⌝ }
+{
+    let mut value: u32 = 0;
+    let mut i = 0;
+    while i < s.len() {
+        let b = byte(s, i);
+        if !between(48, 57, b) {
+            if !spaces(s, i) {
+                return 0;
+            }
+            return value;
+        }
+        value = 10 * value + (b - 48);
+        i += 1;
+    }
+    value
+}
+
+// The identifier, the version and the form.
+fn names_ok(s: &[u8]) -> Tested
+    requires { ⌜ 32 ≤ length (now s) ⌝ }
+    ensures { λ a. ⌜ ((K : Verdict R.FileHeader) → gate (R.sameBytes (bytesAt 8 (now (s .entry)) 0) R.identifier) (gate (R.sameBytes (bytesAt 6 (now (s .entry)) 8) R.version) (gate (R.sameBytes (bytesAt 2 (now (s .entry)) 14) R.form) K 4 14) 3 8) 2 0 ≡ resumed a K) ⌝ }
+{
+    if !same(&s[FileHeader::IDENTIFIER..FileHeader::VERSION], b"JSSR-SPG") {
+        return Tested::Stop(Refusal(2, 0));
+    }
+    if !same(&s[FileHeader::VERSION..FileHeader::FORM], b"000300") {
+        return Tested::Stop(Refusal(3, FileHeader::VERSION));
+    }
+    if !same(&s[FileHeader::FORM..FileHeader::ORDER], b"00") {
+        return Tested::Stop(Refusal(4, FileHeader::FORM));
+    }
+    Tested::Fine
+}
+
+// The file header, in the order that its letter names.
+pub fn file_header(s: &[u8]) -> Opened
+    ensures { λ a. ⌜ (see (R.orderOf (now (s .entry))) 0 (now (s .entry)) 0 (R.fileHeader (length (now (s .entry)))) ≡ opened a) × Named (R.orderOf (now (s .entry))) (length (now (s .entry))) a ⌝ }
+{
+    if s.len() < FileHeader::LENGTH {
+        return Opened::Stop(Refusal(1, 0));
+    }
+    let names = names_ok(s);
+    let Tested::Fine = names else {
+        return Opened::Stop(records::of_test(names));
+    };
+    let letter = order_of(byte(s, FileHeader::ORDER));
+    let Lettered::Names(order) = letter else {
+        return Opened::Stop(Refusal(5, FileHeader::ORDER));
+    };
+    let script = byte(s, FileHeader::SCRIPT);
+    if !script_ok(script) {
+        return Opened::Stop(Refusal(6, FileHeader::SCRIPT));
+    }
+    let count = count_of(&s[FileHeader::COUNT..FileHeader::SPACES]);
+    if !between(1, 64, count) {
+        return Opened::Stop(Refusal(7, FileHeader::COUNT));
+    }
+    if !spaces(&s[FileHeader::SPACES..FileHeader::LENGTH], 0) {
+        return Opened::Stop(Refusal(8, FileHeader::SPACES));
+    }
+    Opened::Holds(FileHeader {
+        order,
+        script,
+        count,
+    })
+}

@@ -1,0 +1,5 @@
+pub mod Written
+pub mod Makers
+pub mod Lists
+pub mod Body
+pub mod Recorded

@@ -1,0 +1,432 @@
+-- What the walks of the rules list: a record is one row, and behind it a 120 and a 140 list one row for each record that they hold.
+-- Assumes nothing.
+use mathlib.Core.Path.{_≡_, refl, sym, ap, _∙_}
+use mathlib.Core.Bool.{Bool, true, false, _&&_, _||_}
+use mathlib.Core.List.{List, [], _∷_, _++_, append-nil}
+use mathlib.Core.Option.{Option, none, some}
+use Prim.Native.Nat.{ℕ, zero, suc, _+_, _*_, _-_, _≤_, _<_}
+use native.Mathlib.Nat.{mul-comm}
+use native.Mathlib.Omega.{arith}
+use borrow.Author.Tests.{leb-true, eqb-true, eq-eqb, ne-eqb}
+use lib.Dec.{leb, eqb}
+use lib.IntN.{ℤ}
+use lib.ListN.{length}
+use Rattle.words.specs.Numbers.{bytesAt, numberAt}
+use Rattle.words.specs.declared.Order.{Order}
+use Rattle.walk.specs.See.{stops, goes, see, Goes, Stays}
+use Rattle.walk.specs.Tell.{tell}
+use Rattle.walk.specs.Walk.{laid, Row, Walk, give, refuse, check, number, read, skip, list, _>>=_, _>>_, require}
+use Rattle.walk.proofs.Seen.{stays-goes, and-left}
+use Rattle.walk.proofs.Went.{gate-went, went-first, goes-same}
+use Rattle.walk.proofs.Told.{tell-bind, tell-then, tell-give}
+use Rattle.rules.specs.Rules.{Head, head, admit, span, coded, fixed, zeros, padding, series, Channel, channel, channelBody, channelsBody, channels, Basic, Item, Frame, item, itemSize, itemList, itemsBody, items, numberList, samples, sampleBytes, samplesIn, width, frameBody, frame, frames, framesBody, Frames, padOk, between, Next, Part, part, next}
+use Rattle.rules.specs.declared.Head as At
+use Rattle.rules.proofs.Room.{Rests, stays-channel, stays-frame}
+use Rattle.records.specs.Says.{headOf}
+use Rattle.records.proofs.Facts.{both-true, both-false}
+use Rattle.judge.proofs.Recorded.{admit-passed}
+use Rattle.rows.specs.Rows.{seriesRows, Wrote, Marks, PartRows, RecordRows}
+use Rattle.rows.proofs.Written.{wrote-nothing, wrote-join}
+use Rattle.rows.proofs.Makers.{tell-head, tell-admit}
+
+-- a walk that lists no row
+module _ {A : Type 0} where
+  abbrev pub Silent : Walk A → Type 0
+  Silent (give a) = Unit {0}
+  Silent (refuse n p) = Unit {0}
+  Silent (check c n p w) = Silent w
+  Silent (number n f) = (v : ℕ) → Silent (f v)
+  Silent (read k n f) = (bs : List ℕ) → Silent (f bs)
+  Silent (skip n w) = Silent w
+  Silent (list p l c m w) = ⊥
+
+  pub silent : (o : Order) (b : ℕ) (s : List ℕ) (at : ℕ) (w : Walk A) → Silent w → tell o b s at w ≡ []
+  unfolding tell
+  silent o b s at (give a) h = refl
+  silent o b s at (refuse n p) h = refl
+  silent o b s at (check true n p w) h = silent o b s at w h
+  silent o b s at (check false n p w) h = refl
+  silent o b s at (number n f) h = silent o b s (at + n) (f (numberAt o n s (at - b))) (h _)
+  silent o b s at (read k n f) h = silent o b s (at + n) (f (laid o k (bytesAt n s (at - b)))) (h _)
+  silent o b s at (skip n w) h = silent o b s (at + n) w h
+  silent o b s at (list p l c m w) h = absurd h
+
+module _ {A B : Type 0} where
+  pub silent-bind : (w : Walk A) (k : A → Walk B) → Silent w → ((a : A) → Silent (k a)) → Silent (w >>= k)
+  unfolding _>>=_
+  silent-bind (give a) k h g = g a
+  silent-bind (refuse n p) k h g = tt
+  silent-bind (check c n p w) k h g = silent-bind w k h g
+  silent-bind (number n f) k h g = λ v. silent-bind (f v) k (h v) g
+  silent-bind (read κ n f) k h g = λ bs. silent-bind (f bs) k (h bs) g
+  silent-bind (skip n w) k h g = silent-bind w k h g
+  silent-bind (list p l c m w) k h g = absurd h
+
+  pub silent-then : (w : Walk A) (v : Walk B) → Silent w → Silent v → Silent (w >> v)
+  unfolding _>>_
+  silent-then w v h g = silent-bind w (λ _. v) h (λ _. g)
+
+silent-zeros : (bs : List ℕ) → Silent (zeros bs)
+unfolding zeros
+silent-zeros [] = tt
+silent-zeros (x ∷ bs) = silent-zeros bs
+
+pub silent-padding : (n : ℕ) → Silent (padding n)
+unfolding padding
+silent-padding n = silent-zeros
+
+silent-numbers : (w n : ℕ) → Silent (numberList w n)
+unfolding numberList _>>=_
+silent-numbers w zero = tt
+silent-numbers w (suc n) = λ v. silent-bind (numberList w n) _ (silent-numbers w n) (λ _. tt)
+
+silent-samples : (t : ℕ) (cs : List Channel) → Silent (samples t cs)
+unfolding samples
+silent-samples t [] = tt
+silent-samples t (c ∷ cs) = silent-bind (numberList (width (c .format)) (samplesIn t c)) _ (silent-numbers (width (c .format)) (samplesIn t c)) (λ _. silent-bind (samples t cs) _ (silent-samples t cs) (λ _. tt))
+
+silent-frameBody : (size t : ℕ) (cs : List Channel) → Silent (frameBody size t cs)
+unfolding frameBody _>>=_ _>>_
+silent-frameBody size t cs = λ _ _ _. silent-bind (samples t cs) _ (silent-samples t cs) (λ _. silent-bind (padding (size - (24 + sampleBytes t cs))) _ (silent-padding (size - (24 + sampleBytes t cs))) (λ _. tt))
+
+silent-channelBody : Silent channelBody
+unfolding channelBody _>>=_ _>>_
+silent-channelBody = λ _ _ _ _ _ _ _ _ _ _ _ _ _ _ _ _. tt
+
+silent-item : (ok : ℕ → Bool) (room : ℕ) → Silent (item ok room)
+unfolding item _>>=_ _>>_
+silent-item ok room = λ _ _ _. tt
+
+silent-itemList : (ok : ℕ → Bool) (n room : ℕ) → Silent (itemList ok n room)
+unfolding itemList
+silent-itemList ok zero room = tt
+silent-itemList ok (suc n) room = silent-bind (item ok room) _ (silent-item ok room) (λ i. silent-bind (itemList ok n (room - itemSize i)) _ (silent-itemList ok n (room - itemSize i)) (λ _. tt))
+
+silent-itemsBody : (ok : ℕ → Bool) (n : ℕ) → Silent (itemsBody ok n)
+unfolding itemsBody _>>=_ _>>_
+silent-itemsBody ok n = λ m. silent-bind (itemList ok m (n - 24)) _ (silent-itemList ok m (n - 24)) (λ _. tt)
+
+-- what an admitted head says, and its row; then what stands behind the head
+pub record Admitted {A : Type 0} (o : Order) (b : ℕ) (s : List ℕ) (at room most : ℕ) (fits serial : ℕ → Bool) (h : Head) (v : Walk A) (a : A) (e : ℕ) : Type 0 where
+  pub admits : see o b s at (admit room most fits serial h) ≡ goes tt at
+  pub length : fits (span h) ≡ true
+  pub number : serial (h .serial) ≡ true
+  pub inside : span h ≤ room
+  pub rest : see o b s at v ≡ goes a e
+  pub rows : tell o b s at (admit room most fits serial h >> v) ≡ record { start = at - 16; size = span h; code = h .code; serial = h .serial } ∷ tell o b s at v
+
+pub admit-went : {A : Type 0} (o : Order) (b : ℕ) (s : List ℕ) (at room most : ℕ) (fits serial : ℕ → Bool) (h : Head) (v : Walk A) {a : A} {e : ℕ} →
+    see o b s at (admit room most fits serial h >> v) ≡ goes a e → Admitted o b s at room most fits serial h v a e
+unfolding _>>_
+admit-went o b s at room most fits serial h v {a} {e} g =
+    let f = went-first o b s at (admit room most fits serial h) (λ _. v) g in
+    let p = admit-passed o b s at room most fits serial h (f .is) in
+    let k : see o b s at (admit room most fits serial h) ≡ goes tt at = f .is ∙ ap (λ (x : ℕ). goes tt x) (p .0) in
+    let r : see o b s at v ≡ goes a e = ap (λ (x : ℕ). see o b s x v) (sym (p .0)) ∙ f .kept in
+    record {
+      admits = k;
+      length = p .1;
+      number = p .2;
+      inside = p .3;
+      rest = r;
+      rows = tell-then o b s at (admit room most fits serial h) v k ∙ rw (tell-admit o b s at room most fits serial h k);
+    }
+
+-- a test that stays where it is
+pub require-went : {A : Type 0} (o : Order) (b : ℕ) (s : List ℕ) (at : ℕ) (c : Bool) (n p : ℕ) (v : Walk A) {a : A} {e : ℕ} → see o b s at (require c n p >> v) ≡ goes a e →
+    (c ≡ true) × (see o b s at v ≡ goes a e) × (tell o b s at (require c n p >> v) ≡ tell o b s at v)
+unfolding see tell _>>=_ _>>_
+require-went o b s at c n p v g = let g₁ = gate-went _ _ _ _ g in (g₁ .0, g₁ .1, rw (g₁ .0))
+
+-- a head takes 16 bytes
+pub head-went : (o : Order) (b : ℕ) (s : List ℕ) (at room : ℕ) {h : Head} {e : ℕ} → see o b s at (head room) ≡ goes h e → e ≡ at + 16
+unfolding head see _>>=_ _>>_
+head-went o b s at room {h} {e} g =
+    let g₁ = gate-went _ _ _ _ g in
+    let i : at + 4 + 4 + 4 + 4 ≡ e = cc (g₁ .1) in
+    omega arith
+
+-- a record that the walk accepted: its head, which has its code and is admitted, and its body; and its rows
+pub record Opened {A : Type 0} (o : Order) (b : ℕ) (s : List ℕ) (at room code most : ℕ) (fits : Head → ℕ → Bool) (serial : ℕ → Bool) (body : Head → Walk A) (a : A) (e : ℕ) : Type 0 where
+  pub top : Head
+  pub first : see o b s at (head room) ≡ goes top (at + 16)
+  pub kind : eqb (top .code) code ≡ true
+  pub given : Admitted o b s (at + 16) room most (fits top) serial top (body top) a e
+  pub rows : tell o b s at (head room >>= λ h. coded h code >> (admit room most (fits h) serial h >> body h)) ≡ record { start = at; size = span top; code = top .code; serial = top .serial } ∷ tell o b s (at + 16) (body top)
+
+pub opened : {A : Type 0} (o : Order) (b : ℕ) (s : List ℕ) (at room code most : ℕ) (fits : Head → ℕ → Bool) (serial : ℕ → Bool) (body : Head → Walk A) {a : A} {e : ℕ} →
+    see o b s at (head room >>= λ h. coded h code >> (admit room most (fits h) serial h >> body h)) ≡ goes a e → Opened o b s at room code most fits serial body a e
+opened {A} o b s at room code most fits serial body g =
+    let k : Head → Walk A = λ h. coded h code >> (admit room most (fits h) serial h >> body h) in
+    let f = went-first o b s at (head room) k g in
+    let h = f .value in
+    let t = head-went o b s at room (f .is) in
+    let c = require-went o b s (f .end) (eqb (h .code) code) 9 12 (admit room most (fits h) serial h >> body h) (f .kept) in
+    let d = admit-went o b s (f .end) room most (fits h) serial h (body h) (c .1) in
+    let m : at + 16 - 16 ≡ at = omega arith in
+    record {
+      top = h;
+      first = rw t at (f .is);
+      kind = c .0;
+      given = rw t at d;
+      rows = tell-bind o b s at (head room) k (f .is) ∙ rw (tell-head o b s at room, c .2, d .rows, t, m);
+    }
+
+-- a record of a length and a serial that its head has to have, whose body lists nothing, is one row
+pub one-row : {A : Type 0} (o : Order) (b : ℕ) (s : List ℕ) (code most step i : ℕ) (fits : Head → ℕ → Bool) (serial : ℕ → Bool) (body : Walk A) →
+    ((h : Head) → fits h (span h) ≡ true → span h ≡ step) → ((n : ℕ) → serial n ≡ true → n ≡ i) → Silent body → (at room : ℕ) {a : A} {e : ℕ} →
+    see o b s at (head room >>= λ h. coded h code >> (admit room most (fits h) serial h >> body)) ≡ goes a e →
+    tell o b s at (head room >>= λ h. coded h code >> (admit room most (fits h) serial h >> body)) ≡ record { start = at; size = step; code = code; serial = i } ∷ []
+one-row o b s code most step i fits serial body sized numbered quiet at room g =
+    let v = opened o b s at room code most fits serial (λ _. body) g in
+    v .rows ∙ rw (silent o b s (at + 16) body quiet, sized (v .top) (v .given .length), numbered (v .top .serial) (v .given .number), eqb-true (v .top .code) code (v .kind))
+
+-- records of one length, one after the other
+module _ {A : Type 0} (o : Order) (b : ℕ) (s : List ℕ) (step code : ℕ) (w : ℕ → ℕ → Walk A)
+    (lists : (at room i : ℕ) (a : A) (e : ℕ) → see o b s at (w room i) ≡ goes a e → tell o b s at (w room i) ≡ record { start = at; size = step; code = code; serial = i } ∷ [])
+    (stays : (i at room : ℕ) → Stays (at + room) at (w room i) (λ _ e. (e ≡ at + step) × (e ≤ at + room))) where
+  series-lists : (n i room at : ℕ) {l : List A} {e : ℕ} → b ≤ at → at + room ≤ b + length s → see o b s at (series n i step room w) ≡ goes l e → tell o b s at (series n i step room w) ≡ seriesRows n i at step code
+  unfolding series seriesRows tell
+  series-lists zero i room at g f h = refl
+  series-lists (suc n) i room at g f h =
+      let k : A → Walk (List A) = λ a. series n (suc i) step (room - step) w >>= λ l. give (a ∷ l) in
+      let x = went-first o b s at (w room i) k h in
+      let z : (x .end ≡ at + step) × (x .end ≤ at + room) = stays-goes o b s (at + room) f (w room i) at _ g (stays i at room) (x .is) in
+      let y = went-first o b s (x .end) (series n (suc i) step (room - step) w) (λ l. give (x .value ∷ l)) (x .kept) in
+      let r = series-lists n (suc i) (room - step) (x .end) (omega (arith, z .0)) (omega (arith, z .0, z .1)) (y .is) in
+      tell-bind o b s at (w room i) k (x .is) ∙ rw (lists at room i (x .value) (x .end) (x .is), tell-give o b s (x .end) (series n (suc i) step (room - step) w) (λ l. x .value ∷ l), r, z .0)
+
+-- a 125, and a 145, is one row
+channel-lists : (o : Order) (b : ℕ) (s : List ℕ) (at room i : ℕ) (a : Channel) (e : ℕ) → see o b s at (channel room i) ≡ goes a e → tell o b s at (channel room i) ≡ record { start = at; size = 256; code = 125; serial = i } ∷ []
+unfolding fixed
+channel-lists o b s at room i a e g = one-row o b s 125 0 256 i (λ _. eqb 256) (eqb i) channelBody (λ h k. sym (eqb-true 256 (span h) k)) (λ n k. sym (eqb-true i n k)) silent-channelBody at room g
+
+frame-lists : (o : Order) (b : ℕ) (s : List ℕ) (size t : ℕ) (cs : List Channel) (at room i : ℕ) (a : Frame) (e : ℕ) → see o b s at (frame size t cs room i) ≡ goes a e → tell o b s at (frame size t cs room i) ≡ record { start = at; size = size; code = 145; serial = i } ∷ []
+unfolding frame
+frame-lists o b s size t cs at room i a e g =
+    one-row o b s 145 128 size i (λ h n. eqb n size && padOk h (n - (24 + sampleBytes t cs))) (eqb i) (frameBody size t cs) (λ h k. eqb-true (span h) size (and-left (eqb (span h) size) _ k)) (λ n k. sym (eqb-true i n k)) (silent-frameBody size t cs) at room g
+
+-- a 130 or a 200 is one row
+pub items-lists : (o : Order) (b : ℕ) (s : List ℕ) (ok : ℕ → Bool) (at room : ℕ) (h : Head) {l : List Item} {e : ℕ} → see o b s at (items ok room h) ≡ goes l e →
+    tell o b s at (items ok room h) ≡ record { start = at - 16; size = span h; code = h .code; serial = 0 } ∷ []
+unfolding items
+items-lists o b s ok at room h g =
+    let d = admit-went o b s at room 0 (leb 24) (eqb 0) h (itemsBody ok (span h)) g in
+    d .rows ∙ rw (silent o b s at (itemsBody ok (span h)) (silent-itemsBody ok (span h)), eqb-true 0 (h .serial) (d .number))
+
+module _ (o : Order) (b : ℕ) (s : List ℕ) (p : ℕ) where
+  channelsBody-lists : (c : Basic) (n : ℕ) {l : List Channel} {e : ℕ} → see o b s (b + p) (channelsBody c n) ≡ goes l e →
+      (n ≡ 32 + 256 * numberAt o 4 s p) ×
+      (see o b s (b + p + 4 + 4 + 8) (series (numberAt o 4 s p) 1 256 (n - 32) channel) ≡ goes l e) ×
+      (tell o b s (b + p) (channelsBody c n) ≡ tell o b s (b + p + 4 + 4 + 8) (series (numberAt o 4 s p) 1 256 (n - 32) channel))
+  unfolding channelsBody see tell _>>=_ _>>_
+  channelsBody-lists c n g =
+      let z : b + p - b ≡ p = omega arith in
+      let g₁ = gate-went _ _ _ _ (rw z at g) in
+      let g₂ = gate-went _ _ _ _ (g₁ .1) in
+      let g₃ = gate-went _ _ _ _ (g₂ .1) in
+      let g₄ = gate-went _ _ _ _ (g₃ .1) in
+      (eqb-true n _ (g₃ .0), g₄ .1, rw (z, g₁ .0, g₂ .0, g₃ .0, g₄ .0))
+
+  -- a 120 is one row, and one for each channel that its first number counts
+  pub channels-lists : (c : Basic) (room : ℕ) (h : Head) {l : List Channel} {e : ℕ} → p + room ≤ length s + 16 → see o b s (b + p) (channels c room h) ≡ goes l e →
+      (span h ≡ 32 + 256 * numberAt o 4 s p) ×
+      (tell o b s (b + p) (channels c room h) ≡ record { start = b + p - 16; size = span h; code = h .code; serial = 0 } ∷ seriesRows (numberAt o 4 s p) 1 (b + (p + 16)) 256 125)
+  unfolding channels
+  channels-lists c room h f k =
+      let d = admit-went o b s (b + p) room 0 (leb 32) (eqb 0) h (channelsBody c (span h)) k in
+      let x = channelsBody-lists c (span h) (d .rest) in
+      let z : b + p + 4 + 4 + 8 ≡ b + (p + 16) = omega arith in
+      let r = series-lists o b s 256 125 channel (channel-lists o b s) stays-channel (numberAt o 4 s p) 1 (span h - 32) (b + p + 4 + 4 + 8) (omega arith) (omega (arith, d .inside, x .0)) (x .1) in
+      (x .0, d .rows ∙ rw (x .2, r, z, eqb-true 0 (h .serial) (d .number)))
+
+  -- the three numbers of a 140: seconds, the frames' length, and how many
+  abbrev seconds : ℕ
+  seconds = numberAt o 4 s p
+
+  abbrev size : ℕ
+  size = numberAt o 4 s (p + 4)
+
+  abbrev count : ℕ
+  count = numberAt o 4 s (p + 8)
+
+  abbrev framed : List Channel → Head → Walk (List Frame)
+  framed cs h = series count 1 size (span h - 32) (frame size seconds cs)
+
+  record Framed (cs : List Channel) (h : Head) (rs : List Row) : Type 0 where
+    long : 24 + sampleBytes seconds cs ≤ size
+    fits : 32 + count * size ≤ span h
+    went : Goes (see o b s (b + p + 4 + 4 + 4 + 4) (framed cs h)) (λ _ _. Unit {0})
+    rows : rs ≡ tell o b s (b + p + 4 + 4 + 4 + 4) (framed cs h)
+
+  framesBody-lists : (c : Basic) (cs : List Channel) (h : Head) {f : Frames} {e : ℕ} → see o b s (b + p) (framesBody c cs h) ≡ goes f e → Framed cs h (tell o b s (b + p) (framesBody c cs h))
+  unfolding framesBody between see tell _>>=_ _>>_
+  framesBody-lists c cs h g =
+      let z₀ : b + p - b ≡ p = omega arith in
+      let z₁ : b + p + 4 - b ≡ p + 4 = omega arith in
+      let z₂ : b + p + 4 + 4 - b ≡ p + 8 = omega arith in
+      let k : List Frame → Walk Frames = λ fs. padding (span h - (32 + count * size)) >> give (record { seconds = seconds; frames = fs; size = size; padded = count * (size - (24 + sampleBytes seconds cs)) + (span h - (32 + count * size)) }) in
+      let g₁ = gate-went _ _ _ _ (rw (z₀, z₁, z₂) at g) in
+      let g₂ = gate-went _ _ _ _ (g₁ .1) in
+      let g₃ = gate-went _ _ _ _ (g₂ .1) in
+      let g₄ = gate-went _ _ _ _ (g₃ .1) in
+      let g₅ = gate-went _ _ _ _ (g₄ .1) in
+      let x = went-first o b s (b + p + 4 + 4 + 4 + 4) (framed cs h) k (g₅ .1) in
+      record {
+        long = leb-true _ _ (and-left _ _ (and-left _ _ (g₃ .0)));
+        fits = leb-true _ _ (and-left _ _ (g₅ .0));
+        went = record { value = x .value; end = x .end; is = x .is; kept = tt };
+        rows =
+            rw (z₀, z₁, z₂, g₁ .0, g₂ .0, g₃ .0, g₄ .0, g₅ .0)
+            (tell-bind o b s (b + p + 4 + 4 + 4 + 4) (framed cs h) k (x .is) ∙ rw (silent o b s (x .end) (k (x .value)) (silent-then (padding (span h - (32 + count * size))) _ (silent-padding (span h - (32 + count * size))) tt)) (append-nil _));
+      }
+
+  -- a 140 is one row, and one for each frame
+  pub frames-lists : (c : Basic) (own : Bool) (cs : List Channel) (back room : ℕ) (h : Head) {f : Frames} {e : ℕ} → p + room ≤ length s + 16 → see o b s (b + p) (frames c own cs back room h) ≡ goes f e →
+      (24 ≤ size) × (32 + count * size ≤ span h) ×
+      (tell o b s (b + p) (frames c own cs back room h) ≡ record { start = b + p - 16; size = span h; code = h .code; serial = 0 } ∷ seriesRows count 1 (b + (p + 16)) size 145)
+  unfolding frames
+  frames-lists c own cs back room h f k =
+      let d = admit-went o b s (b + p) room 128 (leb 32) (eqb 0) h (require (own || eqb (length cs) (c .channels)) 14 back >> framesBody c cs h) k in
+      let t = require-went o b s (b + p) (own || eqb (length cs) (c .channels)) 14 back (framesBody c cs h) (d .rest) in
+      let x = framesBody-lists c cs h (t .1) in
+      let z : b + p + 4 + 4 + 4 + 4 ≡ b + (p + 16) = omega arith in
+      let r = series-lists o b s size 145 (frame size seconds cs) (frame-lists o b s size seconds cs) (stays-frame size seconds cs (x .long)) count 1 (span h - 32) (b + p + 4 + 4 + 4 + 4) (omega arith) (omega (arith, d .inside, x .fits)) (x .went .is) in
+      (omega (arith, x .long), x .fits, d .rows ∙ rw (t .2, x .rows, r, z, eqb-true 0 (h .serial) (d .number)))
+
+-- a part of a recording that is there, and the head behind it
+pub record Owns {A : Type 0} (o : Order) (b : ℕ) (s : List ℕ) (at : ℕ) (w : Walk A) (v : Walk Next) (x : Next) (e : ℕ) (rs : List Row) : Type 0 where
+  pub value : A
+  pub mid : ℕ
+  pub first : see o b s at w ≡ goes value mid
+  pub second : see o b s mid v ≡ goes x e
+  pub rows : rs ≡ tell o b s at w ++ tell o b s mid v
+
+module _ {A : Type 0} (o : Order) (b : ℕ) (s : List ℕ) (at fuel code : ℕ) (body : ℕ → Head → Walk A) (n : Next) where
+  abbrev owned : Walk A → Walk Next → Walk (Part A)
+  owned w v = w >>= λ a. v >>= λ m. give (record { own = true; value = a; next = m })
+
+  part-is : (held : Option A) (h : Head) (room : ℕ) → n .head ≡ h → n .room ≡ room → eqb (h .code) code ≡ true → part fuel code body held n ≡ owned (body room h) (next fuel (room - span h))
+  unfolding part
+  part-is held h room i j q = let c : eqb (n .head .code) code ≡ true = rw i q in rw (part, c, i, j)
+
+  owned-lists : (w : Walk A) (v : Walk Next) {x : Part A} {e : ℕ} → see o b s at (owned w v) ≡ goes x e → Owns o b s at w v (x .next) e (tell o b s at (owned w v))
+  unfolding see tell
+  owned-lists w v {x} {e} h =
+      let k : A → Walk (Part A) = λ a. v >>= λ m. give (record { own = true; value = a; next = m }) in
+      let y = went-first o b s at w k h in
+      let j : Next → Part A = λ m. record { own = true; value = y .value; next = m } in
+      let z = went-first o b s (y .end) v (λ m. give (j m)) (y .kept) in
+      let g = goes-same (z .kept) in
+      let i : z .value ≡ x .next = ap (λ (q : Part A). q .next) (g .0) in
+      let u : see o b s (y .end) v ≡ goes (x .next) e = z .is ∙ ap (λ (q : Next). goes q (z .end)) i ∙ ap (λ (q : ℕ). goes (x .next) q) (g .1) in
+      record {
+        value = y .value;
+        mid = y .end;
+        first = y .is;
+        second = u;
+        rows = tell-bind o b s at w k (y .is) ∙ rw (tell-give o b s (y .end) v j);
+      }
+
+  pub part-lists : (held : Option A) (h : Head) (room : ℕ) {x : Part A} {e : ℕ} → n .head ≡ h → n .room ≡ room → eqb (h .code) code ≡ true → see o b s at (part fuel code body held n) ≡ goes x e →
+      Owns o b s at (body room h) (next fuel (room - span h)) (x .next) e (tell o b s at (part fuel code body held n))
+  part-lists held h room i j q g = rw (part-is held h room i j q) (owned-lists (body room h) (next fuel (room - span h)) (rw (part-is held h room i j q) at g))
+
+  -- one that is absent lists nothing, and the head stays
+  pub absent-lists : (held : Option A) {x : Part A} {e : ℕ} → eqb (n .head .code) code ≡ false → see o b s at (part fuel code body held n) ≡ goes x e →
+      (x .next .head ≡ n .head) × (x .next .room ≡ n .room) × (e ≡ at) × (tell o b s at (part fuel code body held n) ≡ [])
+  unfolding part see tell
+  absent-lists none q h = absurd (let z : _≡_ {A = ℕ} 0 1 = cc (rw (part, q) at h) in omega arith)
+  absent-lists (some a) {x} {e} q h =
+      let g = goes-same (rw (part, q) at h) in
+      let i : record { makers = []; head = n .head; room = n .room } ≡ x .next = ap (λ (y : Part A). y .next) (g .0) in
+      (ap (λ (y : Next). y .head) (sym i), ap (λ (y : Next). y .room) (sym i), sym (g .1), rw (part, q))
+
+-- a head that is not admitted: the record is not accepted
+pub not-admitted : {A : Type 0} (o : Order) (b : ℕ) (s : List ℕ) (at room most : ℕ) (fits serial : ℕ → Bool) (h : Head) (v : Walk A) {m q : ℕ} {a : A} {e : ℕ} →
+    see o b s at (admit room most fits serial h) ≡ stops m q → see o b s at (admit room most fits serial h >> v) ≡ goes a e → ⊥
+not-admitted o b s at room most fits serial h v k g =
+    let d = admit-went o b s at room most fits serial h v g .admits in
+    let z : _≡_ {A = ℕ} 0 1 = cc in
+    omega arith
+
+-- the code's head h in the part s, and the rest of its record
+module _ {A : Type 0} (o : Order) (base : ℕ) (s : List ℕ) (h : At.Head) (body : ℕ → Head → Walk A) where
+  abbrev rest : Walk A
+  rest = body (length s - h .at) (headOf h)
+
+  abbrev after : ℕ → Walk Next
+  after fuel = next fuel (length s - h .at - span (headOf h))
+
+  pub part-found : (fuel code : ℕ) (held : Option A) (n : Next) {x : Part A} {e : ℕ} → h .code ≡ code → Marks o base s h n (base + (h .at + 16)) → see o base s (base + (h .at + 16)) (part fuel code body held n) ≡ goes x e →
+      Owns o base s (base + (h .at + 16)) rest (after fuel) (x .next) e (tell o base s (base + (h .at + 16)) (part fuel code body held n))
+  part-found fuel code held n q m g =
+      part-lists o base s (base + (h .at + 16)) fuel code body n held (headOf h) (length s - h .at) (m .0) (m .1) (eq-eqb (h .code) code q) g
+
+  -- the buffer before the record, behind its rows, and behind those of the makers' records that follow
+  module _ (rests : Rests body) (fit : h .at ≤ length s) (write : Bool) (out out₁ out₂ : List ℤ) (k k₁ k₂ q : ℕ) (stop : q ≡ h .at + span (headOf h)) (r : At.Head)
+      (writes : (a : A) (e : ℕ) → see o base s (base + (h .at + 16)) rest ≡ goes a e → Wrote write out out₁ k k₁ (tell o base s (base + (h .at + 16)) rest))
+      (makers : (fuel : ℕ) (n : Next) (e : ℕ) → length s < q + fuel → see o base s (base + q) (next fuel (length s - q)) ≡ goes n e → Marks o base s r n e × Wrote write out₁ out₂ k₁ k₂ (tell o base s (base + q) (next fuel (length s - q)))) where
+    pub record-rows : RecordRows o base s h body write out out₂ k k₂ r
+    record-rows fuel a e₁ d e₂ f g₁ g₂ =
+        let z : (16 ≤ span (headOf h)) × (span (headOf h) ≤ length s - h .at) × (e₁ + (length s - h .at - span (headOf h)) ≡ base + length s) =
+        stays-goes o base s (base + length s) (omega arith) rest (base + (h .at + 16)) _ (omega arith) (rests (length s - h .at) (headOf h) (base + length s) (base + (h .at + 16)) (omega arith)) g₁ in
+        let i : e₁ ≡ base + q = omega arith in
+        let j : length s - h .at - span (headOf h) ≡ length s - q = omega arith in
+        let t : see o base s (base + q) (next fuel (length s - q)) ≡ goes d e₂ = rw (i, j) at g₂ in
+        let m = makers fuel d e₂ (omega arith) t in
+        (m .0, rw (i, j) (wrote-join write out out₁ out₂ k k₁ k₂ _ _ (writes a e₁ g₁) (m .1)))
+
+    pub part-rows : (code : ℕ) → h .code ≡ code → PartRows o base s h code body write out out₂ k k₂ r
+    part-rows code q held n fuel x e m f g =
+        let w = part-found fuel code held n q m g in
+        rw (w .rows) (record-rows fuel (w .value) (w .mid) (x .next) e f (w .first) (w .second))
+
+  -- a part that is absent
+  pub absent-rows : (write : Bool) (out : List ℤ) (k code : ℕ) → (h .code ≡ code → ⊥) → PartRows o base s h code body write out out k k h
+  absent-rows write out k code q held n fuel x e m f g =
+      let c : eqb (n .head .code) code ≡ false = rw (m .0) (ne-eqb (h .code) code q) in
+      let w = absent-lists o base s (base + (h .at + 16)) fuel code body n held c g in
+      ((w .0 ∙ m .0, w .1 ∙ m .1, m .2, w .2), rw (w .3) (wrote-nothing write out k))
+
+-- the row of the record with the code's head h, which stops at q
+pub head-row : (base q : ℕ) (h : At.Head) (code : ℕ) → q ≡ h .at + span (headOf h) → h .code ≡ code →
+    _≡_ {A = Row} (record { start = base + (h .at + 16) - 16; size = span (headOf h); code = h .code; serial = 0 }) (record { start = base + h .at; size = q - h .at; code = code; serial = 0 })
+head-row base q h code d e =
+    let i : base + (h .at + 16) - 16 ≡ base + h .at = omega arith in
+    let j : span (headOf h) ≡ q - h .at = omega arith in
+    rw (i, j, e)
+
+-- a 120 and a 140 with the code's head h that stop at q: how long they are, and their rows
+module _ (o : Order) (base : ℕ) (s : List ℕ) (h : At.Head) (fit : h .at ≤ length s) (q : ℕ) (stop : q ≡ h .at + span (headOf h)) where
+  pub channels-found : (c : Basic) (l : List Channel) (e : ℕ) → h .code ≡ 120 → see o base s (base + (h .at + 16)) (channels c (length s - h .at) (headOf h)) ≡ goes l e →
+      (q - h .at ≡ 32 + 256 * numberAt o 4 s (h .at + 16)) ×
+      (tell o base s (base + (h .at + 16)) (channels c (length s - h .at) (headOf h)) ≡ record { start = base + h .at; size = q - h .at; code = 120; serial = 0 } ∷ seriesRows (numberAt o 4 s (h .at + 16)) 1 (base + h .at + 32) 256 125)
+  channels-found c l e d g =
+      let x = channels-lists o base s (h .at + 16) c (length s - h .at) (headOf h) (omega arith) g in
+      let i : base + (h .at + 16 + 16) ≡ base + h .at + 32 = omega arith in
+      (omega (arith, x .0), x .1 ∙ rw (i, head-row base q h 120 stop d))
+
+  pub frames-found : (c : Basic) (own : Bool) (cs : List Channel) (back : ℕ) (f : Frames) (e : ℕ) → h .code ≡ 140 → see o base s (base + (h .at + 16)) (frames c own cs back (length s - h .at) (headOf h)) ≡ goes f e →
+      (24 ≤ numberAt o 4 s (h .at + 20)) × (32 + numberAt o 4 s (h .at + 20) * numberAt o 4 s (h .at + 24) ≤ q - h .at) ×
+      (tell o base s (base + (h .at + 16)) (frames c own cs back (length s - h .at) (headOf h)) ≡ record { start = base + h .at; size = q - h .at; code = 140; serial = 0 } ∷ seriesRows (numberAt o 4 s (h .at + 24)) 1 (base + h .at + 32) (numberAt o 4 s (h .at + 20)) 145)
+  frames-found c own cs back f e d g =
+      let i : base + (h .at + 16 + 16) ≡ base + h .at + 32 = omega arith in
+      let j : h .at + 16 + 4 ≡ h .at + 20 = omega arith in
+      let k : h .at + 16 + 8 ≡ h .at + 24 = omega arith in
+      let x = rw (j, k) at (frames-lists o base s (h .at + 16) c own cs back (length s - h .at) (headOf h) (omega arith) g) in
+      (x .0, omega (arith, x .1, mul-comm (numberAt o 4 s (h .at + 20)) (numberAt o 4 s (h .at + 24))), x .2 ∙ rw (i, head-row base q h 140 stop d))
+
+-- a 140 whose head is not admitted
+pub frames-refused : (o : Order) (b : ℕ) (s : List ℕ) (c : Basic) (own : Bool) (cs : List Channel) (back at room : ℕ) (h : Head) {m q : ℕ} {f : Frames} {e : ℕ} →
+    see o b s at (admit room 128 (leb 32) (eqb 0) h) ≡ stops m q → see o b s at (frames c own cs back room h) ≡ goes f e → ⊥
+unfolding frames
+frames-refused o b s c own cs back at room h k g = not-admitted o b s at room 128 (leb 32) (eqb 0) h (require (own || eqb (length cs) (c .channels)) 14 back >> framesBody c cs h) k g
+
+-- the code's test of the frames' length and count, r, where it holds and where it does not
+module _ (size count n : ℕ) (r : Bool) (is : r ≡ leb 24 size && leb (32 + size * count) n) where
+  pub fits-true : r ≡ true → (24 ≤ size) × (32 + size * count ≤ n)
+  fits-true = both-true 24 size (32 + size * count) n r is
+
+  pub fits-false : r ≡ false → 24 ≤ size → 32 + size * count ≤ n → ⊥
+  fits-false = both-false 24 size (32 + size * count) n r is

@@ -1,0 +1,5 @@
+pub mod Clocked
+pub mod Framing
+pub mod Stretch
+pub mod Readings
+pub mod Sampling

@@ -1,0 +1,114 @@
+-- The samples asked for: in an accepted file they stand where the code looks for them, and each is what the bytes at its place mean.
+-- Assumes nothing.
+use mathlib.Core.Path.{_≡_, sym, ap, _∙_}
+use mathlib.Core.Bool.{true, false}
+use mathlib.Core.List.{List, [], map}
+use Prim.Native.Nat.{ℕ, _+_, _-_, _*_, _<_}
+use native.Mathlib.Omega.{arith}
+use lib.ListN.{length, take, getD, length-map, List·getD-map}
+use Rattle.words.specs.Numbers.{Bytes, numberAt}
+use Rattle.words.specs.declared.Order.{Order}
+use Rattle.walk.specs.Walk.{give, number}
+use Rattle.walk.specs.See.{goes, see}
+use Rattle.walk.proofs.Seen.{yields, places}
+use Rattle.rules.specs.Rules as R
+use Rattle.rules.specs.Rules.{sampleBytes, samplesIn, width}
+use Rattle.rules.specs.Reading.{Value, valueOf}
+use Rattle.rules.proofs.Asked.{recording-at, sample-at}
+use Rattle.rules.proofs.Renew.{FrameOk, SamplesOk}
+use Rattle.rules.proofs.Renewed.{recording-ok}
+use Rattle.records.specs.Says.{Kept}
+use Rattle.tables.specs.declared.Places.{Places}
+use Rattle.find.specs.Answers.{value, refusal, indexed, numbered}
+use Rattle.find.specs.Recordings.{Chosen}
+use Rattle.find.proofs.Chosen.{indexed-in, numbered-out, numbered-one, One, answered, ChosenIn, chosen-in}
+use Rattle.find.proofs.Standing.{found-seen}
+use Rattle.samples.specs.Asked.{FrameIn, Inside, RunIn, RanAs, runOf}
+use Rattle.samples.specs.Frames.{ChosenFrame, frameOf, Samples, samplesOf}
+use Rattle.samples.specs.declared.Ran.the-variants as Ran
+use Rattle.samples.specs.declared.Run.{Run}
+use Rattle.samples.proofs.Stretch.{run-inside}
+use Rattle.samples.proofs.Readings.{all-one, reads-numbered}
+use Rattle.samples.proofs.Framing.{numbered-some, frameAt, this-one, frame-place}
+
+-- a number that a walk reads is the one that stands there
+number-seen : (o : Order) (s : List ℕ) (p w : ℕ) {n e : ℕ} → see o 0 s p (number w give) ≡ goes n e → n ≡ numberAt o w s p
+number-seen o s p w h = yields o 0 s (number w give) p (λ n e. n ≡ numberAt o w s p) (simp places) h
+
+module _ (s : List ℕ) (b : Bytes s) (i : ℕ) (r : Chosen) (x : ChosenIn s i r) (n : ℕ) (f : R.Frame) (o : One (r .this .recording .frames) (n - 1) f) where
+  -- a frame has samples for each channel
+  frame-samples : SamplesOk (r .this .recording .seconds) (r .this .recording .channels) (f .channels)
+  frame-samples =
+      let a = recording-at s b (x .judged) (r .this) (r .index) (x .one .inside) in
+      let k = recording-ok (a .held) (a .room) (1 + r .index) (a .found .plays) in
+      rw (o .is f) at (all-one (FrameOk (r .this .recording .seconds) (r .this .recording .channels)) f (r .this .recording .frames) (n - 1) (o .inside) (rw (this-one s b i r x) at (k .frames .each)) .samples)
+
+  -- sample m of channel c, both from 0
+  sample-there : (c : ℕ) (y : R.Channel) → One (r .this .recording .channels) c y → (m : ℕ) → m < samplesIn (r .this .recording .seconds) y →
+      getD (getD (f .channels) c []) m 0 ≡ numberAt (R.orderOf s) (width (y .format)) s (frameAt r n + (24 + sampleBytes (r .this .recording .seconds) (take c (r .this .recording .channels))) + width (y .format) * m)
+  sample-there c y p m l =
+      let e = this-one s b i r x in
+      let g = sample-at s b (x .judged) (r .this) (r .index) (x .one .inside) f y (n - 1) c m (rw e (o .inside)) (rw e (p .inside)) (rw (e, p .is y) l) in
+      number-seen (R.orderOf s) s _ (width (y .format)) (found-seen s b (x .judged) (rw (e, o .is f, p .is y, frame-place s b i r x n) at g))
+
+-- the samples of channel k of a frame, from 1
+abbrev samplesAre : ChosenFrame → ℕ → R.Channel → Samples
+samplesAre f k y = record {
+  at = f .at + (24 + sampleBytes (f .of .this .recording .seconds) (take (k - 1) (f .of .this .recording .channels)));
+  format = y .format;
+  values = map (valueOf (y .format) (width (y .format))) (getD (f .frame .channels) (k - 1) []);
+}
+
+-- one of the values of numbers
+value-one : (v : ℕ → Value) (l : List ℕ) (m : ℕ) → m < length l → indexed (map v l) m ≡ value (v (getD l m 0))
+value-one v l m h = indexed-in (v 0) (map v l) m (rw length-map h) ∙ ap value (List·getD-map v l m 0)
+
+-- what the code answers: the frame's refusal, 19, or the samples
+pub samples-refused : (s : List ℕ) (i j k : ℕ) {n p : ℕ} → frameOf s i j ≡ refusal n p → samplesOf s i j k ≡ refusal n p
+samples-refused s i j k h = rw h
+
+module _ {s : List ℕ} {i j : ℕ} {o : Order} {q : Places} {at : ℕ} {f : ChosenFrame} (h : FrameIn s i j o q at f) (k : ℕ) where
+  pub samples-outside : R.between 1 (q .count) k ≡ false → samplesOf s i j k ≡ refusal 19 0
+  samples-outside t = rw (h .is, numbered-out (f .of .this .recording .channels) k (rw (h .found .owned .0 .0) t))
+
+  -- the frame is one of the recording's, and stands at its place
+  stands : One (f .of .this .recording .frames) (j - 1) (f .frame) × (f .at ≡ frameAt (f .of) j)
+  stands =
+      let a = answered (numbered (f .of .this .recording .frames) j) (λ x. value (record { of = f .of; frame = x; at = frameAt (f .of) j })) (rw (h .found .is) at (h .is)) in
+      let e : record { of = f .of; frame = a .0; at = frameAt (f .of) j } ≡ f = cc (a .2) in
+      (rw (ap (λ (y : ChosenFrame). y .frame) e) at (numbered-one (f .of .this .recording .frames) j (a .1) .1), sym (ap (λ (y : ChosenFrame). y .at) e))
+
+  chosen : ChosenIn s i (f .of)
+  chosen = chosen-in s (h .found .bytes) i (f .of) (h .found .is)
+
+  -- its channel y has this number
+  module _ (y : R.Channel) (is : numbered (f .of .this .recording .channels) k ≡ value y) where
+    run-is : (run : Run) → Inside (length s) run → run ≡ runOf (q .seconds) (take (k - 1) (f .of .this .recording .channels)) y at → RunIn s i j k o run (samplesAre f k y)
+    run-is run l g =
+        let c = stands in
+        let d = reads-numbered (f .of .this .recording .seconds) (f .of .this .recording .channels) (f .frame .channels) (frame-samples s (h .found .bytes) i (f .of) chosen j (f .frame) (c .0)) k is in
+        let e₁ : q .seconds ≡ f .of .this .recording .seconds = ap (λ (p : Places). p .seconds) (h .found .same) in
+        let e₂ : at + (24 + sampleBytes (q .seconds) (take (k - 1) (f .of .this .recording .channels))) ≡ f .at + (24 + sampleBytes (f .of .this .recording .seconds) (take (k - 1) (f .of .this .recording .channels))) = rw (h .place, e₁) in
+        let e₃ : samplesIn (q .seconds) y ≡ length (samplesAre f k y .values) = rw (e₁, length-map, d .count) in
+        let a : run .at ≡ frameAt (f .of) j + (24 + sampleBytes (f .of .this .recording .seconds) (take (k - 1) (f .of .this .recording .channels))) = ap (λ (x : Run). x .at) g ∙ rw (e₂, c .1) in
+        let b : run .count ≡ samplesIn (f .of .this .recording .seconds) y = ap (λ (x : Run). x .count) g ∙ rw e₁ in
+        record {
+          is = rw (h .is, is, d .values);
+          same = g ∙ (λ n. record { at = e₂ n; count = e₃ n; format = y .format });
+          inside = l;
+          each = λ m v.
+              let u : m < samplesIn (f .of .this .recording .seconds) y = omega arith in
+              rw (ap (λ (x : Run). x .format) g, a, h .found .order)
+              (value-one (valueOf (y .format) (width (y .format))) (getD (f .frame .channels) (k - 1) []) m (rw (d .count) u) ∙
+              ap (λ (n : ℕ). value (valueOf (y .format) (width (y .format)) n)) (sample-there s (h .found .bytes) i (f .of) chosen j (f .frame) (c .0) (k - 1) y (numbered-one (f .of .this .recording .channels) k is .1) m u));
+        }
+
+  pub samples-found-at : R.between 1 (q .count) k ≡ true → (run : Run) → Inside (length s) run →
+      ((cs : List R.Channel) (x : R.Channel) → Kept o s (q .channels + 32) cs → indexed cs (k - 1) ≡ value x → Inside (length s) (runOf (q .seconds) (take (k - 1) cs) x at) → run ≡ runOf (q .seconds) (take (k - 1) cs) x at) →
+      RanAs s i j k (Ran.At o run)
+  samples-found-at t run l g =
+      let cs : List R.Channel = f .of .this .recording .channels in
+      let y = numbered-some cs k (rw (h .found .owned .0 .0) t) in
+      let n = numbered-one cs k (y .1) .1 in
+      let e : indexed cs (k - 1) ≡ value (y .0) = indexed-in (y .0) cs (k - 1) (n .inside) ∙ ap value (n .is (y .0)) in
+      (samplesAre f k (y .0), run-is (y .0) (y .1) run l (g cs (y .0) (h .found .owned .0 .1) e (run-inside (q .seconds) (k - 1) at (length s) cs e (h .inside))))

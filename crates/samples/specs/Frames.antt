@@ -1,0 +1,49 @@
+-- The frame and the samples that a question asks about, their values and where they stand.
+-- Assumes nothing.
+use mathlib.Core.List.{List}
+use Prim.Native.Nat.{ℕ, _+_, _-_, _*_}
+use lib.ListN.{take}
+use Rattle.words.specs.Floats.{floatOf}
+use Rattle.rules.specs.Rules as R
+use Rattle.rules.specs.Reading.{Value, whole, float, frameReading}
+use Rattle.find.specs.Answers.{Answer, value, _>>=_, numbered}
+use Rattle.find.specs.Recordings.{Chosen, recordingOf, startOf}
+use Rattle.samples.specs.declared.Number.{Number}
+use Rattle.samples.specs.declared.Number.the-variants as Number
+use Rattle.samples.specs.declared.Time.{Time}
+
+-- A frame, and where it stands
+
+pub record ChosenFrame : Type 0 where
+  pub of : Chosen
+  pub frame : R.Frame
+  pub at : ℕ
+
+abbrev pub frameOf : List ℕ → ℕ → ℕ → Answer ChosenFrame
+frameOf s i j = do
+  r ← recordingOf s i
+  f ← numbered (r .this .recording .frames) j
+  value (record { of = r; frame = f; at = startOf r + r .this .layout .at140 + (32 + r .this .layout .frame * (j - 1)) })
+
+-- its clock
+abbrev pub timeOf : R.Frame → Time
+timeOf f = record { hour = f .hour; minute = f .minute; second = f .second }
+
+-- The samples of a channel in a frame: where they stand, the channel's format, and their values
+
+pub record Samples : Type 0 where
+  pub at : ℕ
+  pub format : ℕ
+  pub values : List Value
+
+abbrev pub samplesOf : List ℕ → ℕ → ℕ → ℕ → Answer Samples
+samplesOf s i j k = do
+  f ← frameOf s i j
+  c ← numbered (f .of .this .recording .channels) k
+  vs ← numbered (frameReading (f .of .this .recording .channels) (f .frame) .channels) k
+  value (record { at = f .at + (24 + R.sampleBytes (f .of .this .recording .seconds) (take (k - 1) (f .of .this .recording .channels))); format = c .format; values = vs })
+
+-- a number of the reading: a whole number, or the float of its bits
+abbrev pub numberIn : Value → Number
+numberIn (whole z) = Number.Whole z
+numberIn (float n) = Number.Float (floatOf n)

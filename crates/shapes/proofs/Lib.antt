@@ -1,0 +1,4 @@
+pub mod Canonic
+pub mod Chained
+pub mod Lengths
+pub mod Measures

@@ -1,0 +1,3 @@
+pub mod Divided
+pub mod FramesBody
+pub mod Signaled

@@ -1,0 +1,3 @@
+pub mod Framed
+pub mod Shaped
+pub mod Signaled

@@ -1,0 +1,64 @@
+-- Record 140's body in two parts, as the code reads it: the tests of its own fields, and what stands behind them.
+-- Assumes nothing.
+use mathlib.Core.Path.{_≡_}
+use mathlib.Core.Bool.{_&&_}
+use mathlib.Core.List.{List}
+use Prim.Native.Nat.{ℕ, _+_, _-_, _*_, _≤_, _<_}
+use lib.Dec.{leb, ltb, eqb}
+use lib.ListN.{length}
+use Rattle.words.specs.Numbers.{numberAt}
+use Rattle.words.specs.declared.Order.{Order}
+use Rattle.walk.specs.Walk.{Walk, give, _>>=_, _>>_}
+use Rattle.walk.specs.See.{Verdict, gate}
+use Rattle.rules.specs.Rules as R
+use Rattle.records.specs.Says.{halts}
+use Rattle.signals.specs.declared.frames.Framed.{Framed}
+use Rattle.signals.specs.declared.frames.Framed.the-variants as Framed
+use Rattle.signals.specs.declared.frames.Shape.{Shape}
+use Rattle.signals.specs.declared.frames.Shaped.{Shaped}
+use Rattle.signals.specs.declared.frames.Shaped.the-variants as Shaped
+
+-- T, the frame length and the count of frames are tested, in a 140 of so many bytes at `at`; then the verdict that follows
+unfoldable pub fieldTests : (at bytes total multiplier : ℕ) → List R.Channel → (t size n : ℕ) → Verdict R.Frames → Verdict R.Frames
+fieldTests at bytes total multiplier ch t size n v =
+    gate (R.between 1 3600 t) (gate (R.all (R.divides t) ch) (gate (R.between (24 + R.sampleBytes t ch) (24 + R.sampleBytes t ch + 127) size && ltb size R.limit) (gate (eqb n total) (gate (leb (32 + n * size) bytes && R.padded multiplier (bytes - (32 + n * size))) v
+    14 (at + 24))
+    14 (at + 24))
+    14 (at + 20))
+    14 (at + 16))
+    13 (at + 16)
+
+-- the frames of a 140 of so many bytes, and the padding behind them
+unfoldable pub behindFields : (t size n bytes : ℕ) → List R.Channel → Walk R.Frames
+behindFields t size n bytes ch = do
+  fs ← R.series n 1 size (bytes - 32) (R.frame size t ch)
+  R.padding (bytes - (32 + n * size))
+  give (record { seconds = t; frames = fs; size = size; padded = n * (size - (24 + R.sampleBytes t ch)) + (bytes - (32 + n * size)) })
+
+-- a shape goes on with a verdict, or stops
+abbrev pub shaped : Shaped → Verdict R.Frames → Verdict R.Frames
+shaped (Shaped.On f) v = v
+shaped (Shaped.Stop r) v = halts r
+
+-- the fields stand in the body s, and the samples of these channels fill a frame
+abbrev pub FieldsIn : Order → List ℕ → ℕ → List R.Channel → Shaped → Type 0
+FieldsIn o s total ch (Shaped.On f) = (f .seconds ≡ numberAt o 4 s 0) × (f .size ≡ numberAt o 4 s 4) × (total ≡ numberAt o 4 s 8) × (f .filled ≡ 24 + R.sampleBytes (f .seconds) ch)
+FieldsIn o s total ch (Shaped.Stop r) = Unit {0}
+
+-- the tests come to what the answer says, whatever follows them
+pub record Shapes (o : Order) (at : ℕ) (s : List ℕ) (total multiplier : ℕ) (ch : List R.Channel) (a : Shaped) : Type 0 where
+  pub tests : (v : Verdict R.Frames) → fieldTests at (16 + length s) total multiplier ch (numberAt o 4 s 0) (numberAt o 4 s 4) (numberAt o 4 s 8) v ≡ shaped a v
+  pub fields : FieldsIn o s total ch a
+
+-- a frame's samples end in it, and its length is a number of the format
+abbrev pub Sized : Shape → Type 0
+Sized f = (24 ≤ f .filled) × (f .filled ≤ f .size) × (f .size < 2147483648)
+
+abbrev pub Sizes : Shaped → Type 0
+Sizes (Shaped.On f) = Sized f
+Sizes (Shaped.Stop r) = Unit {0}
+
+-- a 140 that stops at its byte n
+abbrev pub Fills : ℕ → Framed → Type 0
+Fills n (Framed.On f q) = q ≡ n
+Fills n (Framed.Stop r) = Unit {0}

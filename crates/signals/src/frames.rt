@@ -1,0 +1,238 @@
+// Record 140 and its frames.
+ghost use mathlib.Core.Path.{_≡_};
+ghost use mathlib.Core.Bool.{_&&_, _||_};
+ghost use mathlib.Core.List.{List};
+ghost use Prim.Native.Nat.{_+_, _-_, _*_, _≤_, _<_};
+ghost use lib.ListN.{length};
+ghost use lib.Dec.{leb, ltb, eqb};
+ghost use Rattle.walk.specs.See.{see, over};
+ghost use Rattle.rules.specs.Rules as R;
+ghost use Rattle.records.specs.Says.{Kept, headOf};
+ghost use Rattle.signals.specs.Framed.{framesOf, framed, Reaches};
+ghost use Rattle.signals.specs.Shaped.{behindFields, Shapes, Sized, Sizes, Fills};
+use records::Fits;
+use records::Serial;
+use records::Step;
+use records::Tested;
+use records::field;
+use rules::Basic;
+use rules::Channel;
+use rules::Channels;
+use rules::Frame;
+use rules::Frames;
+use rules::Head;
+use rules::Refusal;
+use words::Order;
+use words::number4;
+
+// What a 140 says and where it stops, or the refusal.
+pub enum Framed {
+    On(Frames, usize),
+    Stop(Refusal),
+}
+
+// T, the frame length, and the byte of a frame where its samples end: what a 140's own fields say.
+pub struct Shape {
+    pub seconds: u32,
+    pub size: usize,
+    pub filled: usize,
+}
+
+pub enum Shaped {
+    On(Shape),
+    Stop(Refusal),
+}
+
+// A channel with these flags and this rate has a whole number of samples in t seconds.
+fn divides(t: u32, flags: u32, rate: u32) -> bool
+    ensures { λ r. ⌜ ((c : R.Channel) → c .flags ≡ flags → c .rate ≡ rate → r ≡ R.divides t c) ⌝ }
+{
+    if rate == 0 {
+        return true;
+    }
+    if flags % 2 == 0 {
+        return true;
+    }
+    t as u64 * 1000000 % rate as u64 == 0
+}
+
+// Each of the m channels whose records 125 stand from byte `subs` of s on has a whole number of samples in t seconds.
+fn all_divide(o: Order, s: &[u8], subs: usize, m: u32, t: u32) -> bool
+    requires { ⌜ subs + 256 * m ≤ length (now s) ⌝ }
+    ensures { λ r. ⌜ ((cs : List R.Channel) → length cs ≡ m → Kept o (now (s .entry)) subs cs → r ≡ R.all (R.divides t) cs) ⌝ }
+{
+    let mut p = subs;
+    let mut i: u32 = 0;
+    while i < m {
+        let flags = number4(o, s, p + Channel::FLAGS);
+        let rate = number4(o, s, p + Channel::RATE);
+        if !divides(t, flags, rate) {
+            return false;
+        }
+        p += Channel::LENGTH;
+        i += 1;
+    }
+    true
+}
+
+// A frame of this length holds so many bytes of samples, and at most 127 bytes more.
+fn size_ok(bytes: usize, size: usize) -> bool
+    ensures { λ r. ⌜ r ≡ (R.between (24 + bytes) (24 + bytes + 127) size && ltb size R.limit) ⌝ }
+{
+    if size < Frame::SAMPLES {
+        return false;
+    }
+    let rest = size - Frame::SAMPLES;
+    if rest < bytes {
+        return false;
+    }
+    if 127 < rest - bytes {
+        return false;
+    }
+    size < 2147483648
+}
+
+// So many frames fit a 140 of n bytes, and the padding behind them its multiplier.
+fn room_ok(total: u32, size: usize, n: usize, multiplier: u32) -> bool
+    requires { ⌜ (total ≤ 1000000) × (size < 2147483648) ⌝ }
+    ensures { λ r. ⌜ r ≡ (leb (32 + total * size) n && R.padded multiplier (n - (32 + total * size))) ⌝ }
+{
+    let used = Frames::FIRST + total as usize * size;
+    if n < used {
+        return false;
+    }
+    records::pad_ok(multiplier, n - used)
+}
+
+// The tests of the fields of the record 140 at `at`, whose body is the part s.
+fn read_shape(
+    o: Order,
+    file: &[u8],
+    cs: Channels,
+    s: &[u8],
+    at: usize,
+    total: u32,
+    multiplier: u32,
+) -> Shaped
+    requires { ⌜ (16 ≤ length (now s)) × (at + 16 + length (now s) < 9223372036854775808) × (total ≤ 1000000) × (cs .count ≤ 128) × (cs .subs + 256 * cs .count ≤ length (now file)) ⌝ }
+    ensures { λ a. ⌜ ((ch : List R.Channel) → length ch ≡ cs .count → Kept o (now (file .entry)) (cs .subs) ch → Shapes o at (now (s .entry)) total multiplier ch a) × Sizes a ⌝ }
+{
+    let t = field(o, s, Frames::SECONDS);
+    let size = field(o, s, Frames::FRAME_LENGTH) as usize;
+    let n = field(o, s, Frames::COUNT);
+    if !records::between(1, 3600, t) {
+        return Shaped::Stop(Refusal(13, at + Frames::SECONDS));
+    }
+    if !all_divide(o, file, cs.subs, cs.count, t) {
+        return Shaped::Stop(Refusal(14, at + Frames::SECONDS));
+    }
+    let bytes = records::sample_bytes(o, file, cs.subs, cs.count, t);
+    if !size_ok(bytes, size) {
+        return Shaped::Stop(Refusal(14, at + Frames::FRAME_LENGTH));
+    }
+    if n != total {
+        return Shaped::Stop(Refusal(14, at + Frames::COUNT));
+    }
+    if !room_ok(n, size, Head::LENGTH + s.len(), multiplier) {
+        return Shaped::Stop(Refusal(14, at + Frames::COUNT));
+    }
+    Shaped::On(Shape {
+        seconds: t,
+        size,
+        filled: Frame::SAMPLES + bytes,
+    })
+}
+
+// The frames of the record 140 at `at`, and the padding behind them.
+fn frames_rest(o: Order, s: &[u8], at: usize, total: u32, f: Shape) -> Framed
+    requires { ⌜ (16 ≤ length (now s)) × (at + 16 + length (now s) < 9223372036854775808) × (total ≤ 1000000) × Sized f ⌝ }
+    ensures { λ a. ⌜ ((ch : List R.Channel) → f .filled ≡ 24 + R.sampleBytes (f .seconds) ch → over framesOf (see o (at + 16) (now (s .entry)) (at + 32) (behindFields (f .seconds) (f .size) total (16 + length (now (s .entry))) ch)) ≡ framed at a) × Fills (16 + length (now (s .entry))) a ⌝ }
+{
+    let size = f.size;
+    let filled = f.filled;
+    let n = s.len();
+    let taken = records::frames_from(o, s, at + Head::LENGTH, Head::LENGTH, total, size, filled);
+    let Step::On(q) = taken else {
+        return Framed::Stop(records::of_step(taken));
+    };
+    let held = records::padding(s, at + Head::LENGTH, q, n);
+    let Tested::Fine = held else {
+        return Framed::Stop(records::of_test(held));
+    };
+    let padded = total as usize * (size - filled) + (n - q);
+    Framed::On(
+        Frames {
+            seconds: f.seconds,
+            size,
+            padded,
+        },
+        Head::LENGTH + n,
+    )
+}
+
+// The body of the record 140 at `at`, of so many frames.
+fn frames_body(
+    o: Order,
+    file: &[u8],
+    cs: Channels,
+    s: &[u8],
+    at: usize,
+    total: u32,
+    multiplier: u32,
+) -> Framed
+    requires { ⌜ (16 ≤ length (now s)) × (at + 16 + length (now s) < 9223372036854775808) × (total ≤ 1000000) × (cs .count ≤ 128) × (cs .subs + 256 * cs .count ≤ length (now file)) ⌝ }
+    ensures { λ a. ⌜ ((rb : R.Basic) (ch : List R.Channel) (hd : R.Head) → rb .frames ≡ total → length ch ≡ cs .count → Kept o (now (file .entry)) (cs .subs) ch → R.span hd ≡ 16 + length (now (s .entry)) → hd .multiplier ≡ multiplier → over framesOf (see o (at + 16) (now (s .entry)) (at + 16) (R.framesBody rb ch hd)) ≡ framed at a) × Fills (16 + length (now (s .entry))) a ⌝ }
+{
+    let shaped = read_shape(o, file, cs, s, at, total, multiplier);
+    match shaped {
+        Shaped::On(f) => frames_rest(o, s, at, total, f),
+        Shaped::Stop(r) => Framed::Stop(r),
+    }
+}
+
+// Channels that are taken over are as many as the recording's own 100 says.
+fn count_ok(own: bool, m: u32, channels: u32) -> bool
+    ensures { λ r. ⌜ r ≡ (own || eqb m channels) ⌝ }
+{
+    if own {
+        return true;
+    }
+    m == channels
+}
+
+// The rest of the record 140 whose head is h.
+pub fn frames_at(
+    o: Order,
+    file: &[u8],
+    cs: Channels,
+    own: bool,
+    b: Basic,
+    s: &[u8],
+    base: usize,
+    h: Head,
+) -> Framed
+    requires { ⌜ (128 ≤ h .at) × (h .at + 16 ≤ length (now s)) × (base + length (now s) < 9223372036854775808) × (b .frames ≤ 1000000) × (cs .count ≤ 128) × (cs .subs + 256 * cs .count ≤ length (now file)) ⌝ }
+    ensures { λ a. ⌜ ((rb : R.Basic) (ch : List R.Channel) → rb .channels ≡ b .channels → rb .frames ≡ b .frames → length ch ≡ cs .count → Kept o (now (file .entry)) (cs .subs) ch → over framesOf (see o base (now (s .entry)) (base + (h .at + 16)) (R.frames rb own ch (h .at - 4) (length (now (s .entry)) - h .at) (headOf h))) ≡ framed base a) × Reaches (h .at + 32) (length (now (s .entry))) a ⌝ }
+{
+    let room = records::admit(
+        h,
+        base,
+        s.len(),
+        Head::MOST,
+        Fits::AtLeast(Frames::LEAST),
+        Serial::Is(0),
+    );
+    let Step::On(end) = room else {
+        return Framed::Stop(records::of_step(room));
+    };
+    if !count_ok(own, cs.count, b.channels) {
+        return Framed::Stop(Refusal(14, base + Basic::CHANNELS));
+    }
+    let p = h.at;
+    let body = &s[p + Head::LENGTH..end];
+    let held = frames_body(o, file, cs, body, base + p, b.frames, h.multiplier);
+    let Framed::On(f, _) = held else {
+        return held;
+    };
+    Framed::On(f, end)
+}

@@ -1,0 +1,4 @@
+pub mod Halves
+pub mod Stands
+pub mod Parts
+pub mod Tabling
