@@ -3,10 +3,10 @@
 use mathlib.Core.Path.{_≡_, refl, sym, ap, _∙_}
 use mathlib.Core.Bool.{Bool, true, false}
 use mathlib.Core.List.{List, [], _∷_, _++_, append-assoc, append-nil}
-use Prim.Native.Nat.{ℕ, suc, _+_, _-_, _*_, _≤_, _<_}
-use native.Mathlib.Nat.{add-sub-cancel-left, sub-self}
+use Prim.Native.Nat.{ℕ, zero, suc, _+_, _-_, _*_, _/_, _≤_, _<_}
+use native.Mathlib.Nat.{add-sub-cancel-left, sub-self, zero-add, zero-mul, add-zero, suc-add, suc-mul, add-mul, div-eq-of-eq-mul-left}
 use native.Mathlib.Omega.{arith}
-use borrow.Author.Tests.{leb-true}
+use borrow.Author.Tests.{leb-true, ltb-true, ltb-false}
 use lib.Dec.{leb, ltb, eqb}
 use lib.ListN.{length, take, drop, length-drop}
 use lib.Seq.{length-take-le}
@@ -16,10 +16,10 @@ use Rattle.words.specs.declared.Order.{Order}
 use Rattle.words.proofs.Runs.{pasted-pasted, part-pasted, take-pasted, length-pasted}
 use Rattle.walk.specs.See.{goes, see, Goes}
 use Rattle.walk.specs.Trace.{trace, written}
-use Rattle.walk.specs.Walk.{Event, numeral, blank, Walk, give, text, _>>=_, _>>_, reserve, pick}
+use Rattle.walk.specs.Walk.{Event, numeral, blank, Walk, give, num, text, _>>=_, _>>_, reserve, pick}
 use Rattle.walk.proofs.Seen.{stays-goes, yields, and-left, and-right}
 use Rattle.walk.proofs.Went.{gate-went, went-first, goes-same}
-use Rattle.walk.proofs.Tracing.{trace-bind, trace-give}
+use Rattle.walk.proofs.Tracing.{trace-bind, trace-give, written-none}
 use Rattle.rules.specs.Rules.{Item, item, itemSize, itemList, itemsBody, limit, numberList, Channel, width, samplesOf, samplesIn, sampleBytes, samples}
 use Rattle.rules.proofs.Room.{stays-item, stays-itemsBody}
 use Rattle.records.specs.Says.{Kept}
@@ -241,3 +241,88 @@ module _ (w : Way) (file : List ℕ) (t : ℕ) (s : List ℕ) where
         go : (l : List Channel) → length l ≡ n → p + sampleBytes t l ≡ length s → Left w b s d p (filling t cs) (samples t l) → d ≡ copy w b s b (filling t cs)
         go [] e f y = left-nothing w b s d (filling t cs) p [] (omega arith) y
         go (c ∷ l) e f y = absurd (omega (arith, e))
+
+-- Samples of one width: they are one run
+
+module _ (w : Way) (b : ℕ) (s : List ℕ) (k : ℕ) where
+  first-number : (n at : ℕ) → copy w b s at (numberList k (suc n)) ≡ copy w b s at (num k) ++ copy w b s (at + k) (numberList k n)
+  unfolding numberList
+  first-number n at = copy-follows w b s k (num k) (λ at v. refl) at _ (numberList k n) (λ v. trace-give (w .from) b s (at + k) (numberList k n) (λ l. v ∷ l))
+
+  -- two runs, one behind the other
+  numbers-both : (n m at : ℕ) → copy w b s at (numberList k (n + m)) ≡ copy w b s at (numberList k n) ++ copy w b s (at + n * k) (numberList k m)
+  unfolding numberList trace
+  numbers-both zero m at = rw (zero-add, zero-mul, add-zero, written-none)
+  numbers-both (suc n) m at =
+      let e : at + k + n * k ≡ at + suc n * k = omega (arith, suc-mul n k) in
+      rw (suc-add n m, first-number (n + m) at, numbers-both n m (at + k), first-number n at, e) (sym (append-assoc (copy w b s at (num k)) _ _))
+
+-- how many samples the channels have, each of whose samples is v bytes wide
+abbrev total : ℕ → List Channel → ℕ
+total t [] = 0
+total t (c ∷ cs) = samplesIn t c + total t cs
+
+abbrev Wide : ℕ → List Channel → Type 0
+Wide v [] = Unit {0}
+Wide v (c ∷ cs) = (width (c .format) ≡ v) × Wide v cs
+
+module _ (t v : ℕ) where
+  wide-bytes : (cs : List Channel) → Wide v cs → sampleBytes t cs ≡ total t cs * v
+  unfolding sampleBytes
+  wide-bytes [] h = sym (zero-mul v)
+  wide-bytes (c ∷ cs) h = rw (h .0, wide-bytes cs (h .1)) (sym (add-mul (samplesIn t c) (total t cs) v))
+
+  wide-run : (w : Way) (b : ℕ) (s : List ℕ) (cs : List Channel) (at : ℕ) → Wide v cs → copy w b s at (samples t cs) ≡ copy w b s at (numberList v (total t cs))
+  unfolding samples numberList trace
+  wide-run w b s [] at h = refl
+  wide-run w b s (c ∷ cs) at h =
+      copy-follows w b s (samplesIn t c * width (c .format)) (numberList (width (c .format)) (samplesIn t c)) (takes-numbers (width (c .format)) (samplesIn t c)) at _ (samples t cs) (λ n. trace-give (w .from) b s (at + samplesIn t c * width (c .format)) (samples t cs) (λ l. n ∷ l))
+      ∙ rw (h .0, wide-run w b s cs (at + samplesIn t c * v) (h .1)) (sym (numbers-both w b s v (samplesIn t c) (total t cs) at))
+
+-- the widths that the code read
+wide-kept : (o : Order) (file : List ℕ) (v q : ℕ) (cs : List Channel) → Kept o file q cs → ((i : ℕ) → i < length cs → width (numberAt o 4 file (q + 256 * i + 28)) ≡ v) → Wide v cs
+wide-kept o file v q [] k h = tt
+wide-kept o file v q (c ∷ cs) k h = (
+  rw (k .1) (ap (λ (x : ℕ). width (numberAt o 4 file x)) (omega arith) ∙ h 0 (omega arith)),
+  wide-kept o file v (q + 256) cs (k .3) (λ i l. ap (λ (x : ℕ). width (numberAt o 4 file x)) (omega arith) ∙ h (suc i) (omega arith)),
+)
+
+-- one channel more
+pub alike-more : (o : Order) (file : List ℕ) (v p q i m : ℕ) → q ≡ p + 256 * i → m ≡ numberAt o 4 file (q + 28) → width m ≡ v → ((j : ℕ) → j < i → width (numberAt o 4 file (p + 256 * j + 28)) ≡ v) → (j : ℕ) → j < i + 1 → width (numberAt o 4 file (p + 256 * j + 28)) ≡ v
+alike-more o file v p q i m at is e h j l = go (ltb j i) refl
+  where
+    go : (x : Bool) → ltb j i ≡ x → width (numberAt o 4 file (p + 256 * j + 28)) ≡ v
+    go true f = h j (ltb-true j i f)
+    go false f =
+        let k : j ≡ i = omega (arith, ltb-false j i f) in
+        rw (k, ← at, ← is) e
+
+-- a run that the code wrote from byte 8 on, to the end
+pub run-copied : (w : Way) (s d : List ℕ) (v n k : ℕ) (ys : List ℕ) → 2 ≤ v → n ≡ (length s - 8) / v → k ≡ n * v → 8 ≤ length s → ((x : ℕ) → ys ≡ copy w x (take k (drop 8 s)) x (numberList v n)) →
+    (b m : ℕ) → length s ≡ 8 + m * v → put 8 k d ys ≡ pasted d 8 (copy w b s (b + 8) (numberList v m))
+run-copied w s d v n k ys two is e f numbers b m l =
+    let j : n ≡ m = is ∙ div-eq-of-eq-mul-left {k = m} (omega arith) (omega arith) in
+    let g : 8 + n * v ≤ length s = rw j (omega arith) in
+    rw (← j) (piece-pasted w b s d ys (numberList v n) 8 (n * v) k (takes-numbers v n) e g numbers)
+
+module _ {w : Way} {file : List ℕ} {t b : ℕ} {s : List ℕ} {cs : List Channel} {n q : ℕ} {d : List ℕ} (x : Samples w file t b s cs n q 8 d) where
+  -- what the code has written behind the clock is one run of samples, all v bytes wide
+  pub samples-once : (v : ℕ) (d′ : List ℕ) → ((i : ℕ) → i < n → width (numberAt (w .from) 4 file (q + 256 * i + 28)) ≡ v) →
+      ((m : ℕ) → length s ≡ 8 + m * v → d′ ≡ pasted d 8 (copy w b s (b + 8) (numberList v m))) → d′ ≡ copy w b s b (filling t cs)
+  unfolding trace
+  samples-once v d′ wide says =
+      let m : ℕ = total t (x .rest) in
+      let ys : List ℕ = copy w b s (b + 8) (numberList v m) in
+      let k = wide-kept (w .from) file v q (x .rest) (x .kept) (λ i l. wide i (omega (arith, x .count))) in
+      let r : length s ≡ 8 + m * v = sym (x .room) ∙ ap (λ (y : ℕ). 8 + y) (wide-bytes t v (x .rest) k) in
+      let l : length ys ≡ m * v = length-within w b s (m * v) (numberList v m) (takes-numbers v m) (b + 8) (omega arith) (omega arith) in
+      left-nothing w b s d′ (filling t cs) {B = List ℕ} (length s) [] refl
+      (left-pasted w b s d d′ ys (filling t cs) (samples t (x .rest)) (give []) 8 (length s) (wide-run t v w b s (x .rest) (b + 8) k ∙ rw written-none (sym (append-nil ys))) (says m r) (omega arith) (omega arith) (x .left))
+
+-- the code has written the clock, ys, the reserve area, zs, and the samples in one run
+pub body-once : (w : Way) (file : List ℕ) (t : ℕ) (s : List ℕ) (q n v : ℕ) (d ys zs d′ : List ℕ) → length d ≡ length s →
+    ((c : ℕ) → ys ≡ copy w c (take 6 s) c (numberList 2 3)) → ((c : ℕ) → zs ≡ copy w c (take 2 (drop 6 s)) c (reserve (length (take 2 (drop 6 s))))) →
+    ((i : ℕ) → i < n → width (numberAt (w .from) 4 file (q + 256 * i + 28)) ≡ v) →
+    ((b m : ℕ) → length s ≡ 8 + m * v → d′ ≡ pasted (put 6 2 (put 0 6 d ys) zs) 8 (copy w b s (b + 8) (numberList v m))) →
+    (b : ℕ) (cs : List Channel) → length cs ≡ n → Kept (w .from) file q cs → length s ≡ 8 + sampleBytes t cs → d′ ≡ copy w b s b (filling t cs)
+body-once w file t s q n v d ys zs d′ long numbers area wide says b cs e k l = samples-once (samples-begun w file t s q d ys zs long numbers area b cs n e k l) v d′ wide (says b)

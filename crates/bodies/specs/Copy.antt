@@ -4,8 +4,9 @@ use mathlib.Core.Path.{_≡_}
 use mathlib.Core.Bool.{Bool, true, false}
 use mathlib.Core.List.{List, _++_}
 use mathlib.Core.Option.{Option}
-use Prim.Native.Nat.{ℕ, _+_, _-_, _≤_, _<_}
+use Prim.Native.Nat.{ℕ, _+_, _-_, _*_, _≤_, _<_}
 use lib.ListN.{length}
+use Rattle.words.specs.Numbers.{numberAt}
 use Rattle.words.specs.Runs.{pasted}
 use Rattle.words.specs.declared.Order.{Order}
 use Rattle.words.specs.declared.Order.the-variants.{Little, Big}
@@ -17,6 +18,8 @@ use Rattle.rules.specs.declared.Head.{Head}
 use Rattle.records.specs.Says.{headOf}
 use Rattle.rows.specs.Rows.{Marks}
 use Rattle.bodies.specs.declared.Way.{Way}
+use Rattle.bodies.specs.declared.Widths.{Widths}
+use Rattle.bodies.specs.declared.Widths.the-variants as Widths
 
 -- the two orders are one
 unfoldable pub sameOrder : Order → Order → Bool
@@ -40,6 +43,11 @@ Holds out out′ k xs = (k + length xs ≤ length out → out′ ≡ pasted out 
 -- a frame's clock and its samples, without what pads it
 unfoldable pub filling : ℕ → List R.Channel → Walk (List (List ℕ))
 filling t cs = R.numberList 2 3 >> (reserve 2 >> R.samples t cs)
+
+-- what the code knows of the samples' widths in the n channels whose 125s stand in the file from byte q on
+abbrev pub Alike : Order → List ℕ → ℕ → ℕ → Widths → Type 0
+Alike o file q n (Widths.One v) = (2 ≤ v) × (v ≤ 4) × ((i : ℕ) → i < n → R.width (numberAt o 4 file (q + 256 * i + 28)) ≡ v)
+Alike o file q n Widths.Several = Unit {0}
 
 -- a part of a recording with the head h, and the makers' records behind it: where the walk accepts them, they are written, and it comes to the head h′
 abbrev pub PartCopied : {A : Type 0} → Way → ℕ → List ℕ → Head → ℕ → (ℕ → R.Head → Walk A) → List ℕ → List ℕ → ℕ → ℕ → Head → Type 0

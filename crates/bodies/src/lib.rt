@@ -12,7 +12,7 @@ ghost use Rattle.words.specs.Runs.{pasted};
 ghost use Rattle.walk.specs.See.{see, goes};
 ghost use Rattle.rules.specs.Rules as R;
 ghost use Rattle.records.specs.Says.{Kept};
-ghost use Rattle.bodies.specs.Copy.{copy, filling};
+ghost use Rattle.bodies.specs.Copy.{copy, filling, Alike};
 use crate::runs::numbers;
 use crate::runs::reserved;
 use bulk::copy_run;
@@ -31,6 +31,12 @@ pub struct Way {
     pub from: Order,
     pub to: Order,
     pub keep: bool,
+}
+
+// The widths of the samples of a recording's channels: one for all of them, or several.
+pub enum Widths {
+    One(usize),
+    Several,
 }
 
 // A record 100.
@@ -173,15 +179,51 @@ fn channel_samples(w: Way, file: &[u8], q: usize, t: u32, s: &[u8], p: usize, d:
     end
 }
 
-// A frame's clock and its samples, channel by channel; the 125s stand in the file.
-pub fn frame_body(w: Way, file: &[u8], cs: Channels, t: u32, s: &[u8], d: &mut [u8])
-    requires { ⌜ (cs .subs + 256 * cs .count ≤ length (now file)) × (t ≤ 3600) × (8 ≤ length (now s)) × (length (now d) ≡ length (now s)) ⌝ }
+// The widths of the channels whose 125s stand in the file.
+pub fn widths_of(o: Order, file: &[u8], cs: Channels) -> Widths
+    requires { ⌜ cs .subs + 256 * cs .count ≤ length (now file) ⌝ }
+    ensures { λ a. ⌜ Alike o (now (file .entry)) (cs .subs) (cs .count) a ⌝ }
+{
+    if cs.count == 0 {
+        return Widths::Several;
+    }
+    let mut sub = cs.subs;
+    let width = records::width(number4(o, file, sub + Channel::FORMAT));
+    let mut i: u32 = 0;
+    while i < cs.count {
+        if records::width(number4(o, file, sub + Channel::FORMAT)) != width {
+            return Widths::Several;
+        }
+        sub += Channel::LENGTH;
+        i += 1;
+    }
+    Widths::One(width)
+}
+
+// The samples of a frame whose channels have one width: they are one run.
+fn one_run(w: Way, width: usize, s: &[u8], d: &mut [u8])
+    requires { ⌜ (2 ≤ width) × (width ≤ 4) × (8 ≤ length (now s)) × (length (now d) ≡ length (now s)) ⌝ }
+    ensures { λ _. ⌜ ((b n : ℕ) → length (now (s .entry)) ≡ 8 + n * width → now (d .exit) ≡ pasted (now (d .entry)) 8 (copy w b (now (s .entry)) (b + 8) (R.numberList width n))) ⌝ }
+{
+    let from = Frame::BODY_SAMPLES;
+    let n = (s.len() - from) / width;
+    let end = from + n * width;
+    numbers(w, width, n, &s[from..end], &mut d[from..end]);
+}
+
+// A frame's clock and its samples, in one run or channel by channel; the 125s stand in the file.
+pub fn frame_body(w: Way, file: &[u8], cs: Channels, widths: Widths, t: u32, s: &[u8], d: &mut [u8])
+    requires { ⌜ (cs .subs + 256 * cs .count ≤ length (now file)) × Alike (w .from) (now file) (cs .subs) (cs .count) widths × (t ≤ 3600) × (8 ≤ length (now s)) × (length (now d) ≡ length (now s)) ⌝ }
     ensures { λ _. ⌜ ((b : ℕ) (ch : List R.Channel) → length ch ≡ cs .count → Kept (w .from) (now (file .entry)) (cs .subs) ch → length (now (s .entry)) ≡ 8 + R.sampleBytes t ch → now (d .exit) ≡ copy w b (now (s .entry)) b (filling t ch)) ⌝ }
 {
     let reserve = Frame::BODY_RESERVE;
     let mut p = Frame::BODY_SAMPLES;
     numbers(w, 2, 3, &s[..reserve], &mut d[..reserve]);
     reserved(w, &s[reserve..p], &mut d[reserve..p]);
+    if let Widths::One(width) = widths {
+        one_run(w, width, s, d);
+        return;
+    }
     let mut q = cs.subs;
     let mut i: u32 = 0;
     while i < cs.count {

@@ -167,18 +167,26 @@ pub fn turn2(src: &[u8], dst: &mut [u8], n: usize)
     rest_of_2(&src[at..], &mut dst[at..], n - i);
 }
 
-// A run of n numbers of three bytes, turned.
+// A run of n numbers of three bytes, turned. Between the first and the last, four bytes are turned at once, which the compiler makes one load
+// and one store: the byte before the number comes behind it, where the next number is then written.
 pub fn turn3(src: &[u8], dst: &mut [u8], n: usize)
     requires { ⌜ (length (now src) ≡ n * 3) × (length (now dst) ≡ n * 3) ⌝ }
     ensures { λ _. ⌜ now (dst .exit) ≡ turned 3 n (now (src .entry)) ⌝ }
 {
-    let mut i = 0;
-    let mut at = 0;
-    while i < n {
+    if n == 0 {
+        return;
+    }
+    let mut i = 1;
+    let mut at = 3;
+    one_of_3(&src[..at], &mut dst[..at]);
+    while i + 1 < n {
         let end = at + 3;
-        one_of_3(&src[at..end], &mut dst[at..end]);
+        one_of_4(&src[at - 1..end], &mut dst[at..end + 1]);
         at = end;
         i += 1;
+    }
+    if i < n {
+        one_of_3(&src[at..], &mut dst[at..]);
     }
 }
 

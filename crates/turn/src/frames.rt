@@ -8,12 +8,14 @@ ghost use Rattle.words.specs.Numbers.{numberAt};
 ghost use Rattle.walk.specs.See.{see, goes};
 ghost use Rattle.rules.specs.Rules as R;
 ghost use Rattle.records.specs.Says.{Kept};
-ghost use Rattle.bodies.specs.Copy.{copy, Pastes, RecordCopied};
+ghost use Rattle.bodies.specs.Copy.{Alike, copy, Pastes, RecordCopied};
 use bodies::Way;
+use bodies::Widths;
 use bodies::fits;
 use bodies::frame_body;
 use bodies::runs::numbers;
 use bodies::runs::reserved;
+use bodies::widths_of;
 use bulk::copy_run;
 use copies::Marked;
 use copies::next;
@@ -26,13 +28,30 @@ use rules::Frames;
 use rules::Head;
 
 // A record 145 whose samples end at byte `filled`.
-fn frame(w: Way, file: &[u8], cs: Channels, t: u32, filled: usize, s: &[u8], d: &mut [u8])
-    requires { ⌜ (cs .subs + 256 * cs .count ≤ length (now file)) × (t ≤ 3600) × (24 ≤ filled) × (filled ≤ length (now s)) × (length (now d) ≡ length (now s)) ⌝ }
+fn frame(
+    w: Way,
+    file: &[u8],
+    cs: Channels,
+    widths: Widths,
+    t: u32,
+    filled: usize,
+    s: &[u8],
+    d: &mut [u8],
+)
+    requires { ⌜ (cs .subs + 256 * cs .count ≤ length (now file)) × (t ≤ 3600) × (24 ≤ filled) × (filled ≤ length (now s)) × (length (now d) ≡ length (now s)) × Alike (w .from) (now file) (cs .subs) (cs .count) widths ⌝ }
     ensures { λ _. ⌜ ((b room i : ℕ) (ch : List R.Channel) → length ch ≡ cs .count → Kept (w .from) (now (file .entry)) (cs .subs) ch → filled ≡ 24 + R.sampleBytes t ch → now (d .exit) ≡ copy w b (now (s .entry)) b (R.frame (length (now (s .entry))) t ch room i)) ⌝ }
 {
     let body = Head::LENGTH;
     numbers(w, 4, 4, &s[..body], &mut d[..body]);
-    frame_body(w, file, cs, t, &s[body..filled], &mut d[body..filled]);
+    frame_body(
+        w,
+        file,
+        cs,
+        widths,
+        t,
+        &s[body..filled],
+        &mut d[body..filled],
+    );
     copy_run(&s[filled..], &mut d[filled..]);
 }
 
@@ -51,6 +70,8 @@ fn frames_body(
     requires { ⌜ (cs .subs + 256 * cs .count ≤ length (now file)) × (t ≤ 3600) × (24 ≤ filled) × (filled ≤ size) × (16 + size * count ≤ length (now s)) × (length (now d) ≡ length (now s)) ⌝ }
     ensures { λ _. ⌜ ((b : ℕ) (c : R.Basic) (ch : List R.Channel) (hd : R.Head) (f : R.Frames) (e : ℕ) → length ch ≡ cs .count → Kept (w .from) (now (file .entry)) (cs .subs) ch → filled ≡ 24 + R.sampleBytes t ch → numberAt (w .from) 4 (now (s .entry)) 0 ≡ t → numberAt (w .from) 4 (now (s .entry)) 4 ≡ size → numberAt (w .from) 4 (now (s .entry)) 8 ≡ count → R.span hd ≡ 16 + length (now (s .entry)) → see (w .from) b (now (s .entry)) b (R.framesBody c ch hd) ≡ goes f e → now (d .exit) ≡ copy w b (now (s .entry)) b (R.framesBody c ch hd)) ⌝ }
 {
+    let o = w.from;
+    let widths = widths_of(o, file, cs);
     let reserve = Frames::BODY_RESERVE;
     let mut from = Frames::BODY_FIRST;
     let mut k = Frames::BODY_FIRST;
@@ -63,6 +84,7 @@ fn frames_body(
             w,
             file,
             cs,
+            widths,
             t,
             filled,
             &s[from..from + size],

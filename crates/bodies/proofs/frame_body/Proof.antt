@@ -1,4 +1,4 @@
--- `bodies::frame_body` meets its contract: after each turn what stands before p is written, and the channels that are left stand in the file from q on.
+-- `bodies::frame_body` meets its contract: the samples are one run; or after each turn what stands before p is written, and the channels that are left stand in the file from q on.
 -- Assumes nothing.
 use mathlib.Core.Path.{_≡_, _∙_, sym}
 use mathlib.Core.List.{List}
@@ -10,7 +10,7 @@ use lib.ListN.{length, length-take}
 use borrow.Author.Needs.{needs}
 use Rattle.rules.specs.Rules.{Channel, sampleBytes}
 use Rattle.records.specs.Says.{Kept}
-use Rattle.bodies.proofs.Filling.{Samples, samples-begun, samples-more, samples-all}
+use Rattle.bodies.proofs.Filling.{Samples, samples-begun, samples-more, samples-all, body-once}
 use Rattle.bodies.proofs.frame_body.Statement.{statement}
 use Rattle.bodies.proofs.frame_body.Tie as tie
 
@@ -53,15 +53,33 @@ part-reserved-end-2 c = search needs
 reserved-requires : tie.Need-reserved-requires Inv-loop μ-loop
 reserved-requires c κs = search needs
 
+enum-known-widths : tie.Need-enum-known-widths Inv-loop μ-loop
+enum-known-widths c = search needs
+
+one-run-requires : tie.Need-one-run-requires Inv-loop μ-loop
+one-run-requires c κs =
+    let y = c .before .before .before .before .before .before .before .before .before .before .before .before .before .before .before .before .before in
+    let k = rw (c .before .before .widths .given .1) at (y .pre .1) in
+    (k .0, k .1, search needs, search needs)
+
+same-length : tie.Need-same-length Inv-loop μ-loop
+same-length c = search needs
+
+returns : tie.Need-returns Inv-loop μ-loop
+returns c =
+    let y = c .before .before .before .before .before .before .before .before .before .before .before .before .before .before .before .before .before .before .before .before in
+    let a = y .args in
+    let k = rw (c .before .before .before .before .before .widths .given .1) at (y .pre .1) in
+    body-once (a .w) (now (a .file)) (a .t) (now (a .s)) (a .cs .subs) (a .cs .count) _ (now (a .d)) _ _ _ (y .pre .4) (c .before .before .before .before .before .before .before .before .before .before .before .before .before .before .numbers .ensures) (c .before .before .before .before .before .before .before .before .before .reserved .ensures) (k .2) (c .before .before .one-run .ensures)
+
+enum-told : tie.Need-enum-told Inv-loop μ-loop
+enum-told c = search needs
+
 loop-holds : tie.Need-loop-holds Inv-loop μ-loop
 loop-holds c =
-    let a = c .before .before .before .before .before .before .before .before .before .before .before .before .before .args in (
-      search needs,
-      search needs,
-      search needs,
-      search needs,
-      λ b ch e k l. samples-begun (a .w) (now (a .file)) (a .t) (now (a .s)) _ (now (a .d)) _ _ (c .before .before .before .before .before .before .before .before .before .before .before .before .before .pre .3) (c .before .before .before .before .before .before .before .numbers .ensures) (c .before .before .reserved .ensures) b ch _ (e ∙ sym (sub-zero _)) k l,
-    )
+    let y = c .before .before .before .before .before .before .before .before .before .before .before .before .before .before .before in
+    let a = y .args in
+    (search needs, search needs, search needs, search needs, λ b ch e k l. samples-begun (a .w) (now (a .file)) (a .t) (now (a .s)) _ (now (a .d)) _ _ (y .pre .4) (c .before .before .before .before .before .before .before .before .before .numbers .ensures) (c .before .before .before .before .reserved .ensures) b ch _ (e ∙ sym (sub-zero _)) k l)
 
 channel-samples-requires : tie.Need-channel-samples-requires Inv-loop μ-loop
 channel-samples-requires c κs = search needs
@@ -81,11 +99,11 @@ loop-again c =
     let x = c .before .before .channel-samples in
     (search needs, omega arith, x .ensures .0, search needs, λ b ch e k n. samples-more _ _ _ _ (l .inv .4 b ch e k n) _ _ _ (omega arith) (x .ensures .1 b))
 
-same-length : tie.Need-same-length Inv-loop μ-loop
-same-length c = search needs
+same-length-2 : tie.Need-same-length-2 Inv-loop μ-loop
+same-length-2 c = search needs
 
-returns : tie.Need-returns Inv-loop μ-loop
-returns c =
+returns-2 : tie.Need-returns-2 Inv-loop μ-loop
+returns-2 c =
     let l = c .before .before .loop in
     λ b ch e k n. samples-all _ _ _ _ (l .inv .4 b ch e k n) (omega (arith, c .if1 .left))
 
@@ -106,11 +124,16 @@ frame-body-spec =
     part-reserved-start-2
     part-reserved-end-2
     reserved-requires
+    enum-known-widths
+    one-run-requires
+    same-length
+    returns
+    enum-told
     loop-holds
     channel-samples-requires
     add-q
     add-i
     loop-less
     loop-again
-    same-length
-    returns)
+    same-length-2
+    returns-2)

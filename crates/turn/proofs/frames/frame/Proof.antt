@@ -43,7 +43,9 @@ part-frame-body-end-2 : tie.Need-part-frame-body-end-2
 part-frame-body-end-2 c = search needs
 
 frame-body-requires : tie.Need-frame-body-requires
-frame-body-requires c κs = search needs
+frame-body-requires c κs =
+    let z = c .before .before .before .before .before .before .before .before .before .before in
+    (z .pre .0, z .pre .5, z .pre .1, search needs, search needs)
 
 sub-copy-run : tie.Need-sub-copy-run
 sub-copy-run c = search needs

@@ -20,26 +20,29 @@ use Rattle.turn.proofs.frames.frames_body.Statement.{statement}
 use Rattle.turn.proofs.frames.frames_body.Tie as tie
 
 abbrev Inv-loop : tie.InvT-loop
-Inv-loop w file cs t filled size count s d₀ reserve from₀ k₀ i₀ d from k i =
+Inv-loop w file cs t filled size count s d₀ widths reserve from₀ k₀ i₀ d from k i =
     (i ≤ count) × (k ≡ 16 + size * i) × (k ≤ length s) × (length d ≡ length s) × (from ≡ k) ×
     ((b : ℕ) (c : R.Basic) (ch : List R.Channel) (hd : R.Head) (f : R.Frames) (e : ℕ) → length ch ≡ cs .count → Kept (w .from) file (cs .subs) ch → filled ≡ 24 + R.sampleBytes t ch →
     numberAt (w .from) 4 s 0 ≡ t → numberAt (w .from) 4 s 4 ≡ size → numberAt (w .from) 4 s 8 ≡ count → R.span hd ≡ 16 + length s → see (w .from) b s b (R.framesBody c ch hd) ≡ goes f e →
     Framing w b s d ch t size count (copy w b s b (R.framesBody c ch hd)) k i)
 
 abbrev μ-loop : tie.MeasureT-loop
-μ-loop w file cs t filled size count s d₀ reserve from₀ k₀ i₀ d from k i = count - i
+μ-loop w file cs t filled size count s d₀ widths reserve from₀ k₀ i₀ d from k i = count - i
+
+widths-of-requires : tie.Need-widths-of-requires Inv-loop μ-loop
+widths-of-requires c κs = search needs
 
 slice-aggregate-numbers : tie.Need-slice-aggregate-numbers Inv-loop μ-loop
-slice-aggregate-numbers c = sym (length-take-le 12 (c .before .before .before .before .args .s .now) (omega arith))
+slice-aggregate-numbers c = sym (length-take-le 12 (c .before .before .before .before .before .args .s .now) (omega arith))
 
 slice-relend-prefix-numbers : tie.Need-slice-relend-prefix-numbers Inv-loop μ-loop
 slice-relend-prefix-numbers c = search needs
 
 slice-aggregate-numbers-2 : tie.Need-slice-aggregate-numbers-2 Inv-loop μ-loop
-slice-aggregate-numbers-2 c = sym (length-take-le 12 (c .before .before .before .before .before .args .d .now) (omega arith))
+slice-aggregate-numbers-2 c = sym (length-take-le 12 (c .before .before .before .before .before .before .args .d .now) (omega arith))
 
 numbers-requires : tie.Need-numbers-requires Inv-loop μ-loop
-numbers-requires c κs = (omega arith, omega arith, length-take-le 12 (c .before .before .before .before .before .args .s .now) (omega arith), length-take-le 12 (c .before .before .before .before .before .args .d .now) (omega arith))
+numbers-requires c κs = (omega arith, omega arith, length-take-le 12 (c .before .before .before .before .before .before .args .s .now) (omega arith), length-take-le 12 (c .before .before .before .before .before .before .args .d .now) (omega arith))
 
 sub-reserved : tie.Need-sub-reserved Inv-loop μ-loop
 sub-reserved c = search needs
@@ -66,7 +69,7 @@ loop-holds : tie.Need-loop-holds Inv-loop μ-loop
 loop-holds c =
     let y = c .before .before in
     let x = y .before .before .before .before .before in
-    let z = x .before .before .before .before .before .before in
+    let z = x .before .before .before .before .before .before .before in
     let a = z .args in (
       search needs,
       omega arith,
@@ -78,10 +81,10 @@ loop-holds c =
 
 -- the frame that a turn writes ends in the body
 reach : (c : tie.In-loop Inv-loop μ-loop) →
-    let a = c .before .before .before .before .before .before .before .before .before .before .before .before .before .before .before .args in
+    let a = c .before .before .before .before .before .before .before .before .before .before .before .before .before .before .before .before .args in
     c .before .loop .k + a .size ≤ length (now (a .s))
 reach c =
-    let a = c .before .before .before .before .before .before .before .before .before .before .before .before .before .before .before .args in
+    let a = c .before .before .before .before .before .before .before .before .before .before .before .before .before .before .before .before .args in
     omega (arith, series-reach (c .before .loop .i) (a .count) 16 (a .size) (omega arith))
 
 add-end : tie.Need-add-end Inv-loop μ-loop
@@ -109,12 +112,14 @@ part-frame-end-2 : tie.Need-part-frame-end-2 Inv-loop μ-loop
 part-frame-end-2 c = omega (arith, reach (c .before))
 
 frame-requires : tie.Need-frame-requires Inv-loop μ-loop
-frame-requires c κs = search needs
+frame-requires c κs =
+    let z = c .before .before .before .before .before .before .before .before .before .before .before .before .before .before .before .before .before .before in
+    (z .pre .0, z .pre .1, z .pre .2, search needs, search needs, c .before .before .before .before .before .before .before .before .before .before .before .before .before .before .widths-of .ensures)
 
 add-from : tie.Need-add-from Inv-loop μ-loop
 add-from c =
     let x = c .before .before .before .before .before in
-    omega (arith, reach x, x .before .before .before .before .before .before .before .before .before .before .before .before .before .before .before .good)
+    omega (arith, reach x, x .before .before .before .before .before .before .before .before .before .before .before .before .before .before .before .before .good)
 
 add-i : tie.Need-add-i Inv-loop μ-loop
 add-i c = search needs
@@ -127,7 +132,7 @@ loop-again c =
     let y = c .before .before in
     let x = y .before .before .before in
     let l = x .before .loop in
-    let z = x .before .before .before .before .before .before .before .before .before .before .before .before .before .before .before in
+    let z = x .before .before .before .before .before .before .before .before .before .before .before .before .before .before .before .before in
     let a = z .args in
     let m : l .k + a .size - l .k ≡ a .size = omega arith in (
       search needs,
@@ -168,7 +173,7 @@ returns : tie.Need-returns Inv-loop μ-loop
 returns c =
     let x = c .before .before .before .before .before in
     let l = x .before .loop in
-    let z = x .before .before .before .before .before .before .before .before .before .before .before .before .before .before .before in
+    let z = x .before .before .before .before .before .before .before .before .before .before .before .before .before .before .before .before in
     let h : l .i ≡ z .args .count = omega arith in
     λ b k ch hd f e n g m e₁ e₂ e₃ q v. framing-end (l .inv .5 b k ch hd f e n g m e₁ e₂ e₃ q v) _ (c .before .before .before .before .before .loop-test .left) (rw h at (l .inv .1)) (l .inv .2) (rw (l .inv .4) at (c .before .before .copy-run .ensures))
 
@@ -178,6 +183,7 @@ frames-body-spec =
     (tie.spec
     Inv-loop
     μ-loop
+    widths-of-requires
     slice-aggregate-numbers
     slice-relend-prefix-numbers
     slice-aggregate-numbers-2
