@@ -10,7 +10,7 @@ ghost use Rattle.walk.specs.See.{see, goes};
 ghost use Rattle.rules.specs.Rules as R;
 ghost use Rattle.rules.specs.Canonical as C;
 ghost use Rattle.records.specs.Says.{Kept};
-ghost use Rattle.bodies.specs.Copy.{Alike};
+ghost use Rattle.bodies.specs.Copy.{widthsIn};
 ghost use Rattle.shapes.specs.Shapes.{FrameIn};
 use crate::heads::put_head;
 use crate::heads::put4;
@@ -26,7 +26,7 @@ use rules::Head;
 
 // A record 145 with the serial i: the frame s up to its padding, under a head of its own.
 fn frame(w: Way, file: &[u8], cs: Channels, widths: Widths, t: u32, i: u32, s: &[u8], d: &mut [u8])
-    requires { ⌜ (cs .subs + 256 * cs .count ≤ length (now file)) × (t ≤ 3600) × (24 ≤ length (now s)) × (length (now s) < 4294967296) × (length (now d) ≡ length (now s)) × Alike (w .from) (now file) (cs .subs) (cs .count) widths ⌝ }
+    requires { ⌜ (cs .subs + 256 * cs .count ≤ length (now file)) × (t ≤ 3600) × (24 ≤ length (now s)) × (length (now s) < 4294967296) × (length (now d) ≡ length (now s)) × (widths ≡ widthsIn (w .from) (now file) (cs .subs) (cs .count)) ⌝ }
     ensures { λ _. ⌜ (w .keep ≡ false → (ch : List R.Channel) (f : R.Frame) → length ch ≡ cs .count → Kept (w .from) (now (file .entry)) (cs .subs) ch → length (now (s .entry)) ≡ 24 + R.sampleBytes t ch → FrameIn (w .from) t ch (now (s .entry)) f → now (d .exit) ≡ render (w .to) (C.recordOf (C.plainHead (length (now (s .entry))) 145 i) (C.frameWritten ch f))) ⌝ }
 {
     let to = w.to;

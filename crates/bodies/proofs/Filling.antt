@@ -6,7 +6,7 @@ use mathlib.Core.List.{List, [], _∷_, _++_, append-assoc, append-nil}
 use Prim.Native.Nat.{ℕ, zero, suc, _+_, _-_, _*_, _/_, _≤_, _<_}
 use native.Mathlib.Nat.{add-sub-cancel-left, sub-self, zero-add, zero-mul, add-zero, suc-add, suc-mul, add-mul, div-eq-of-eq-mul-left}
 use native.Mathlib.Omega.{arith}
-use borrow.Author.Tests.{leb-true, ltb-true, ltb-false}
+use borrow.Author.Tests.{leb-true, eqb-true, eq-eqb, ne-eqb}
 use lib.Dec.{leb, ltb, eqb}
 use lib.ListN.{length, take, drop, length-drop}
 use lib.Seq.{length-take-le}
@@ -23,8 +23,9 @@ use Rattle.walk.proofs.Tracing.{trace-bind, trace-give, written-none}
 use Rattle.rules.specs.Rules.{Item, item, itemSize, itemList, itemsBody, limit, numberList, Channel, width, samplesOf, samplesIn, sampleBytes, samples}
 use Rattle.rules.proofs.Room.{stays-item, stays-itemsBody}
 use Rattle.records.specs.Says.{Kept}
-use Rattle.bodies.specs.Copy.{copy, filling}
+use Rattle.bodies.specs.Copy.{copy, filling, allWide, widthsIn}
 use Rattle.bodies.specs.declared.Way.{Way}
+use Rattle.bodies.specs.declared.Widths.the-variants as Widths
 use Rattle.bodies.proofs.Copying.{copy-bind, copy-give, length-copy}
 use Rattle.bodies.proofs.Pieces.{Takes, put, Left, left-whole, left-numbers, left-reserve, left-nothing, copy-within, length-within, copy-next, copy-follows, takes-numbers, takes-text, text-whole}
 
@@ -167,6 +168,23 @@ two-wide format = go (eqb format 1) (eqb format 2)
     go false true = omega arith
     go false false = omega arith
 
+-- and four at most
+four-wide : (format : ℕ) → width format ≤ 4
+unfolding width
+four-wide format = go (eqb format 1) (eqb format 2)
+  where
+    go : (x y : Bool) → pick x 2 (pick y 3 4) ≤ 4
+    go true y = omega arith
+    go false true = omega arith
+    go false false = omega arith
+
+-- an answer with a width has this one
+one-width : (u v : ℕ) → Widths.One u ≡ Widths.One v → u ≡ v
+one-width u v h = cc
+
+several-not : (v : ℕ) → Widths.One v ≡ Widths.Several → ⊥
+several-not v h = let z : _≡_ {A = ℕ} 0 1 = cc in omega arith
+
 -- the samples of the channel whose 125 stands at byte q of the file, as the code reads it
 module _ (w : Way) (file : List ℕ) (q t : ℕ) (flags format rate wide n : ℕ) (at20 : flags ≡ numberAt (w .from) 4 file (q + 20)) (at28 : format ≡ numberAt (w .from) 4 file (q + 28)) (at32 : rate ≡ numberAt (w .from) 4 file (q + 32))
     (isWide : wide ≡ width format) (isMany : n ≡ samplesOf t flags rate) (s d : List ℕ) (p : ℕ) (c : Channel) (cs : List Channel) (kept : Kept (w .from) file q (c ∷ cs)) where
@@ -280,22 +298,50 @@ module _ (t v : ℕ) where
       ∙ rw (h .0, wide-run w b s cs (at + samplesIn t c * v) (h .1)) (sym (numbers-both w b s v (samplesIn t c) (total t cs) at))
 
 -- the widths that the code read
-wide-kept : (o : Order) (file : List ℕ) (v q : ℕ) (cs : List Channel) → Kept o file q cs → ((i : ℕ) → i < length cs → width (numberAt o 4 file (q + 256 * i + 28)) ≡ v) → Wide v cs
-wide-kept o file v q [] k h = tt
-wide-kept o file v q (c ∷ cs) k h = (
-  rw (k .1) (ap (λ (x : ℕ). width (numberAt o 4 file x)) (omega arith) ∙ h 0 (omega arith)),
-  wide-kept o file v (q + 256) cs (k .3) (λ i l. ap (λ (x : ℕ). width (numberAt o 4 file x)) (omega arith) ∙ h (suc i) (omega arith)),
-)
+module _ (o : Order) (file : List ℕ) where
+  wide-kept : (v q : ℕ) (cs : List Channel) → Kept o file q cs → allWide o file q (length cs) v ≡ true → Wide v cs
+  unfolding allWide
+  wide-kept v q [] k h = tt
+  wide-kept v q (c ∷ cs) k h = (
+    rw (k .1) (eqb-true (width (numberAt o 4 file (q + 28))) v (and-left _ _ h)),
+    wide-kept v (q + 256) cs (k .3) (and-right (eqb (width (numberAt o 4 file (q + 28))) v) _ h),
+  )
 
--- one channel more
-pub alike-more : (o : Order) (file : List ℕ) (v p q i m : ℕ) → q ≡ p + 256 * i → m ≡ numberAt o 4 file (q + 28) → width m ≡ v → ((j : ℕ) → j < i → width (numberAt o 4 file (p + 256 * j + 28)) ≡ v) → (j : ℕ) → j < i + 1 → width (numberAt o 4 file (p + 256 * j + 28)) ≡ v
-alike-more o file v p q i m at is e h j l = go (ltb j i) refl
-  where
-    go : (x : Bool) → ltb j i ≡ x → width (numberAt o 4 file (p + 256 * j + 28)) ≡ v
-    go true f = h j (ltb-true j i f)
-    go false f =
-        let k : j ≡ i = omega (arith, ltb-false j i f) in
-        rw (k, ← at, ← is) e
+  -- no channel is left; the next has the width, or another
+  pub wide-none : (v q n : ℕ) → n ≡ 0 → allWide o file q n v ≡ true
+  unfolding allWide
+  wide-none v q n e = rw (e, allWide)
+
+  pub wide-more : (v q n m : ℕ) → n ≡ suc m → width (numberAt o 4 file (q + 28)) ≡ v → allWide o file q n v ≡ allWide o file (q + 256) m v
+  unfolding allWide
+  wide-more v q n m e h = rw (e, allWide, eq-eqb (width (numberAt o 4 file (q + 28))) v h)
+
+  pub wide-other : (v q n m : ℕ) → n ≡ suc m → (width (numberAt o 4 file (q + 28)) ≡ v → ⊥) → allWide o file q n v ≡ false
+  unfolding allWide
+  wide-other v q n m e h = rw (e, allWide, ne-eqb (width (numberAt o 4 file (q + 28))) v h)
+
+  -- what is answered, of n channels the first of which has the width v
+  pub widths-none : (q n : ℕ) → n ≡ 0 → Widths.Several ≡ widthsIn o file q n
+  unfolding widthsIn
+  widths-none q n e = rw e
+
+  pub widths-several : (v q n m : ℕ) → n ≡ suc m → v ≡ width (numberAt o 4 file (q + 28)) → allWide o file q n v ≡ false → Widths.Several ≡ widthsIn o file q n
+  unfolding widthsIn
+  widths-several v q n m e i h = let k = rw (e, i) at h in rw (e, widthsIn, k)
+
+  pub widths-one : (v q n m : ℕ) → n ≡ suc m → v ≡ width (numberAt o 4 file (q + 28)) → allWide o file q n v ≡ true → Widths.One v ≡ widthsIn o file q n
+  unfolding widthsIn
+  widths-one v q n m e i h = let k = rw (e, i) at h in rw (e, i, widthsIn, k)
+
+  -- what the answer says
+  pub widths-told : (v q n : ℕ) → Widths.One v ≡ widthsIn o file q n → (2 ≤ v) × (v ≤ 4) × (allWide o file q n v ≡ true)
+  unfolding widthsIn
+  widths-told v q zero h = absurd (let z : _≡_ {A = ℕ} 0 1 = cc in omega arith)
+  widths-told v q (suc n) h = go (allWide o file q (suc n) (width (numberAt o 4 file (q + 28)))) refl
+    where
+      go : (x : Bool) → allWide o file q (suc n) (width (numberAt o 4 file (q + 28))) ≡ x → (2 ≤ v) × (v ≤ 4) × (allWide o file q (suc n) v ≡ true)
+      go true e = let i : v ≡ width (numberAt o 4 file (q + 28)) = one-width v _ (h ∙ rw (widthsIn, e)) in rw i (two-wide (numberAt o 4 file (q + 28)), four-wide (numberAt o 4 file (q + 28)), e)
+      go false e = absurd (several-not v (h ∙ rw (widthsIn, e)))
 
 -- a run that the code wrote from byte 8 on, to the end
 pub run-copied : (w : Way) (s d : List ℕ) (v n k : ℕ) (ys : List ℕ) → 2 ≤ v → n ≡ (length s - 8) / v → k ≡ n * v → 8 ≤ length s → ((x : ℕ) → ys ≡ copy w x (take k (drop 8 s)) x (numberList v n)) →
@@ -307,13 +353,13 @@ run-copied w s d v n k ys two is e f numbers b m l =
 
 module _ {w : Way} {file : List ℕ} {t b : ℕ} {s : List ℕ} {cs : List Channel} {n q : ℕ} {d : List ℕ} (x : Samples w file t b s cs n q 8 d) where
   -- what the code has written behind the clock is one run of samples, all v bytes wide
-  pub samples-once : (v : ℕ) (d′ : List ℕ) → ((i : ℕ) → i < n → width (numberAt (w .from) 4 file (q + 256 * i + 28)) ≡ v) →
+  pub samples-once : (v : ℕ) (d′ : List ℕ) → allWide (w .from) file q n v ≡ true →
       ((m : ℕ) → length s ≡ 8 + m * v → d′ ≡ pasted d 8 (copy w b s (b + 8) (numberList v m))) → d′ ≡ copy w b s b (filling t cs)
   unfolding trace
   samples-once v d′ wide says =
       let m : ℕ = total t (x .rest) in
       let ys : List ℕ = copy w b s (b + 8) (numberList v m) in
-      let k = wide-kept (w .from) file v q (x .rest) (x .kept) (λ i l. wide i (omega (arith, x .count))) in
+      let k = wide-kept (w .from) file v q (x .rest) (x .kept) (rw (x .count) wide) in
       let r : length s ≡ 8 + m * v = sym (x .room) ∙ ap (λ (y : ℕ). 8 + y) (wide-bytes t v (x .rest) k) in
       let l : length ys ≡ m * v = length-within w b s (m * v) (numberList v m) (takes-numbers v m) (b + 8) (omega arith) (omega arith) in
       left-nothing w b s d′ (filling t cs) {B = List ℕ} (length s) [] refl
@@ -322,7 +368,7 @@ module _ {w : Way} {file : List ℕ} {t b : ℕ} {s : List ℕ} {cs : List Chann
 -- the code has written the clock, ys, the reserve area, zs, and the samples in one run
 pub body-once : (w : Way) (file : List ℕ) (t : ℕ) (s : List ℕ) (q n v : ℕ) (d ys zs d′ : List ℕ) → length d ≡ length s →
     ((c : ℕ) → ys ≡ copy w c (take 6 s) c (numberList 2 3)) → ((c : ℕ) → zs ≡ copy w c (take 2 (drop 6 s)) c (reserve (length (take 2 (drop 6 s))))) →
-    ((i : ℕ) → i < n → width (numberAt (w .from) 4 file (q + 256 * i + 28)) ≡ v) →
+    allWide (w .from) file q n v ≡ true →
     ((b m : ℕ) → length s ≡ 8 + m * v → d′ ≡ pasted (put 6 2 (put 0 6 d ys) zs) 8 (copy w b s (b + 8) (numberList v m))) →
     (b : ℕ) (cs : List Channel) → length cs ≡ n → Kept (w .from) file q cs → length s ≡ 8 + sampleBytes t cs → d′ ≡ copy w b s b (filling t cs)
 body-once w file t s q n v d ys zs d′ long numbers area wide says b cs e k l = samples-once (samples-begun w file t s q d ys zs long numbers area b cs n e k l) v d′ wide (says b)

@@ -1,10 +1,11 @@
 -- What is written of a walk's events, and where.
 -- Assumes nothing.
 use mathlib.Core.Path.{_≡_}
-use mathlib.Core.Bool.{Bool, true, false}
+use mathlib.Core.Bool.{Bool, true, false, _&&_}
 use mathlib.Core.List.{List, _++_}
 use mathlib.Core.Option.{Option}
-use Prim.Native.Nat.{ℕ, _+_, _-_, _*_, _≤_, _<_}
+use Prim.Native.Nat.{ℕ, zero, suc, _+_, _-_, _≤_, _<_}
+use lib.Dec.{eqb}
 use lib.ListN.{length}
 use Rattle.words.specs.Numbers.{numberAt}
 use Rattle.words.specs.Runs.{pasted}
@@ -12,7 +13,7 @@ use Rattle.words.specs.declared.Order.{Order}
 use Rattle.words.specs.declared.Order.the-variants.{Little, Big}
 use Rattle.walk.specs.See.{goes, see}
 use Rattle.walk.specs.Trace.{trace, written}
-use Rattle.walk.specs.Walk.{Walk, _>>_, reserve}
+use Rattle.walk.specs.Walk.{Walk, _>>_, reserve, pick}
 use Rattle.rules.specs.Rules as R
 use Rattle.rules.specs.declared.Head.{Head}
 use Rattle.records.specs.Says.{headOf}
@@ -44,10 +45,15 @@ Holds out out′ k xs = (k + length xs ≤ length out → out′ ≡ pasted out 
 unfoldable pub filling : ℕ → List R.Channel → Walk (List (List ℕ))
 filling t cs = R.numberList 2 3 >> (reserve 2 >> R.samples t cs)
 
--- what the code knows of the samples' widths in the n channels whose 125s stand in the file from byte q on
-abbrev pub Alike : Order → List ℕ → ℕ → ℕ → Widths → Type 0
-Alike o file q n (Widths.One v) = (2 ≤ v) × (v ≤ 4) × ((i : ℕ) → i < n → R.width (numberAt o 4 file (q + 256 * i + 28)) ≡ v)
-Alike o file q n Widths.Several = Unit {0}
+-- the samples of the n channels whose 125s stand in the file from byte q on are all v bytes wide
+unfoldable pub allWide : Order → List ℕ → ℕ → ℕ → ℕ → Bool
+allWide o file q zero v = true
+allWide o file q (suc n) v = eqb (R.width (numberAt o 4 file (q + 28))) v && allWide o file (q + 256) n v
+
+-- the width that they all have, if there is one
+unfoldable pub widthsIn : Order → List ℕ → ℕ → ℕ → Widths
+widthsIn o file q zero = Widths.Several
+widthsIn o file q (suc n) = pick (allWide o file q (suc n) (R.width (numberAt o 4 file (q + 28)))) (Widths.One (R.width (numberAt o 4 file (q + 28)))) Widths.Several
 
 -- a part of a recording with the head h, and the makers' records behind it: where the walk accepts them, they are written, and it comes to the head h′
 abbrev pub PartCopied : {A : Type 0} → Way → ℕ → List ℕ → Head → ℕ → (ℕ → R.Head → Walk A) → List ℕ → List ℕ → ℕ → ℕ → Head → Type 0

@@ -12,7 +12,7 @@ ghost use Rattle.words.specs.Runs.{pasted};
 ghost use Rattle.walk.specs.See.{see, goes};
 ghost use Rattle.rules.specs.Rules as R;
 ghost use Rattle.records.specs.Says.{Kept};
-ghost use Rattle.bodies.specs.Copy.{copy, filling, Alike};
+ghost use Rattle.bodies.specs.Copy.{copy, filling, widthsIn};
 use crate::runs::numbers;
 use crate::runs::reserved;
 use bulk::copy_run;
@@ -182,7 +182,7 @@ fn channel_samples(w: Way, file: &[u8], q: usize, t: u32, s: &[u8], p: usize, d:
 // The widths of the channels whose 125s stand in the file.
 pub fn widths_of(o: Order, file: &[u8], cs: Channels) -> Widths
     requires { ⌜ cs .subs + 256 * cs .count ≤ length (now file) ⌝ }
-    ensures { λ a. ⌜ Alike o (now (file .entry)) (cs .subs) (cs .count) a ⌝ }
+    ensures { λ a. ⌜ a ≡ widthsIn o (now (file .entry)) (cs .subs) (cs .count) ⌝ }
 {
     if cs.count == 0 {
         return Widths::Several;
@@ -213,7 +213,7 @@ fn one_run(w: Way, width: usize, s: &[u8], d: &mut [u8])
 
 // A frame's clock and its samples, in one run or channel by channel; the 125s stand in the file.
 pub fn frame_body(w: Way, file: &[u8], cs: Channels, widths: Widths, t: u32, s: &[u8], d: &mut [u8])
-    requires { ⌜ (cs .subs + 256 * cs .count ≤ length (now file)) × Alike (w .from) (now file) (cs .subs) (cs .count) widths × (t ≤ 3600) × (8 ≤ length (now s)) × (length (now d) ≡ length (now s)) ⌝ }
+    requires { ⌜ (cs .subs + 256 * cs .count ≤ length (now file)) × (widths ≡ widthsIn (w .from) (now file) (cs .subs) (cs .count)) × (t ≤ 3600) × (8 ≤ length (now s)) × (length (now d) ≡ length (now s)) ⌝ }
     ensures { λ _. ⌜ ((b : ℕ) (ch : List R.Channel) → length ch ≡ cs .count → Kept (w .from) (now (file .entry)) (cs .subs) ch → length (now (s .entry)) ≡ 8 + R.sampleBytes t ch → now (d .exit) ≡ copy w b (now (s .entry)) b (filling t ch)) ⌝ }
 {
     let reserve = Frame::BODY_RESERVE;

@@ -8,7 +8,7 @@ ghost use Rattle.words.specs.Numbers.{numberAt};
 ghost use Rattle.walk.specs.See.{see, goes};
 ghost use Rattle.rules.specs.Rules as R;
 ghost use Rattle.records.specs.Says.{Kept};
-ghost use Rattle.bodies.specs.Copy.{Alike, copy, Pastes, RecordCopied};
+ghost use Rattle.bodies.specs.Copy.{widthsIn, copy, Pastes, RecordCopied};
 use bodies::Way;
 use bodies::Widths;
 use bodies::fits;
@@ -38,7 +38,7 @@ fn frame(
     s: &[u8],
     d: &mut [u8],
 )
-    requires { ⌜ (cs .subs + 256 * cs .count ≤ length (now file)) × (t ≤ 3600) × (24 ≤ filled) × (filled ≤ length (now s)) × (length (now d) ≡ length (now s)) × Alike (w .from) (now file) (cs .subs) (cs .count) widths ⌝ }
+    requires { ⌜ (cs .subs + 256 * cs .count ≤ length (now file)) × (t ≤ 3600) × (24 ≤ filled) × (filled ≤ length (now s)) × (length (now d) ≡ length (now s)) × (widths ≡ widthsIn (w .from) (now file) (cs .subs) (cs .count)) ⌝ }
     ensures { λ _. ⌜ ((b room i : ℕ) (ch : List R.Channel) → length ch ≡ cs .count → Kept (w .from) (now (file .entry)) (cs .subs) ch → filled ≡ 24 + R.sampleBytes t ch → now (d .exit) ≡ copy w b (now (s .entry)) b (R.frame (length (now (s .entry))) t ch room i)) ⌝ }
 {
     let body = Head::LENGTH;

@@ -10,7 +10,7 @@ use lib.ListN.{length, length-take}
 use borrow.Author.Needs.{needs}
 use Rattle.rules.specs.Rules.{Channel, sampleBytes}
 use Rattle.records.specs.Says.{Kept}
-use Rattle.bodies.proofs.Filling.{Samples, samples-begun, samples-more, samples-all, body-once}
+use Rattle.bodies.proofs.Filling.{Samples, samples-begun, samples-more, samples-all, body-once, widths-told}
 use Rattle.bodies.proofs.frame_body.Statement.{statement}
 use Rattle.bodies.proofs.frame_body.Tie as tie
 
@@ -59,7 +59,7 @@ enum-known-widths c = search needs
 one-run-requires : tie.Need-one-run-requires Inv-loop μ-loop
 one-run-requires c κs =
     let y = c .before .before .before .before .before .before .before .before .before .before .before .before .before .before .before .before .before in
-    let k = rw (c .before .before .widths .given .1) at (y .pre .1) in
+    let k = widths-told _ _ _ _ _ (rw (c .before .before .widths .given .1) at (y .pre .1)) in
     (k .0, k .1, search needs, search needs)
 
 same-length : tie.Need-same-length Inv-loop μ-loop
@@ -69,7 +69,7 @@ returns : tie.Need-returns Inv-loop μ-loop
 returns c =
     let y = c .before .before .before .before .before .before .before .before .before .before .before .before .before .before .before .before .before .before .before .before in
     let a = y .args in
-    let k = rw (c .before .before .before .before .before .widths .given .1) at (y .pre .1) in
+    let k = widths-told _ _ _ _ _ (rw (c .before .before .before .before .before .widths .given .1) at (y .pre .1)) in
     body-once (a .w) (now (a .file)) (a .t) (now (a .s)) (a .cs .subs) (a .cs .count) _ (now (a .d)) _ _ _ (y .pre .4) (c .before .before .before .before .before .before .before .before .before .before .before .before .before .before .numbers .ensures) (c .before .before .before .before .before .before .before .before .before .reserved .ensures) (k .2) (c .before .before .one-run .ensures)
 
 enum-told : tie.Need-enum-told Inv-loop μ-loop
