@@ -1,3 +1,2 @@
 pub mod Search
-pub mod Body
 pub mod Recorded

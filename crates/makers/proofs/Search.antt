@@ -1,31 +1,23 @@
--- The first maker's record among rows, and from one head on.
+-- The first maker's record among rows, and among a recording's records, one after the other.
 -- Assumes nothing.
-use mathlib.Core.Path.{_≡_, refl, _∙_}
+use mathlib.Core.Path.{_≡_, refl, sym, ap, _∙_}
 use mathlib.Core.Bool.{Bool, true, false}
 use mathlib.Core.List.{List, [], _∷_, _++_}
 use mathlib.Core.Option.{Option, none, some}
-use Prim.Native.Nat.{ℕ, zero, suc, _+_, _-_, _≤_, _<_}
-use native.Mathlib.Omega.{arith}
-use lib.Dec.{leb, eqb}
+use Prim.Native.Nat.{ℕ, zero, suc, _+_, _≤_}
+use lib.Dec.{eqb}
 use lib.ListN.{length}
+use Rattle.words.specs.Numbers.{numberAt}
 use Rattle.words.specs.declared.Order.{Order}
-use Rattle.walk.specs.See.{stops, goes, see}
+use Rattle.walk.specs.See.{goes, see}
 use Rattle.walk.specs.Tell.{tell}
 use Rattle.walk.specs.Walk.{pick, Row}
-use Rattle.walk.proofs.Seen.{see-bind}
-use Rattle.walk.proofs.Told.{tell-bind}
-use Rattle.rules.specs.Rules as R
-use Rattle.rules.specs.Rules.{head, admit, next, makerCode}
-use Rattle.rules.specs.declared.Head.{Head}
-use Rattle.records.specs.Says.{headOf}
-use Rattle.rows.specs.Rows.{seriesRows}
-use Rattle.rows.proofs.Makers.{tell-head, listing-none, listing-stop, listing-done}
-use Rattle.rows.proofs.Lists.{admit-went}
-use Rattle.makers.specs.Makers.{firstMaker, Comes, Behind, Past, Inside}
-use Rattle.makers.specs.declared.Found.{Found}
-use Rattle.makers.specs.declared.Found.the-variants as Found
-use Rattle.makers.specs.declared.Passed.{Passed}
-use Rattle.makers.specs.declared.Passed.the-variants as Passed
+use Rattle.rules.specs.Rules.{Head, Held, Placed, span, makerCode, recordingBody}
+use Rattle.children.specs.Children.{Said, said, Known, knownOf, Chain, Parted, Closed}
+use Rattle.children.proofs.Chained.{body-chain}
+use Rattle.rows.specs.Rows.{seriesRows, heldRows}
+use Rattle.rows.proofs.Body.{inner-rows, parted-rows, closed-rows}
+use Rattle.makers.specs.Makers.{firstMaker}
 
 -- a place, or else another
 abbrev pub else : Option ℕ → Option ℕ → Option ℕ
@@ -51,49 +43,46 @@ unfolding firstMaker seriesRows
 first-series zero i start step code m = refl
 first-series (suc n) i start step code m = rw m (first-series n (suc i) (start + step) step code m)
 
--- the head that stands first, where a record is looked for
-module _ (o : Order) (b : ℕ) (s : List ℕ) (at room f : ℕ) {h : R.Head} {m : ℕ} (found : see o b s at (head room) ≡ goes h m) where
-  first-other : makerCode (h .code) ≡ false → firstMaker (tell o b s at (next (suc f) room)) ≡ none
-  unfolding next tell firstMaker
-  first-other c = rw (tell-bind o b s at (head room) _ found, tell-head, c)
+module _ (o : Order) (b : ℕ) (s : List ℕ) (p : ℕ) where
+  -- no record that another holds is a maker's
+  held-first : (code : ℕ) → firstMaker (heldRows o b s p code) ≡ none
+  unfolding heldRows firstMaker makerCode
+  held-first code = go (eqb code 120) (eqb code 140)
+    where
+      go : (x y : Bool) → firstMaker (pick x (seriesRows (numberAt o 4 s (p + 16)) 1 (b + p + 32) 256 125) (pick y (seriesRows (numberAt o 4 s (p + 24)) 1 (b + p + 32) (numberAt o 4 s (p + 20)) 145) [])) ≡ none
+      go true y = first-series _ 1 _ 256 125 refl
+      go false true = first-series _ 1 _ _ 145 refl
+      go false false = refl
 
-  first-maker : {n : R.Next} {e : ℕ} → makerCode (h .code) ≡ true → see o b s at (next (suc f) room) ≡ goes n e → firstMaker (tell o b s at (next (suc f) room)) ≡ some (m - 16 + 4)
-  unfolding next firstMaker
-  first-maker c g =
-      let d = admit-went o b s m room 128 (leb 16) (λ _. true) h _ (rw (see-bind o b s at (head room), found, c) at g) in
-      rw (tell-bind o b s at (head room) _ found, tell-head, c, d .rows, c)
+  parted-first : {k : Known} {h : Head} {q : ℕ} {l : Said} → p ≤ length s → (c : Parted o b s k p h q l) → firstMaker (l .rows) ≡ else (pick (makerCode (h .code)) (some (b + p + 4)) none) (firstMaker (c .rest .rows))
+  unfolding firstMaker
+  parted-first {h} fit c =
+      let i : firstMaker (c .own .rows) ≡ pick (makerCode (h .code)) (some (b + p + 4)) none = ap firstMaker (inner-rows o b s p fit (c .inner) .1) ∙ rw (held-first (h .code)) in
+      ap firstMaker (parted-rows o b s p fit c) ∙ rw (first-append, i)
 
--- what stands from byte p on
-module _ (o : Order) (b : ℕ) (s : List ℕ) (p : ℕ) (fit : p ≤ length s) where
-  pub behind-none : {m q : ℕ} → see o b s (b + p) (head (length s - p)) ≡ stops m q → Behind o b s p (Passed.Stop Found.Nothing)
-  behind-none k fuel n e l g = listing-stop (listing-none o b s p fuel false [] 0 l) fit k g
+  closed-first : {l : Said} → p ≤ length s → Closed o b s p l → firstMaker (l .rows) ≡ none
+  unfolding firstMaker makerCode
+  closed-first fit c = ap firstMaker (closed-rows o b s p fit c)
 
-  -- h: the code's head
-  module _ (h : Head) (found : see o b s (b + p) (head (length s - p)) ≡ goes (headOf h) (b + (h .at + 16))) (is : h .at ≡ p) (inside : p + 16 ≤ length s) where
-    some-fuel : (fuel : ℕ) → length s < p + fuel → fuel ≡ suc (fuel - 1)
-    some-fuel fuel l = omega arith
+-- the first of all, m, is the first from byte p on
+pub record Sought (o : Order) (b : ℕ) (s : List ℕ) (p : ℕ) (m : Option ℕ) : Type 0 where
+  pub left : Said
+  pub known : Known
+  pub chain : Chain o b s known p left
+  pub first : m ≡ firstMaker (left .rows)
 
-    pub behind-maker : makerCode (h .code) ≡ true → Behind o b s p (Passed.Stop (Found.At (b + p + 4)))
-    behind-maker c fuel n e l g =
-        let i : b + (h .at + 16) - 16 + 4 ≡ b + p + 4 = omega arith in
-        let j = some-fuel fuel l in
-        (b + p + 4, refl, rw j (first-maker o b s (b + p) (length s - p) (fuel - 1) found c (rw j at g) ∙ rw i))
+module _ {o : Order} {b : ℕ} {s : List ℕ} where
+  pub sought-all : (held : Option Held) (h : Head) (x : Placed) (e : ℕ) → span h ≡ 16 + length s → see o b s b (recordingBody held h) ≡ goes x e → Sought o b s 0 (firstMaker (tell o b s b (recordingBody held h)))
+  unfolding said
+  sought-all held h x e n g = record { left = said o b s b (recordingBody held h); known = knownOf x; chain = body-chain o b s held h n g; first = refl }
 
-    pub behind-on : makerCode (h .code) ≡ false → Behind o b s p (Passed.On h)
-    behind-on c fuel n e l g =
-        (rw (some-fuel fuel l) (first-other o b s (b + p) (length s - p) (fuel - 1) found c), listing-done (listing-none o b s p fuel false [] 0 l) fit h found is inside c g .0)
+  module _ {p : ℕ} {m : Option ℕ} (g : Sought o b s p m) where
+    pub sought-none : p ≤ length s → ((y : Known) (l : Said) → Chain o b s y p l → Closed o b s p l) → none ≡ m
+    sought-none fit k = sym (g .first ∙ closed-first o b s p fit (k (g .known) (g .left) (g .chain)))
 
--- behind a record whose head is not admitted the walk does not come
-pub past-refused : (o : Order) (b : ℕ) (s : List ℕ) (h : Head) (code most least : ℕ) (a : Passed) {m q : ℕ} → h .code ≡ code →
-    see o b s (b + (h .at + 16)) (admit (length s - h .at) most (leb least) (eqb 0) (headOf h)) ≡ stops m q → Past o b s h code most least a
-past-refused o b s h code most least a same k = record { there = λ _ g. absurd (let z : _≡_ {A = ℕ} 0 1 = cc in omega arith); absent = λ other. absurd (other same) }
+    module _ {h : Head} {q : ℕ} (fit : p ≤ length s) (k : (y : Known) (l : Said) → Chain o b s y p l → Parted o b s y p h q l) where
+      pub sought-found : makerCode (h .code) ≡ true → some (b + p + 4) ≡ m
+      sought-found i = sym (g .first ∙ parted-first o b s p fit (k (g .known) (g .left) (g .chain)) ∙ rw i)
 
--- a head that lies behind byte q lies behind an earlier one
-pub inside-from : (p q n : ℕ) (a : Passed) → p ≤ q → Inside q n a → Inside p n a
-inside-from p q n (Passed.On h) l k = omega arith
-inside-from p q n (Passed.Stop f) l k = tt
-
--- rows without a maker's record, and those that follow
-pub comes-behind : (a : Passed) (xs ys : List Row) (N : Head → Type 0) → firstMaker xs ≡ none → Comes a ys N → Comes a (xs ++ ys) N
-comes-behind (Passed.On h) xs ys N q k = (rw (first-append, q) (k .0), k .1)
-comes-behind (Passed.Stop f) xs ys N q k = (k .0, k .1, rw (first-append, q) (k .2))
+      pub sought-next : makerCode (h .code) ≡ false → Sought o b s q m
+      sought-next i = let c = k (g .known) (g .left) (g .chain) in record { left = c .rest; known = g .known; chain = c .on; first = g .first ∙ parted-first o b s p fit c ∙ rw i }

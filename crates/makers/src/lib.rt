@@ -8,19 +8,14 @@ ghost use lib.ListN.{length};
 ghost use Rattle.walk.specs.See.{see, goes};
 ghost use Rattle.walk.specs.Tell.{tell};
 ghost use Rattle.rules.specs.Rules as R;
-ghost use Rattle.makers.specs.Makers.{firstMaker, found, refusalF, foundP, Behind, Past, Inside};
+ghost use Rattle.makers.specs.Makers.{firstMaker, found, refusalF};
+use children::Direct;
 use records::Fits;
 use records::Headed;
 use records::Serial;
 use records::Step;
-use rules::Basic;
-use rules::Channels;
-use rules::Events;
 use rules::FileHeader;
-use rules::Frames;
 use rules::Head;
-use rules::Items;
-use rules::Patient;
 use rules::Recording;
 use rules::Refusal;
 use words::Order;
@@ -37,12 +32,6 @@ pub enum Found {
     Nothing,
 }
 
-// The head of the next record, or what was found before it.
-pub enum Passed {
-    On(Head),
-    Stop(Found),
-}
-
 // Refusal 18 at what was found.
 pub fn of_found(a: Found) -> Refusal
     ensures { λ r. ⌜ r ≡ refusalF a ⌝ }
@@ -53,71 +42,22 @@ pub fn of_found(a: Found) -> Refusal
     }
 }
 
-fn of_passed(a: Passed) -> Found
-    ensures { λ r. ⌜ r ≡ foundP a ⌝ }
-{
-    match a {
-        Passed::On(_) => Found::Nothing,
-        Passed::Stop(f) => f,
-    }
-}
-
-// The record at byte p of the part s, unless it is a maker's.
-fn behind(o: Order, s: &[u8], base: usize, p: usize) -> Passed
-    requires { ⌜ (p ≤ length (now s)) × (base + length (now s) < 9223372036854775808) ⌝ }
-    ensures { λ a. ⌜ Behind o base (now (s .entry)) p a × Inside p (length (now (s .entry))) a ⌝ }
-{
-    let found = records::head_at(o, s, base, p);
-    let Headed::At(h) = found else {
-        return Passed::Stop(Found::Nothing);
-    };
-    if records::maker_code(h.code) {
-        return Passed::Stop(Found::At(base + p + Head::CODE));
-    }
-    Passed::On(h)
-}
-
-// Past the record with the head h, if it has this code.
-fn past(o: Order, s: &[u8], base: usize, h: Head, code: u32, most: u32, least: usize) -> Passed
-    requires { ⌜ (most ≤ 128) × (h .at ≤ length (now s)) × (base + length (now s) < 9223372036854775808) ⌝ }
-    ensures { λ a. ⌜ Past o base (now (s .entry)) h code most least a × Inside (h .at) (length (now (s .entry))) a ⌝ }
-{
-    if h.code != code {
-        return Passed::On(h);
-    }
-    let room = records::admit(h, base, s.len(), most, Fits::AtLeast(least), Serial::Is(0));
-    let Step::On(end) = room else {
-        return Passed::Stop(Found::Nothing);
-    };
-    behind(o, s, base, end)
-}
-
 // The first maker's record in a recording's body, which stands at `base`.
 fn in_body(o: Order, s: &[u8], base: usize) -> Found
     requires { ⌜ base + length (now s) < 9223372036854775808 ⌝ }
     ensures { λ r. ⌜ ((held : Option R.Held) (h : R.Head) (x : R.Placed) (e : ℕ) → R.span h ≡ 16 + length (now (s .entry)) → see o base (now (s .entry)) base (R.recordingBody held h) ≡ goes x e → found r ≡ firstMaker (tell o base (now (s .entry)) base (R.recordingBody held h))) ⌝ }
 {
-    if s.len() < Basic::LENGTH {
-        return Found::Nothing;
+    let mut p: usize = 0;
+    loop {
+        let there = children::record_at(o, s, base, p);
+        let Direct::Record(h, end) = there else {
+            return Found::Nothing;
+        };
+        if records::maker_code(h.code) {
+            return Found::At(base + p + Head::CODE);
+        }
+        p = end;
     }
-    let first = behind(o, s, base, Basic::LENGTH);
-    let Passed::On(n) = first else {
-        return of_passed(first);
-    };
-    let channels = past(o, s, base, n, Channels::CODE, 0, Channels::LEAST);
-    let Passed::On(c) = channels else {
-        return of_passed(channels);
-    };
-    let patient = past(o, s, base, c, Patient::CODE, 0, Items::LEAST);
-    let Passed::On(p) = patient else {
-        return of_passed(patient);
-    };
-    let events = past(o, s, base, p, Events::CODE, 0, Items::LEAST);
-    let Passed::On(e) = events else {
-        return of_passed(events);
-    };
-    let frames = past(o, s, base, e, Frames::CODE, Head::MOST, Frames::LEAST);
-    of_passed(frames)
 }
 
 // The first maker's record in the recording at byte p of the file.

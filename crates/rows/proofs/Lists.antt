@@ -25,8 +25,7 @@ use Rattle.rules.proofs.Room.{Rests, stays-channel, stays-frame}
 use Rattle.records.specs.Says.{headOf}
 use Rattle.records.proofs.Facts.{both-true, both-false}
 use Rattle.judge.proofs.Recorded.{admit-passed}
-use Rattle.rows.specs.Rows.{seriesRows, Wrote, Marks, PartRows, RecordRows}
-use Rattle.rows.proofs.Written.{wrote-nothing, wrote-join}
+use Rattle.rows.specs.Rows.{seriesRows, Marks}
 use Rattle.rows.proofs.Makers.{tell-head, tell-admit}
 
 -- a walk that lists no row
@@ -362,32 +361,6 @@ module _ {A : Type 0} (o : Order) (base : ℕ) (s : List ℕ) (h : At.Head) (bod
       Owns o base s (base + (h .at + 16)) rest (after fuel) (x .next) e (tell o base s (base + (h .at + 16)) (part fuel code body held n))
   part-found fuel code held n q m g =
       part-lists o base s (base + (h .at + 16)) fuel code body n held (headOf h) (length s - h .at) (m .0) (m .1) (eq-eqb (h .code) code q) g
-
-  -- the buffer before the record, behind its rows, and behind those of the makers' records that follow
-  module _ (rests : Rests body) (fit : h .at ≤ length s) (write : Bool) (out out₁ out₂ : List ℤ) (k k₁ k₂ q : ℕ) (stop : q ≡ h .at + span (headOf h)) (r : At.Head)
-      (writes : (a : A) (e : ℕ) → see o base s (base + (h .at + 16)) rest ≡ goes a e → Wrote write out out₁ k k₁ (tell o base s (base + (h .at + 16)) rest))
-      (makers : (fuel : ℕ) (n : Next) (e : ℕ) → length s < q + fuel → see o base s (base + q) (next fuel (length s - q)) ≡ goes n e → Marks o base s r n e × Wrote write out₁ out₂ k₁ k₂ (tell o base s (base + q) (next fuel (length s - q)))) where
-    pub record-rows : RecordRows o base s h body write out out₂ k k₂ r
-    record-rows fuel a e₁ d e₂ f g₁ g₂ =
-        let z : (16 ≤ span (headOf h)) × (span (headOf h) ≤ length s - h .at) × (e₁ + (length s - h .at - span (headOf h)) ≡ base + length s) =
-        stays-goes o base s (base + length s) (omega arith) rest (base + (h .at + 16)) _ (omega arith) (rests (length s - h .at) (headOf h) (base + length s) (base + (h .at + 16)) (omega arith)) g₁ in
-        let i : e₁ ≡ base + q = omega arith in
-        let j : length s - h .at - span (headOf h) ≡ length s - q = omega arith in
-        let t : see o base s (base + q) (next fuel (length s - q)) ≡ goes d e₂ = rw (i, j) at g₂ in
-        let m = makers fuel d e₂ (omega arith) t in
-        (m .0, rw (i, j) (wrote-join write out out₁ out₂ k k₁ k₂ _ _ (writes a e₁ g₁) (m .1)))
-
-    pub part-rows : (code : ℕ) → h .code ≡ code → PartRows o base s h code body write out out₂ k k₂ r
-    part-rows code q held n fuel x e m f g =
-        let w = part-found fuel code held n q m g in
-        rw (w .rows) (record-rows fuel (w .value) (w .mid) (x .next) e f (w .first) (w .second))
-
-  -- a part that is absent
-  pub absent-rows : (write : Bool) (out : List ℤ) (k code : ℕ) → (h .code ≡ code → ⊥) → PartRows o base s h code body write out out k k h
-  absent-rows write out k code q held n fuel x e m f g =
-      let c : eqb (n .head .code) code ≡ false = rw (m .0) (ne-eqb (h .code) code q) in
-      let w = absent-lists o base s (base + (h .at + 16)) fuel code body n held c g in
-      ((w .0 ∙ m .0, w .1 ∙ m .1, m .2, w .2), rw (w .3) (wrote-nothing write out k))
 
 -- the row of the record with the code's head h, which stops at q
 pub head-row : (base q : ℕ) (h : At.Head) (code : ℕ) → q ≡ h .at + span (headOf h) → h .code ≡ code →

@@ -3,15 +3,14 @@
 use mathlib.Core.Path.{_≡_}
 use mathlib.Core.Bool.{Bool, true, false}
 use mathlib.Core.List.{List, [], _∷_, _++_}
-use mathlib.Core.Option.{Option}
-use Prim.Native.Nat.{ℕ, zero, suc, _+_, _-_, _*_, _≤_, _<_}
+use Prim.Native.Nat.{ℕ, zero, suc, _+_, _-_, _*_, _≤_}
 use lib.IntN.{ℤ, pos}
 use lib.ListN.{length, take, drop}
+use lib.Dec.{eqb}
+use Rattle.words.specs.Numbers.{numberAt}
 use Rattle.words.specs.Values.{signed}
 use Rattle.words.specs.declared.Order.{Order}
-use Rattle.walk.specs.Walk.{Row, Walk}
-use Rattle.walk.specs.See.{goes, see}
-use Rattle.walk.specs.Tell.{tell}
+use Rattle.walk.specs.Walk.{pick, Row}
 use Rattle.rules.specs.Rules as R
 use Rattle.rules.specs.declared.Head.{Head}
 use Rattle.records.specs.Says.{headOf}
@@ -38,6 +37,15 @@ unfoldable pub seriesRows : ℕ → ℕ → ℕ → ℕ → ℕ → List Row
 seriesRows zero i start step code = []
 seriesRows (suc n) i start step code = record { start = start; size = step; code = code; serial = i } ∷ seriesRows n (suc i) (start + step) step code
 
+-- the rows of the records that the record at byte p of the part s holds, by its code: a 120's channels, a 140's frames
+unfoldable pub heldRows : Order → ℕ → List ℕ → ℕ → ℕ → List Row
+heldRows o b s p code =
+    pick (eqb code 120) (seriesRows (numberAt o 4 s (p + 16)) 1 (b + p + 32) 256 125) (pick (eqb code 140) (seriesRows (numberAt o 4 s (p + 24)) 1 (b + p + 32) (numberAt o 4 s (p + 20)) 145) [])
+
+-- the record up to byte q has room for them
+abbrev pub Holds : Order → List ℕ → ℕ → ℕ → ℕ → Type 0
+Holds o s p q code = (code ≡ 120 → q - p ≡ 32 + 256 * numberAt o 4 s (p + 16)) × (code ≡ 140 → (24 ≤ numberAt o 4 s (p + 20)) × (32 + numberAt o 4 s (p + 20) * numberAt o 4 s (p + 24) ≤ q - p))
+
 -- k numbers were there before the rows, and k′ are there behind them; where there is room the buffer holds them
 abbrev pub Wrote : Bool → List ℤ → List ℤ → ℕ → ℕ → List Row → Type 0
 Wrote write out out′ k k′ rs = (k′ ≡ behind k rs) × ((write ≡ true → behind k rs ≤ length out) → out′ ≡ written write out k rs)
@@ -45,15 +53,3 @@ Wrote write out out′ k k′ rs = (k′ ≡ behind k rs) × ((write ≡ true �
 -- the code's head is the one that the walk came to in the part s at b, and the walk goes on behind it
 abbrev pub Marks : Order → ℕ → List ℕ → Head → R.Next → ℕ → Type 0
 Marks o b s h n e = (n .head ≡ headOf h) × (n .room ≡ length s - h .at) × (h .at + 16 ≤ length s) × (e ≡ b + (h .at + 16))
-
--- a part of a recording with the code's head h, and the makers' records behind it: where the walk accepts them, their rows are written, and it comes to the head h′
-abbrev pub PartRows : {A : Type 0} → Order → ℕ → List ℕ → Head → ℕ → (ℕ → R.Head → Walk A) → Bool → List ℤ → List ℤ → ℕ → ℕ → Head → Type 0
-PartRows {A} o b s h code body write out out′ k k′ h′ =
-    (held : Option A) (n : R.Next) (fuel : ℕ) (x : R.Part A) (e : ℕ) → Marks o b s h n (b + (h .at + 16)) → length s < fuel → see o b s (b + (h .at + 16)) (R.part fuel code body held n) ≡ goes x e →
-    Marks o b s h′ (x .next) e × Wrote write out out′ k k′ (tell o b s (b + (h .at + 16)) (R.part fuel code body held n))
-
--- the same of the rest of a record whose code is known
-abbrev pub RecordRows : {A : Type 0} → Order → ℕ → List ℕ → Head → (ℕ → R.Head → Walk A) → Bool → List ℤ → List ℤ → ℕ → ℕ → Head → Type 0
-RecordRows {A} o b s h body write out out′ k k′ h′ =
-    (fuel : ℕ) (a : A) (e₁ : ℕ) (d : R.Next) (e₂ : ℕ) → length s < fuel → see o b s (b + (h .at + 16)) (body (length s - h .at) (headOf h)) ≡ goes a e₁ → see o b s e₁ (R.next fuel (length s - h .at - R.span (headOf h))) ≡ goes d e₂ →
-    Marks o b s h′ d e₂ × Wrote write out out′ k k′ (tell o b s (b + (h .at + 16)) (body (length s - h .at) (headOf h)) ++ tell o b s e₁ (R.next fuel (length s - h .at - R.span (headOf h))))

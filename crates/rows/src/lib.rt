@@ -1,42 +1,33 @@
 // The rows of a file, counted or written: the same walk does both, so that a row is counted exactly where it is written.
 // Every function is safe for any bytes; that the rows are the file's is said of what was accepted.
 ghost use mathlib.Core.Path.{_≡_};
-ghost use mathlib.Core.Bool.{Bool, _&&_};
+ghost use mathlib.Core.Bool.{_&&_};
 ghost use mathlib.Core.List.{List, [], _∷_};
 ghost use mathlib.Core.Option.{Option, none};
 ghost use Prim.Native.Nat.{ℕ, _+_, _-_, _*_, _≤_, _<_};
 ghost use lib.Dec.{leb};
 ghost use lib.ListN.{length};
+ghost use Rattle.words.specs.Numbers.{numberAt};
 ghost use Rattle.walk.specs.See.{see, goes};
 ghost use Rattle.walk.specs.Tell.{tell};
 ghost use Rattle.rules.specs.Rules as R;
-ghost use Rattle.rows.specs.Rows.{seriesRows, Wrote, Marks, PartRows, RecordRows};
+ghost use Rattle.rows.specs.Rows.{seriesRows, heldRows, Holds, Wrote};
+use children::Direct;
 use records::Fits;
 use records::Headed;
 use records::Serial;
 use records::Step;
-use rules::Basic;
 use rules::Channel;
 use rules::Channels;
 use rules::Delimiter;
-use rules::Events;
 use rules::FileHeader;
 use rules::Frame;
 use rules::Frames;
 use rules::Head;
-use rules::Items;
-use rules::Maker;
-use rules::Patient;
 use rules::Recording;
 use words::Order;
 use words::number4;
 use words::signed4;
-
-// The head of the next record, and where the next row goes.
-pub struct Marked {
-    pub next: Head,
-    pub k: usize,
-}
 
 // Where the next recording starts, and where its first row goes.
 pub struct Ended {
@@ -95,163 +86,81 @@ fn series_rows(
     next
 }
 
-// The rows of makers' records from byte `from` of the part s on, up to the head of another record.
-fn makers_rows(
-    o: Order,
-    s: &[u8],
-    base: usize,
-    from: usize,
-    out: &mut [i64],
-    k: usize,
-    write: bool,
-) -> Marked
-    requires { ⌜ (from ≤ length (now s)) × (base + length (now s) < 9223372036854775808) × (k ≤ base + from) ⌝ }
-    ensures { λ r. ⌜ (from ≤ r .next .at) × (r .next .at ≤ length (now (s .entry))) × (r .k ≤ base + r .next .at) × ((fuel : ℕ) (n : R.Next) (e : ℕ) → length (now (s .entry)) < from + fuel → see o base (now (s .entry)) (base + from) (R.next fuel (length (now (s .entry)) - from)) ≡ goes n e → Marks o base (now (s .entry)) (r .next) n e × Wrote write (now (out .entry)) (now (out .exit)) k (r .k) (tell o base (now (s .entry)) (base + from) (R.next fuel (length (now (s .entry)) - from)))) ⌝ }
-{
-    let mut p = from;
-    let mut next = k;
-    loop {
-        let found = records::head_at(o, s, base, p);
-        let Headed::At(h) = found else {
-            return Marked {
-                next: records::nothing(p),
-                k: next,
-            };
-        };
-        if !records::maker_code(h.code) {
-            return Marked { next: h, k: next };
-        }
-        let room = records::admit(
-            h,
-            base,
-            s.len(),
-            Head::MOST,
-            Fits::AtLeast(Maker::LEAST),
-            Serial::Any,
-        );
-        let Step::On(end) = room else {
-            return Marked {
-                next: records::nothing(p),
-                k: next,
-            };
-        };
-        next = put(out, next, write, base + p, end - p, h.code, h.serial);
-        p = end;
-    }
-}
-
-// The rows of a 130 or a 200, if the head is one's, and of the makers' records behind it.
-fn items_rows(
-    o: Order,
-    s: &[u8],
-    base: usize,
-    h: Head,
-    code: u32,
-    out: &mut [i64],
-    k: usize,
-    write: bool,
-) -> Marked
-    requires { ⌜ (h .at ≤ length (now s)) × (base + length (now s) < 9223372036854775808) × (k ≤ base + h .at) ⌝ }
-    ensures { λ r. ⌜ (h .at ≤ r .next .at) × (r .next .at ≤ length (now (s .entry))) × (r .k ≤ base + r .next .at) × ((ok : ℕ → Bool) → PartRows o base (now (s .entry)) h code (R.items ok) write (now (out .entry)) (now (out .exit)) k (r .k) (r .next)) ⌝ }
-{
-    if h.code != code {
-        return Marked { next: h, k };
-    }
-    let room = records::admit(
-        h,
-        base,
-        s.len(),
-        0,
-        Fits::AtLeast(Items::LEAST),
-        Serial::Is(0),
-    );
-    let Step::On(end) = room else {
-        return Marked { next: h, k };
-    };
-    let next = put(out, k, write, base + h.at, end - h.at, code, 0);
-    makers_rows(o, s, base, end, out, next, write)
-}
-
-// The rows of a 120, if the head is one's, of its 125s, and of the makers' records behind it.
+// The rows of the 125s of the 120 at byte p of the part s, which ends at byte `end`.
 fn channels_rows(
     o: Order,
     s: &[u8],
     base: usize,
-    h: Head,
+    p: usize,
+    end: usize,
     out: &mut [i64],
     k: usize,
     write: bool,
-) -> Marked
-    requires { ⌜ (h .at ≤ length (now s)) × (base + length (now s) < 9223372036854775808) × (k ≤ base + h .at) ⌝ }
-    ensures { λ r. ⌜ (h .at ≤ r .next .at) × (r .next .at ≤ length (now (s .entry))) × (r .k ≤ base + r .next .at) × ((b : R.Basic) → PartRows o base (now (s .entry)) h 120 (R.channels b) write (now (out .entry)) (now (out .exit)) k (r .k) (r .next)) ⌝ }
+) -> usize
+    requires { ⌜ (p + 16 ≤ end) × (end ≤ length (now s)) × (base + length (now s) < 9223372036854775808) × (k ≤ base + p + 16) ⌝ }
+    ensures { λ r. ⌜ (r ≤ base + end) × (end - p ≡ 32 + 256 * numberAt o 4 (now (s .entry)) (p + 16) → Wrote write (now (out .entry)) (now (out .exit)) k r (seriesRows (numberAt o 4 (now (s .entry)) (p + 16)) 1 (base + p + 32) 256 125)) ⌝ }
 {
-    if h.code != Channels::CODE {
-        return Marked { next: h, k };
+    if end - p < Channels::SUBS {
+        return k;
     }
-    let room = records::admit(
-        h,
-        base,
-        s.len(),
-        0,
-        Fits::AtLeast(Channels::LEAST),
-        Serial::Is(0),
-    );
-    let Step::On(end) = room else {
-        return Marked { next: h, k };
-    };
-    let p = h.at;
-    let first = put(out, k, write, base + p, end - p, Channels::CODE, 0);
     let count = number4(o, s, p + Channels::COUNT);
     if end - p != Channels::SUBS + Channel::LENGTH * count as usize {
-        return Marked { next: h, k };
+        return k;
     }
     let subs = base + p + Channels::SUBS;
-    let next = series_rows(
-        out,
-        first,
-        write,
-        subs,
-        Channel::LENGTH,
-        Channel::CODE,
-        count,
-    );
-    makers_rows(o, s, base, end, out, next, write)
+    series_rows(out, k, write, subs, Channel::LENGTH, Channel::CODE, count)
 }
 
-// The rows of the 140, of its frames, and of the makers' records behind it.
+// The rows of the frames of the 140 at byte p of the part s, which ends at byte `end`.
 fn frames_rows(
     o: Order,
     s: &[u8],
     base: usize,
-    h: Head,
+    p: usize,
+    end: usize,
     out: &mut [i64],
     k: usize,
     write: bool,
-) -> Marked
-    requires { ⌜ (h .at ≤ length (now s)) × (base + length (now s) < 9223372036854775808) × (k ≤ base + h .at) ⌝ }
-    ensures { λ r. ⌜ (h .at ≤ r .next .at) × (r .next .at ≤ length (now (s .entry))) × (r .k ≤ base + r .next .at) × ((b : R.Basic) (own : Bool) (cs : List R.Channel) (back : ℕ) → h .code ≡ 140 → RecordRows o base (now (s .entry)) h (R.frames b own cs back) write (now (out .entry)) (now (out .exit)) k (r .k) (r .next)) ⌝ }
+) -> usize
+    requires { ⌜ (p + 16 ≤ end) × (end ≤ length (now s)) × (base + length (now s) < 9223372036854775808) × (k ≤ base + p + 16) ⌝ }
+    ensures { λ r. ⌜ (r ≤ base + end) × (24 ≤ numberAt o 4 (now (s .entry)) (p + 20) → 32 + numberAt o 4 (now (s .entry)) (p + 20) * numberAt o 4 (now (s .entry)) (p + 24) ≤ end - p → Wrote write (now (out .entry)) (now (out .exit)) k r (seriesRows (numberAt o 4 (now (s .entry)) (p + 24)) 1 (base + p + 32) (numberAt o 4 (now (s .entry)) (p + 20)) 145)) ⌝ }
 {
-    let room = records::admit(
-        h,
-        base,
-        s.len(),
-        Head::MOST,
-        Fits::AtLeast(Frames::LEAST),
-        Serial::Is(0),
-    );
-    let Step::On(end) = room else {
-        return Marked { next: h, k };
-    };
-    let p = h.at;
-    let first = put(out, k, write, base + p, end - p, Frames::CODE, 0);
+    if end - p < Frames::FIRST {
+        return k;
+    }
     let size = number4(o, s, p + Frames::FRAME_LENGTH) as usize;
     let count = number4(o, s, p + Frames::COUNT);
     if !fits(size, count, end - p) {
-        return Marked { next: h, k };
+        return k;
     }
     let frames = base + p + Frames::FIRST;
-    let next = series_rows(out, first, write, frames, size, Frame::CODE, count);
-    makers_rows(o, s, base, end, out, next, write)
+    series_rows(out, k, write, frames, size, Frame::CODE, count)
+}
+
+// The rows of the record with the head h, which ends at byte `end` of the part: its own, and those of the records that it holds.
+fn record_rows(
+    o: Order,
+    s: &[u8],
+    base: usize,
+    h: Head,
+    end: usize,
+    out: &mut [i64],
+    k: usize,
+    write: bool,
+) -> usize
+    requires { ⌜ (h .at + 16 ≤ end) × (end ≤ length (now s)) × (base + length (now s) < 9223372036854775808) × (k ≤ base + h .at) ⌝ }
+    ensures { λ r. ⌜ (r ≤ base + end) × (Holds o (now (s .entry)) (h .at) end (h .code) → Wrote write (now (out .entry)) (now (out .exit)) k r (record { start = base + h .at; size = end - h .at; code = h .code; serial = h .serial } ∷ heldRows o base (now (s .entry)) (h .at) (h .code))) ⌝ }
+{
+    let p = h.at;
+    let code = h.code;
+    let next = put(out, k, write, base + p, end - p, code, h.serial);
+    if code == Channels::CODE {
+        return channels_rows(o, s, base, p, end, out, next, write);
+    }
+    if code == Frames::CODE {
+        return frames_rows(o, s, base, p, end, out, next, write);
+    }
+    next
 }
 
 // So many frames of this size have room in a 140 of this length.
@@ -270,28 +179,27 @@ fn body_rows(o: Order, s: &[u8], base: usize, out: &mut [i64], k: usize, write: 
     requires { ⌜ (base + length (now s) < 9223372036854775808) × (k ≤ base) ⌝ }
     ensures { λ r. ⌜ (r ≤ base + length (now (s .entry))) × ((held : Option R.Held) (h : R.Head) (x : R.Placed) (e : ℕ) → R.span h ≡ 16 + length (now (s .entry)) → see o base (now (s .entry)) base (R.recordingBody held h) ≡ goes x e → Wrote write (now (out .entry)) (now (out .exit)) k r (tell o base (now (s .entry)) base (R.recordingBody held h))) ⌝ }
 {
-    if s.len() < Basic::LENGTH {
-        return k;
+    let mut p: usize = 0;
+    let mut next = k;
+    loop {
+        let there = children::record_at(o, s, base, p);
+        let Direct::Record(h, end) = there else {
+            if s.len() < p + Delimiter::LENGTH {
+                return next;
+            }
+            return put(
+                out,
+                next,
+                write,
+                base + p,
+                Delimiter::LENGTH,
+                Delimiter::CODE,
+                0,
+            );
+        };
+        next = record_rows(o, s, base, h, end, out, next, write);
+        p = end;
     }
-    let first = put(out, k, write, base, Basic::LENGTH, Basic::CODE, 0);
-    let n = makers_rows(o, s, base, Basic::LENGTH, out, first, write);
-    let c = channels_rows(o, s, base, n.next, out, n.k, write);
-    let p = items_rows(o, s, base, c.next, Patient::CODE, out, c.k, write);
-    let e = items_rows(o, s, base, p.next, Events::CODE, out, p.k, write);
-    let d = frames_rows(o, s, base, e.next, out, e.k, write);
-    let at = d.next.at;
-    if s.len() < at + Delimiter::LENGTH {
-        return d.k;
-    }
-    put(
-        out,
-        d.k,
-        write,
-        base + at,
-        Delimiter::LENGTH,
-        Delimiter::CODE,
-        0,
-    )
 }
 
 // The rows of the recording at byte p of the file.

@@ -1,143 +1,86 @@
--- `makers::in_body` meets its contract: the search stopped behind 100, 120, 130, 200 or 140, or found nothing.
--- x₁ to x₄: where it went on behind 100, 120, 130 and 200; z: the start. Assumes nothing.
+-- `makers::in_body` meets its contract. The loop's invariant: the first of the body is the first from byte p on. The measure is what is left of the part.
+-- Assumes nothing.
+use mathlib.Core.Option.{Option}
+use mathlib.Core.Path.{_≡_, sym, _∙_}
+use Prim.Native.Nat.{ℕ, _+_, _-_, _≤_}
 use native.Mathlib.Omega.{arith}
-use denote.Ref.{now}
-use Rattle.rows.proofs.Body.{body-short}
-use Rattle.makers.proofs.Body.{stop, on, past, ended-last, finds-body}
+use lib.ListN.{length}
+use Rattle.walk.specs.See.{goes, see}
+use Rattle.walk.specs.Tell.{tell}
+use Rattle.rules.specs.Rules.{Held, Head, Placed, span, recordingBody}
+use Rattle.makers.specs.Makers.{firstMaker}
+use Rattle.makers.proofs.Search.{Sought, sought-all, sought-none, sought-found, sought-next}
 use borrow.Author.Needs.{needs}
 use Rattle.makers.proofs.in_body.Statement.{statement}
 use Rattle.makers.proofs.in_body.Tie as tie
 
-returns : tie.Need-returns
-returns c = λ held h x e n g. absurd (body-short _ _ _ held h n (c .if1 .taken) g)
+abbrev Inv-loop : tie.InvT-loop
+Inv-loop o s base p₀ p = (p ≤ length s) × ((held : Option Held) (h : Head) (x : Placed) (e : ℕ) → span h ≡ 16 + length s → see o base s base (recordingBody held h) ≡ goes x e → Sought o base s p (firstMaker (tell o base s base (recordingBody held h))))
 
-behind-requires : tie.Need-behind-requires
-behind-requires c κs = search needs
+abbrev μ-loop : tie.MeasureT-loop
+μ-loop o s base p₀ p = length s - p
 
-enum-known-first : tie.Need-enum-known-first
-enum-known-first c = search needs
+loop-holds : tie.Need-loop-holds Inv-loop μ-loop
+loop-holds c = (omega arith, sought-all)
 
-enum-told : tie.Need-enum-told
+record-at-requires : tie.Need-record-at-requires Inv-loop μ-loop
+record-at-requires c κs = search needs
+
+enum-known-there : tie.Need-enum-known-there Inv-loop μ-loop
+enum-known-there c = search needs
+
+enum-told : tie.Need-enum-told Inv-loop μ-loop
 enum-told c = search needs
 
-of-passed-requires : tie.Need-of-passed-requires
-of-passed-requires c κs = search needs
+returns : tie.Need-returns Inv-loop μ-loop
+returns c =
+    let v = rw (c .enum-told .given .1) at (c .before .before .record-at .ensures) in
+    let w = c .before .before .before .loop .inv in
+    λ held h x e n g. sought-none (w .1 held h x e n g) (w .0) v
 
-returns-2 : tie.Need-returns-2
+maker-code-requires : tie.Need-maker-code-requires Inv-loop μ-loop
+maker-code-requires c κs = search needs
+
+add-t9 : tie.Need-add-t9 Inv-loop μ-loop
+add-t9 c = search needs
+
+add-t10 : tie.Need-add-t10 Inv-loop μ-loop
+add-t10 c = search needs
+
+returns-2 : tie.Need-returns-2 Inv-loop μ-loop
 returns-2 c =
-    let z = c .before .before .before .before .before .before in
-    let q = c .before .before .before .behind in
-    finds-body (z .args .o) (z .args .base) (now (z .args .s)) (c .of-passed .result) (q .result) (q .ensures .0) (stop (c .before .enum-told .given .1) (c .of-passed .ensures))
+    let y = c .before .before .before in
+    let v = rw (y .there .given .1) at (y .before .before .record-at .ensures) in
+    let w = y .before .before .before .loop .inv in
+    λ held h x e n g. sought-found (w .1 held h x e n g) (w .0) (v .4) (sym (c .before .maker-code .ensures) ∙ c .if1 .taken)
 
-past-requires : tie.Need-past-requires
-past-requires c κs =
-    let w = rw (c .before .first .given .1) at (c .before .before .before .behind .ensures .1) in
-    omega arith
+loop-less : tie.Need-loop-less Inv-loop μ-loop
+loop-less c =
+    let y = c .before .before .before in
+    let v = rw (y .there .given .1) at (y .before .before .record-at .ensures) in
+    omega (arith, v .2, v .3)
 
-enum-known-channels : tie.Need-enum-known-channels
-enum-known-channels c = search needs
-
-enum-told-2 : tie.Need-enum-told-2
-enum-told-2 c = search needs
-
-of-passed-requires-2 : tie.Need-of-passed-requires-2
-of-passed-requires-2 c κs = search needs
-
-returns-3 : tie.Need-returns-3
-returns-3 c =
-    let x₁ = c .before .before .before .before .before in
-    let z = x₁ .before .before .before .before .before in
-    let q = c .before .before .before .past in
-    finds-body (z .args .o) (z .args .base) (now (z .args .s)) (c .of-passed2 .result) (x₁ .before .before .behind .result) (x₁ .before .before .behind .ensures .0) (on (x₁ .first .given .1) (past (q .ensures .0) (stop (c .before .enum-told2 .given .1) (c .of-passed2 .ensures))))
-
-past-requires-2 : tie.Need-past-requires-2
-past-requires-2 c κs =
-    let w = rw (c .before .channels .given .1) at (c .before .before .before .past .ensures .1) in
-    omega arith
-
-enum-known-patient : tie.Need-enum-known-patient
-enum-known-patient c = search needs
-
-enum-told-3 : tie.Need-enum-told-3
-enum-told-3 c = search needs
-
-of-passed-requires-3 : tie.Need-of-passed-requires-3
-of-passed-requires-3 c κs = search needs
-
-returns-4 : tie.Need-returns-4
-returns-4 c =
-    let x₂ = c .before .before .before .before .before in
-    let x₁ = x₂ .before .before .before .before in
-    let z = x₁ .before .before .before .before .before in
-    let q = c .before .before .before .past2 in
-    finds-body (z .args .o) (z .args .base) (now (z .args .s)) (c .of-passed3 .result) (x₁ .before .before .behind .result) (x₁ .before .before .behind .ensures .0) (on (x₁ .first .given .1) (past (x₂ .before .before .past .ensures .0) (on (x₂ .channels .given .1) (past (q .ensures .0) (stop (c .before .enum-told3 .given .1) (c .of-passed3 .ensures))))))
-
-past-requires-3 : tie.Need-past-requires-3
-past-requires-3 c κs =
-    let w = rw (c .before .patient .given .1) at (c .before .before .before .past2 .ensures .1) in
-    omega arith
-
-enum-known-events : tie.Need-enum-known-events
-enum-known-events c = search needs
-
-enum-told-4 : tie.Need-enum-told-4
-enum-told-4 c = search needs
-
-of-passed-requires-4 : tie.Need-of-passed-requires-4
-of-passed-requires-4 c κs = search needs
-
-returns-5 : tie.Need-returns-5
-returns-5 c =
-    let x₃ = c .before .before .before .before .before in
-    let x₂ = x₃ .before .before .before .before in
-    let x₁ = x₂ .before .before .before .before in
-    let z = x₁ .before .before .before .before .before in
-    let q = c .before .before .before .past3 in
-    finds-body (z .args .o) (z .args .base) (now (z .args .s)) (c .of-passed4 .result) (x₁ .before .before .behind .result) (x₁ .before .before .behind .ensures .0) (on (x₁ .first .given .1) (past (x₂ .before .before .past .ensures .0) (on (x₂ .channels .given .1) (past (x₃ .before .before .past2 .ensures .0) (on (x₃ .patient .given .1) (past (q .ensures .0) (stop (c .before .enum-told4 .given .1) (c .of-passed4 .ensures))))))))
-
-past-requires-4 : tie.Need-past-requires-4
-past-requires-4 c κs =
-    let w = rw (c .before .events .given .1) at (c .before .before .before .past3 .ensures .1) in
-    omega (arith, c .before .before .before .before .before .before .before .before .before .before .before .before .before .before .before .before .before .before .pre)
-
-of-passed-requires-5 : tie.Need-of-passed-requires-5
-of-passed-requires-5 c κs = search needs
-
-returns-6 : tie.Need-returns-6
-returns-6 c =
-    let x₄ = c .before .before .before in
-    let x₃ = x₄ .before .before .before .before in
-    let x₂ = x₃ .before .before .before .before in
-    let x₁ = x₂ .before .before .before .before in
-    let z = x₁ .before .before .before .before .before in
-    let q = c .before .past4 in
-    finds-body (z .args .o) (z .args .base) (now (z .args .s)) (c .of-passed5 .result) (x₁ .before .before .behind .result) (x₁ .before .before .behind .ensures .0) (on (x₁ .first .given .1) (past (x₂ .before .before .past .ensures .0) (on (x₂ .channels .given .1) (past (x₃ .before .before .past2 .ensures .0) (on (x₃ .patient .given .1) (past (x₄ .before .before .past3 .ensures .0) (on (x₄ .events .given .1) (past (q .ensures .0) (ended-last (q .result) (c .of-passed5 .ensures))))))))))
+loop-again : tie.Need-loop-again Inv-loop μ-loop
+loop-again c =
+    let y = c .before .before .before in
+    let v = rw (y .there .given .1) at (y .before .before .record-at .ensures) in
+    let w = y .before .before .before .loop .inv in
+    (v .3, λ held h x e n g. sought-next (w .1 held h x e n g) (w .0) (v .4) (sym (c .before .maker-code .ensures) ∙ c .if1 .left))
 
 pub in-body-spec : {M : Type 1} → statement M
 in-body-spec =
     tie.close
     (tie.spec
-    returns
-    behind-requires
-    enum-known-first
+    Inv-loop
+    μ-loop
+    loop-holds
+    record-at-requires
+    enum-known-there
     enum-told
-    of-passed-requires
+    returns
+    maker-code-requires
+    add-t9
+    add-t10
     returns-2
-    past-requires
-    enum-known-channels
-    enum-told-2
-    of-passed-requires-2
-    returns-3
-    past-requires-2
-    enum-known-patient
-    enum-told-3
-    of-passed-requires-3
-    returns-4
-    past-requires-3
-    enum-known-events
-    enum-told-4
-    of-passed-requires-4
-    returns-5
-    past-requires-4
-    of-passed-requires-5
-    returns-6)
+    loop-less
+    loop-again)

@@ -1,106 +1,103 @@
-use mathlib.Core.Path.{_∙_}
+-- `rows::body_rows` meets its contract. The loop's invariant: the rows up to byte p are written. The measure is what is left of the part.
+-- y: behind the cursor's step. Assumes nothing.
+use mathlib.Core.Option.{Option}
+use mathlib.Core.Path.{_≡_, refl}
+use Prim.Native.Nat.{ℕ, _+_, _-_, _≤_}
 use native.Mathlib.Omega.{arith}
-use denote.Ref.{now}
+use lib.ListN.{length}
+use Rattle.walk.specs.See.{goes, see}
+use Rattle.walk.specs.Tell.{tell}
+use Rattle.rules.specs.Rules.{Held, Head, Placed, span, recordingBody}
+use Rattle.rows.proofs.Body.{Listed, listed-none, listed-all, listed-short, listed-more}
 use borrow.Author.Needs.{needs}
-use Rattle.rows.proofs.Body.{body-short, wrote-body}
 use Rattle.rows.proofs.body_rows.Statement.{statement}
 use Rattle.rows.proofs.body_rows.Tie as tie
 
-returns : tie.Need-returns
-returns c = (omega arith, λ held h x e n g. absurd (body-short _ _ _ held h n (c .if1 .taken) g))
+abbrev Inv-loop : tie.InvT-loop
+Inv-loop o s base out₀ k write p₀ next₀ out p next =
+    (p ≤ length s) × (next ≤ base + p) × (length out ≡ length out₀) ×
+    ((held : Option Held) (h : Head) (x : Placed) (e : ℕ) → span h ≡ 16 + length s → see o base s base (recordingBody held h) ≡ goes x e → Listed o base s write out₀ out k next p (tell o base s base (recordingBody held h)))
 
-put-requires : tie.Need-put-requires
+abbrev μ-loop : tie.MeasureT-loop
+μ-loop o s base out₀ k write p₀ next₀ out p next = length s - p
+
+loop-holds : tie.Need-loop-holds Inv-loop μ-loop
+loop-holds c = (omega arith, omega arith, refl, listed-none)
+
+record-at-requires : tie.Need-record-at-requires Inv-loop μ-loop
+record-at-requires c κs = search needs
+
+enum-known-there : tie.Need-enum-known-there Inv-loop μ-loop
+enum-known-there c = search needs
+
+enum-told : tie.Need-enum-told Inv-loop μ-loop
+enum-told c = search needs
+
+add-if1 : tie.Need-add-if1 Inv-loop μ-loop
+add-if1 c = search needs
+
+same-length : tie.Need-same-length Inv-loop μ-loop
+same-length c = search needs
+
+returns : tie.Need-returns Inv-loop μ-loop
+returns c =
+    let w = c .before .before .before .before .loop .inv in
+    let v = rw (c .before .enum-told .given .1) at (c .before .before .before .record-at .ensures) in
+    (omega arith, λ held h x e n g. listed-short (w .0) (w .3 held h x e n g) v (c .if1 .taken))
+
+add-put : tie.Need-add-put Inv-loop μ-loop
+add-put c = search needs
+
+put-requires : tie.Need-put-requires Inv-loop μ-loop
 put-requires c κs = search needs
 
-makers-rows-requires : tie.Need-makers-rows-requires
-makers-rows-requires c κs = search needs
+same-length-2 : tie.Need-same-length-2 Inv-loop μ-loop
+same-length-2 c = search needs
 
-channels-rows-requires : tie.Need-channels-rows-requires
-channels-rows-requires c κs = search needs
-
-items-rows-requires : tie.Need-items-rows-requires
-items-rows-requires c κs = search needs
-
-items-rows-requires-2 : tie.Need-items-rows-requires-2
-items-rows-requires-2 c κs = (c .before .before .items-rows .ensures .1, c .before .before .before .before .before .before .before .before .before .before .before .before .before .before .before .pre .0, c .before .before .items-rows .ensures .2)
-
-frames-rows-requires : tie.Need-frames-rows-requires
-frames-rows-requires c κs = (c .before .before .items-rows2 .ensures .1, c .before .before .before .before .before .before .before .before .before .before .before .before .before .before .before .before .before .before .pre .0, c .before .before .items-rows2 .ensures .2)
-
-add-if2 : tie.Need-add-if2
-add-if2 c = omega (arith, c .before .frames-rows .ensures .1, c .before .before .before .before .before .before .before .before .before .before .before .before .before .before .before .before .before .before .before .before .pre)
-
-same-length : tie.Need-same-length
-same-length c =
-    let a = c .before .before .before .before .before .before .before .before .before .before .before .before .before .before .before .before .before .before .before .before .before .args in
-    let q = c .before .before .before .before .before .before .before .before .before .before .before .before .before .before .before .before .before .before .before .before .before .pre in
-    let y = c .before .before .frames-rows in
-    let t = c .before .before .before .before .before .items-rows2 in
-    let p = c .before .before .before .before .before .before .before .before .items-rows in
-    let m = c .before .before .before .before .before .before .before .before .before .before .before .channels-rows in
-    let n = c .before .before .before .before .before .before .before .before .before .before .before .before .before .before .makers-rows in
-    let f = c .before .before .before .before .before .before .before .before .before .before .before .before .before .before .before .before .before .put in
-    y .kept .1 .1 .1 .1 .0 ∙ t .kept .1 .1 .1 .1 .1 .0 ∙ p .kept .1 .1 .1 .1 .1 .0 ∙ m .kept .1 .1 .1 .1 .0 ∙ n .kept .1 .1 .1 .1 .0 ∙ f .kept .0
-
-returns-2 : tie.Need-returns-2
+returns-2 : tie.Need-returns-2 Inv-loop μ-loop
 returns-2 c =
-    let a = c .before .before .before .before .before .before .before .before .before .before .before .before .before .before .before .before .before .before .before .before .before .args in
-    let q = c .before .before .before .before .before .before .before .before .before .before .before .before .before .before .before .before .before .before .before .before .before .pre in
-    let y = c .before .before .frames-rows in
-    let t = c .before .before .before .before .before .items-rows2 in
-    let p = c .before .before .before .before .before .before .before .before .items-rows in
-    let m = c .before .before .before .before .before .before .before .before .before .before .before .channels-rows in
-    let n = c .before .before .before .before .before .before .before .before .before .before .before .before .before .before .makers-rows in
-    let f = c .before .before .before .before .before .before .before .before .before .before .before .before .before .before .before .before .before .put in
-    (omega (arith, y .ensures .1, y .ensures .2), wrote-body (a .o) (a .base) (now (a .s)) (a .write) (n .result .next) (m .result .next) (p .result .next) (t .result .next) (y .result .next) _ _ _ _ _ _ _ _ (a .k) (f .result) (n .result .k) (m .result .k) (p .result .k) (t .result .k) (y .result .k) (y .result .k) (f .ensures) (n .ensures .3) (m .ensures .3) (p .ensures .3) (t .ensures .3) (y .ensures .3) (λ l. absurd (omega (arith, l, c .if2 .taken))))
+    let y = c .before .before .before .before in
+    let w = y .before .before .before .loop .inv in
+    let v = rw (y .enum-told .given .1) at (y .before .before .record-at .ensures) in
+    let u = c .before .put .ensures in
+    (omega (arith, u .0), λ held h x e n g. listed-all (w .0) (w .3 held h x e n g) v u)
 
-add-put : tie.Need-add-put
-add-put c = omega (arith, c .before .before .before .frames-rows .ensures .1, c .before .before .before .before .before .before .before .before .before .before .before .before .before .before .before .before .before .before .before .before .before .before .pre)
+record-rows-requires : tie.Need-record-rows-requires Inv-loop μ-loop
+record-rows-requires c κs =
+    let y = c .before .before in
+    let v = rw (y .there .given .1) at (y .before .before .record-at .ensures) in
+    omega (arith, v .0, v .2, v .3)
 
-put-requires-2 : tie.Need-put-requires-2
-put-requires-2 c κs = let q = c .before .before .before .before .before .before .before .before .before .before .before .before .before .before .before .before .before .before .before .before .before .before .pre in (c .before .before .before .frames-rows .ensures .2, omega (arith, c .before .before .before .frames-rows .ensures .1, q .0), omega arith)
+loop-less : tie.Need-loop-less Inv-loop μ-loop
+loop-less c =
+    let y = c .before .before .before .before in
+    let v = rw (y .there .given .1) at (y .before .before .record-at .ensures) in
+    omega (arith, v .2, v .3)
 
-same-length-2 : tie.Need-same-length-2
-same-length-2 c =
-    let a = c .before .before .before .before .before .before .before .before .before .before .before .before .before .before .before .before .before .before .before .before .before .before .before .before .args in
-    let q = c .before .before .before .before .before .before .before .before .before .before .before .before .before .before .before .before .before .before .before .before .before .before .before .before .pre in
-    let z = c .before .put2 in
-    let y = c .before .before .before .before .before .frames-rows in
-    let t = c .before .before .before .before .before .before .before .before .items-rows2 in
-    let p = c .before .before .before .before .before .before .before .before .before .before .before .items-rows in
-    let m = c .before .before .before .before .before .before .before .before .before .before .before .before .before .before .channels-rows in
-    let n = c .before .before .before .before .before .before .before .before .before .before .before .before .before .before .before .before .before .makers-rows in
-    let f = c .before .before .before .before .before .before .before .before .before .before .before .before .before .before .before .before .before .before .before .before .put in
-    z .kept .0 ∙ y .kept .1 .1 .1 .1 .0 ∙ t .kept .1 .1 .1 .1 .1 .0 ∙ p .kept .1 .1 .1 .1 .1 .0 ∙ m .kept .1 .1 .1 .1 .0 ∙ n .kept .1 .1 .1 .1 .0 ∙ f .kept .0
-
-returns-3 : tie.Need-returns-3
-returns-3 c =
-    let a = c .before .before .before .before .before .before .before .before .before .before .before .before .before .before .before .before .before .before .before .before .before .before .before .before .args in
-    let q = c .before .before .before .before .before .before .before .before .before .before .before .before .before .before .before .before .before .before .before .before .before .before .before .before .pre in
-    let z = c .before .put2 in
-    let y = c .before .before .before .before .before .frames-rows in
-    let t = c .before .before .before .before .before .before .before .before .items-rows2 in
-    let p = c .before .before .before .before .before .before .before .before .before .before .before .items-rows in
-    let m = c .before .before .before .before .before .before .before .before .before .before .before .before .before .before .channels-rows in
-    let n = c .before .before .before .before .before .before .before .before .before .before .before .before .before .before .before .before .before .makers-rows in
-    let f = c .before .before .before .before .before .before .before .before .before .before .before .before .before .before .before .before .before .before .before .before .put in
-    (omega (arith, z .ensures .0, y .ensures .2, c .before .before .before .if2 .left), wrote-body (a .o) (a .base) (now (a .s)) (a .write) (n .result .next) (m .result .next) (p .result .next) (t .result .next) (y .result .next) _ _ _ _ _ _ _ _ (a .k) (f .result) (n .result .k) (m .result .k) (p .result .k) (t .result .k) (y .result .k) (z .result) (f .ensures) (n .ensures .3) (m .ensures .3) (p .ensures .3) (t .ensures .3) (y .ensures .3) (λ l. z .ensures))
+loop-again : tie.Need-loop-again Inv-loop μ-loop
+loop-again c =
+    let y = c .before .before .before .before in
+    let w = y .before .before .before .loop .inv in
+    let v = rw (y .there .given .1) at (y .before .before .record-at .ensures) in
+    (v .3, c .before .record-rows .ensures .0, search needs, λ held h x e n g. listed-more (w .0) (w .3 held h x e n g) (v .1) (v .4) (rw (v .0) at (c .before .record-rows .ensures .1)))
 
 pub body-rows-spec : {M : Type 1} → statement M
 body-rows-spec =
     tie.close
     (tie.spec
-    returns
-    put-requires
-    makers-rows-requires
-    channels-rows-requires
-    items-rows-requires
-    items-rows-requires-2
-    frames-rows-requires
-    add-if2
+    Inv-loop
+    μ-loop
+    loop-holds
+    record-at-requires
+    enum-known-there
+    enum-told
+    add-if1
     same-length
-    returns-2
+    returns
     add-put
-    put-requires-2
+    put-requires
     same-length-2
-    returns-3)
+    returns-2
+    record-rows-requires
+    loop-less
+    loop-again)

@@ -1,0 +1,4 @@
+pub mod Saying
+pub mod Giving
+pub mod Chained
+pub mod Visiting

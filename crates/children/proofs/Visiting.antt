@@ -1,0 +1,75 @@
+-- What the cursor's step comes to in a chain.
+-- Assumes nothing.
+use mathlib.Core.Path.{_≡_, refl, sym, _∙_}
+use mathlib.Core.Bool.{Bool, true, _||_}
+use mathlib.Core.List.{List}
+use Prim.Native.Nat.{ℕ, _+_, _-_, _≤_}
+use native.Mathlib.Omega.{arith}
+use borrow.Author.Tests.{leb-true, le-leb, eqb-true}
+use lib.Dec.{leb, ltb, eqb}
+use lib.ListN.{length}
+use Rattle.words.specs.declared.Order.{Order}
+use Rattle.walk.specs.Walk.{Walk, _>>=_, _>>_, require, text}
+use Rattle.walk.specs.See.{stops, goes, see}
+use Rattle.walk.proofs.Seen.{and-left, and-right, gate-true}
+use Rattle.walk.proofs.Went.{goes-same, gate-went}
+use Rattle.rules.specs.Rules.{Head, head, admit, span, limit, basicBody, channels, channelsBody, items, itemsBody, patientCode, eventCode, frames, framesBody, makerCode, delimiter}
+use Rattle.children.specs.Children.{Said, Known, Heads, Inner, is100, is120, is130, is200, is140, isMaker, Chain, more, last, Parted, Closed}
+
+low : (n m : ℕ) → 16 ≤ n → leb n m ≡ true → 16 ≤ m
+low n m z q = let l : n ≤ m = leb-true n m q in omega arith
+
+module _ (o : Order) (b : ℕ) (s : List ℕ) where
+  -- a head that is admitted more strictly
+  admits : {A : Type 0} (at room most : ℕ) (fits serial : ℕ → Bool) (h : Head) (v : Walk A) {a : A} {e : ℕ} → most ≤ 128 → (fits (span h) ≡ true → 16 ≤ span h) →
+      see o b s at (admit room most fits serial h >> v) ≡ goes a e → see o b s at (admit room 128 (leb 16) (λ _. true) h) ≡ goes tt at
+  unfolding admit see _>>=_ _>>_
+  admits at room most fits serial h v m f g =
+      let g₁ = gate-went _ _ _ _ g in
+      let g₂ = gate-went _ _ _ _ (g₁ .1) in
+      let r = and-right (ltb (h .size) limit) _ (g₂ .0) in
+      let i₁ : leb (h .multiplier) 128 ≡ true = le-leb (h .multiplier) 128 (omega (arith, leb-true (h .multiplier) most (g₁ .0))) in
+      let i₂ : leb 16 (span h) ≡ true = le-leb 16 (span h) (f (and-left (fits (span h)) _ r)) in
+      simp (i₁, i₂, and-left (ltb (h .size) limit) _ (g₂ .0), and-right (fits (span h)) _ r, gate-true)
+
+  delimiter-coded : (at : ℕ) (h : Head) {e : ℕ} → see o b s at (delimiter h) ≡ goes tt e → h .code ≡ 0
+  unfolding delimiter see _>>=_ _>>_
+  delimiter-coded at h g = eqb-true (h .code) 0 (gate-went _ _ _ _ g .0)
+
+  module _ (p : ℕ) {k : Known} {h : Head} where
+    inner-admits : {l : Said} → Inner o b s p k h l → see o b s (b + (p + 16)) (admit (length s - p) 128 (leb 16) (λ _. true) h) ≡ goes tt (b + (p + 16))
+    unfolding channels items frames
+    inner-admits (is100 q r) = admits (b + (p + 16)) (length s - p) 0 (eqb 128) (eqb 0) h basicBody (omega arith) (λ z. let l : 128 ≡ span h = eqb-true 128 (span h) z in omega arith) (r .is)
+    inner-admits (is120 q r) = admits (b + (p + 16)) (length s - p) 0 (leb 32) (eqb 0) h (channelsBody (k .basic) (span h)) (omega arith) (low 32 (span h) (omega arith)) (r .is)
+    inner-admits (is130 q r) = admits (b + (p + 16)) (length s - p) 0 (leb 24) (eqb 0) h (itemsBody patientCode (span h)) (omega arith) (low 24 (span h) (omega arith)) (r .is)
+    inner-admits (is200 q r) = admits (b + (p + 16)) (length s - p) 0 (leb 24) (eqb 0) h (itemsBody eventCode (span h)) (omega arith) (low 24 (span h) (omega arith)) (r .is)
+    inner-admits (is140 q r) = admits (b + (p + 16)) (length s - p) 128 (leb 32) (eqb 0) h (require (k .own || eqb (length (k .channels)) (k .basic .channels)) 14 (k .back) >> framesBody (k .basic) (k .channels) h) (omega arith) (low 32 (span h) (omega arith)) (r .is)
+    inner-admits (isMaker q r) = admits (b + (p + 16)) (length s - p) 128 (leb 16) (λ _. true) h (text (span h - 16)) (omega arith) (low 16 (span h) (omega arith)) (r .is)
+
+    inner-coded : {l : Said} → Inner o b s p k h l → h .code ≡ 0 → ⊥
+    unfolding makerCode
+    inner-coded (is100 q r) z = omega arith
+    inner-coded (is120 q r) z = omega arith
+    inner-coded (is130 q r) z = omega arith
+    inner-coded (is200 q r) z = omega arith
+    inner-coded (is140 q r) z = omega arith
+    inner-coded (isMaker q r) z = let n : 1024 ≤ h .code = leb-true 1024 (h .code) (and-left (leb 1024 (h .code)) _ q) in omega arith
+
+  -- at byte p, where the code found the head h
+  module _ {k : Known} {p : ℕ} {l : Said} where
+    pub chain-headless : {X : Type 0} {m q : ℕ} → Chain o b s k p l → see o b s (b + p) (head (length s - p)) ≡ stops m q → X
+    chain-headless (more h own rest k₁ i d e) z = absurd (let z : _≡_ {A = ℕ} 0 1 = cc in omega arith)
+    chain-headless (last h k₁ d e) z = absurd (let z : _≡_ {A = ℕ} 0 1 = cc in omega arith)
+
+    pub chain-parted : {h : Head} {q : ℕ} → q ≡ p + span h → Chain o b s k p l → Heads o b s p h → (h .code ≡ 0 → ⊥) → Parted o b s k p h q l
+    chain-parted {h} z (more h₁ own rest k₁ i d e) j n = let y : h₁ ≡ h = goes-same (sym k₁ ∙ j) .0 in record { own = own; rest = rest; inner = rw y at i; on = rw z (rw y at d); is = e }
+    chain-parted {h} z (last h₁ k₁ d e) j n = let y : h₁ ≡ h = goes-same (sym k₁ ∙ j) .0 in absurd (n (delimiter-coded (b + (p + 16)) h (rw y at d)))
+
+    pub chain-closed : {h : Head} → Chain o b s k p l → Heads o b s p h → h .code ≡ 0 → Closed o b s p l
+    chain-closed {h} (more h₁ own rest k₁ i d e) j n = let y : h₁ ≡ h = goes-same (sym k₁ ∙ j) .0 in absurd (inner-coded p (rw y at i) n)
+    chain-closed {h} (last h₁ k₁ d e) j n = record { head = h₁; stands = k₁; ends = d; is = e }
+
+    pub chain-refused : {X : Type 0} {h : Head} {m q : ℕ} → Chain o b s k p l → Heads o b s p h → (h .code ≡ 0 → ⊥) → see o b s (b + (p + 16)) (admit (length s - p) 128 (leb 16) (λ _. true) h) ≡ stops m q → X
+    chain-refused d j n a =
+        let a₁ = inner-admits p (chain-parted refl d j n .inner) in
+        absurd (let z : _≡_ {A = ℕ} 0 1 = cc in omega arith)

@@ -1,0 +1,94 @@
+-- The records that stand directly in a recording's body, one after the other, up to its delimiter.
+-- Assumes nothing.
+use mathlib.Core.Path.{_≡_}
+use mathlib.Core.Bool.{Bool, true}
+use mathlib.Core.List.{List, _++_}
+use Prim.Native.Nat.{ℕ, _+_, _-_, _≤_}
+use lib.Dec.{leb, eqb}
+use lib.ListN.{length}
+use Rattle.words.specs.declared.Order.{Order}
+use Rattle.walk.specs.Walk.{Row, Event, Walk, _>>_, text}
+use Rattle.walk.specs.See.{goes, see}
+use Rattle.walk.specs.Tell.{tell}
+use Rattle.walk.specs.Trace.{trace}
+use Rattle.rules.specs.Rules.{Head, Basic, Channel, Placed, head, admit, span, basicBody, channels, items, patientCode, eventCode, frames, makerCode, delimiter, padding}
+use Rattle.records.specs.Says.{headOf}
+use Rattle.children.specs.declared.Direct.{Direct}
+use Rattle.children.specs.declared.Direct.the-variants as Direct
+
+-- what a walk says on its way: the rows that it lists, and its events
+pub record Said : Type 0 where
+  pub rows : List Row
+  pub events : List Event
+
+unfoldable pub said : {A : Type 0} → Order → ℕ → List ℕ → ℕ → Walk A → Said
+said o b s at w = record { rows = tell o b s at w; events = trace o b s at w }
+
+infixr 5 _then_
+unfoldable pub _then_ : Said → Said → Said
+_then_ x y = record { rows = x .rows ++ y .rows; events = x .events ++ y .events }
+
+-- the rest of a 100, and of a maker's record, whose head is read
+abbrev pub basicRest : ℕ → Head → Walk Basic
+basicRest room h = admit room 0 (eqb 128) (eqb 0) h >> basicBody
+
+abbrev pub makerRest : ℕ → Head → Walk (List ℕ)
+makerRest room h = admit room 128 (leb 16) (λ _. true) h >> text (span h - 16)
+
+-- what a recording's 120 and 140 are read with, as its reading has it: its 100, whether it has a 120 of its own, the channels that hold, and how far back 100's count of channels stands
+pub record Known : Type 0 where
+  pub basic : Basic
+  pub own : Bool
+  pub channels : List Channel
+  pub back : ℕ
+
+abbrev pub knownOf : Placed → Known
+knownOf x = record { basic = x .recording .basic; own = x .recording .ownChannels; channels = x .recording .channels; back = x .layout .at140 - 20 }
+
+-- in the part s at b a head stands at byte p; the walk, begun behind it, accepts and says l
+module _ (o : Order) (b : ℕ) (s : List ℕ) (p : ℕ) where
+  pub record Reads {A : Type 0} (w : Walk A) (l : Said) : Type 0 where
+    pub value : A
+    pub end : ℕ
+    pub is : see o b s (b + (p + 16)) w ≡ goes value end
+    pub says : l ≡ said o b s (b + (p + 16)) w
+
+  abbrev pub Heads : Head → Type 0
+  Heads h = see o b s (b + p) (head (length s - p)) ≡ goes h (b + (p + 16))
+
+  abbrev pub heading : Said
+  heading = said o b s (b + p) (head (length s - p))
+
+  -- a record that may stand in a recording, by its code
+  pub data Inner (k : Known) (h : Head) (l : Said) : Type 0 where
+    is100 : h .code ≡ 100 → Reads (basicRest (length s - p) h) l → Inner k h l
+    is120 : h .code ≡ 120 → Reads (channels (k .basic) (length s - p) h) l → Inner k h l
+    is130 : h .code ≡ 130 → Reads (items patientCode (length s - p) h) l → Inner k h l
+    is200 : h .code ≡ 200 → Reads (items eventCode (length s - p) h) l → Inner k h l
+    is140 : h .code ≡ 140 → Reads (frames (k .basic) (k .own) (k .channels) (k .back) (length s - p) h) l → Inner k h l
+    isMaker : makerCode (h .code) ≡ true → Reads (makerRest (length s - p) h) l → Inner k h l
+
+-- from byte p on: records, each with its head, its rest and what follows it, and then the delimiter with what pads the recording; l is all that is said
+pub data Chain (o : Order) (b : ℕ) (s : List ℕ) (k : Known) : ℕ → Said → Type 0 where
+  more : {p : ℕ} {l : Said} (h : Head) (own rest : Said) → Heads o b s p h → Inner o b s p k h own → Chain o b s k (p + span h) rest → l ≡ heading o b s p then (own then rest) → Chain o b s k p l
+  last : {p : ℕ} {l : Said} (h : Head) → Heads o b s p h → see o b s (b + (p + 16)) (delimiter h) ≡ goes tt (b + (p + 16)) →
+      l ≡ heading o b s p then (said o b s (b + (p + 16)) (delimiter h) then said o b s (b + (p + 16)) (padding (length s - p - 16))) → Chain o b s k p l
+
+-- what a chain comes to at byte p: a record with the head h that ends at q, or the delimiter
+pub record Parted (o : Order) (b : ℕ) (s : List ℕ) (k : Known) (p : ℕ) (h : Head) (q : ℕ) (l : Said) : Type 0 where
+  pub own : Said
+  pub rest : Said
+  pub inner : Inner o b s p k h own
+  pub on : Chain o b s k q rest
+  pub is : l ≡ heading o b s p then (own then rest)
+
+pub record Closed (o : Order) (b : ℕ) (s : List ℕ) (p : ℕ) (l : Said) : Type 0 where
+  pub head : Head
+  pub stands : Heads o b s p head
+  pub ends : see o b s (b + (p + 16)) (delimiter head) ≡ goes tt (b + (p + 16))
+  pub is : l ≡ heading o b s p then (said o b s (b + (p + 16)) (delimiter head) then said o b s (b + (p + 16)) (padding (length s - p - 16)))
+
+-- the cursor's answer at byte p of a part whose records are a chain from there on
+abbrev pub Visits : Order → ℕ → List ℕ → ℕ → Direct → Type 0
+Visits o b s p (Direct.Record h q) = (h .at ≡ p) × (q ≡ p + span (headOf h)) × (p + 16 ≤ q) × (q ≤ length s) × ((k : Known) (l : Said) → Chain o b s k p l → Parted o b s k p (headOf h) q l)
+Visits o b s p Direct.Last = (k : Known) (l : Said) → Chain o b s k p l → Closed o b s p l
