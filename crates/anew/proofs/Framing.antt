@@ -24,13 +24,13 @@ use Rattle.rules.specs.Rules.{Head, head, span, admit, coded, between, padOk, p
 use Rattle.rules.specs.declared.Channels.{Channels}
 use Rattle.rules.proofs.Room.{stays-frame}
 use Rattle.records.specs.Says.{Kept}
-use Rattle.tables.proofs.Parts.{bind-goes}
+use Rattle.descriptions.proofs.Parts.{bind-goes}
 use Rattle.rows.proofs.Lists.{admit-went, require-went, head-went}
 use Rattle.bodies.specs.Copy.{copy, filling}
 use Rattle.bodies.specs.declared.Way.{Way}
 use Rattle.bodies.proofs.Pieces.{put}
-use Rattle.shapes.specs.Shapes.{FrameIn}
-use Rattle.shapes.proofs.Canonic.{frame-bare}
+use Rattle.measures.specs.Shapes.{FrameIn}
+use Rattle.measures.proofs.Canonic.{frame-bare}
 
 -- a buffer whose parts are written front to back: its first bytes, and all of it
 

@@ -11,7 +11,7 @@ ghost use Rattle.rules.specs.Rules as R;
 ghost use Rattle.rules.specs.Canonical as C;
 ghost use Rattle.records.specs.Says.{Kept};
 ghost use Rattle.bodies.specs.Copy.{widthsIn};
-ghost use Rattle.shapes.specs.Shapes.{FrameIn};
+ghost use Rattle.measures.specs.Shapes.{FrameIn};
 use crate::heads::put_head;
 use crate::heads::put4;
 use bodies::Way;

@@ -24,13 +24,13 @@ use Rattle.rules.specs.declared.Frames.{Frames}
 use Rattle.rules.specs.declared.Refusal.{Refusal}
 use Rattle.rules.proofs.Room.{stays-recordingBody}
 use Rattle.records.specs.Says.{halts}
-use Rattle.tables.specs.Halves as H
-use Rattle.tables.specs.Tabled.{Within, Room, placeOf, channelsIn, patientIn, heldAt, Keeps, Bounds, tabled}
-use Rattle.tables.specs.declared.Before.{Before}
-use Rattle.tables.specs.declared.Places.{Places}
-use Rattle.tables.specs.declared.Tabled.the-variants as Tabled
-use Rattle.tables.specs.declared.Tables.{Tables}
-use Rattle.tables.proofs.Halves.{halves}
+use Rattle.descriptions.specs.Halves as H
+use Rattle.descriptions.specs.Tabled.{Within, Room, placeOf, channelsIn, patientIn, heldAt, Keeps, Bounds, tabled}
+use Rattle.descriptions.specs.declared.Before.{Before}
+use Rattle.descriptions.specs.declared.Places.{Places}
+use Rattle.descriptions.specs.declared.Tabled.the-variants as Tabled
+use Rattle.descriptions.specs.declared.Tables.{Tables}
+use Rattle.descriptions.proofs.Halves.{halves}
 use Rattle.signals.specs.Signaled.{Known, Whole, Signaled}
 use Rattle.signals.specs.declared.frames.Framed.{Framed}
 use Rattle.signals.specs.declared.frames.Framed.the-variants as Framed

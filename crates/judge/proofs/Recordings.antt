@@ -17,11 +17,11 @@ use Rattle.rules.specs.declared.Refusal.{Refusal}
 use Rattle.rules.proofs.Room.{stays-recording}
 use Rattle.records.specs.Says.{halts}
 use Rattle.records.proofs.Steps.{ends-cons}
-use Rattle.tables.specs.Tabled.{HeldAs}
-use Rattle.tables.specs.declared.Before.{Before}
-use Rattle.tables.specs.declared.Before.the-variants as Before
-use Rattle.tables.specs.declared.Places.{Places}
-use Rattle.tables.proofs.Stands.{yields-past}
+use Rattle.descriptions.specs.Tabled.{HeldAs}
+use Rattle.descriptions.specs.declared.Before.{Before}
+use Rattle.descriptions.specs.declared.Before.the-variants as Before
+use Rattle.descriptions.specs.declared.Places.{Places}
+use Rattle.descriptions.proofs.Stands.{yields-past}
 use Rattle.judge.specs.Recorded.{leaves, Places-of}
 
 module _ (o : Order) (b : ℕ) (s : List ℕ) where

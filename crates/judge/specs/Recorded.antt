@@ -10,11 +10,11 @@ use Rattle.walk.specs.Walk.{pick}
 use Rattle.walk.specs.See.{Verdict, Goes}
 use Rattle.rules.specs.Rules as R
 use Rattle.records.specs.Says.{halts}
-use Rattle.tables.specs.declared.Before.{Before}
-use Rattle.tables.specs.declared.Before.the-variants as Before
-use Rattle.tables.specs.declared.Places.{Places}
-use Rattle.tables.specs.declared.Tables.{Tables}
-use Rattle.tables.specs.Tabled.{channelsIn, patientIn, heldAt, Within, HeldAs}
+use Rattle.descriptions.specs.declared.Before.{Before}
+use Rattle.descriptions.specs.declared.Before.the-variants as Before
+use Rattle.descriptions.specs.declared.Places.{Places}
+use Rattle.descriptions.specs.declared.Tables.{Tables}
+use Rattle.descriptions.specs.Tabled.{channelsIn, patientIn, heldAt, Within, HeldAs}
 use Rattle.judge.specs.declared.recording.Recorded.{Recorded}
 use Rattle.judge.specs.declared.recording.Recorded.the-variants as Recorded
 

@@ -10,11 +10,11 @@ ghost use Rattle.rules.specs.Rules as R;
 ghost use Rattle.records.specs.Says.{stepped, Beyond};
 ghost use Rattle.judge.specs.Judged.{refusalR, refusalJ, JudgedAs};
 use crate::recording::Recorded;
+use descriptions::Before;
 use header::Opened;
 use records::Step;
 use rules::FileHeader;
 use rules::Refusal;
-use tables::Before;
 use words::Order;
 
 // A file that is accepted, or the refusal.

@@ -6,8 +6,8 @@ use Rattle.words.specs.Floats.{bitsOf}
 use Rattle.words.specs.Values.{unsigned}
 use Rattle.table.specs.Table as Table
 use Rattle.permit.specs.Permit as Permit
-use Rattle.find.specs.Answers.{Answer, value, refusal}
-use Rattle.find.specs.declared.Counts.{Counts}
+use Rattle.recordings.specs.Answers.{Answer, value, refusal}
+use Rattle.recordings.specs.declared.Counts.{Counts}
 use Rattle.samples.specs.declared.Number.{Number}
 use Rattle.samples.specs.declared.Number.the-variants as Number
 use Rattle.samples.specs.declared.Time.{Time}

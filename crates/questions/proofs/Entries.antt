@@ -17,8 +17,8 @@ use Rattle.walk.specs.See.{goes, gate, see, Yields}
 use Rattle.walk.proofs.Seen.{and-left, yields, yields-bind, places, length-bytesAt}
 use Rattle.rules.specs.Rules.{between, Head, span, admit, Item, item, itemSize, itemBytes, itemList, itemsBody, items}
 use Rattle.records.proofs.Facts.{between-in}
-use Rattle.find.specs.Answers.{value, refusal}
-use Rattle.find.proofs.Chosen.{numbered-in, numbered-out}
+use Rattle.recordings.specs.Answers.{value, refusal}
+use Rattle.recordings.proofs.Chosen.{numbered-in, numbered-out}
 use Rattle.questions.specs.Questions.{itemIn}
 
 -- what a walk gives, and where it ends, is what `see` comes to

@@ -16,14 +16,14 @@ use Rattle.rules.proofs.Asked.{Rest, event-rest}
 use Rattle.rules.proofs.Held.{patient-rest-holds}
 use Rattle.records.specs.declared.Kind.{Kind}
 use Rattle.records.specs.declared.Kind.the-variants as Kind
-use Rattle.tables.specs.declared.Held.{Held}
-use Rattle.tables.specs.declared.Held.the-variants as Held
-use Rattle.tables.specs.declared.Places.{Places}
-use Rattle.find.specs.Answers.{Answer, refusal, outside, numbered, indexed}
-use Rattle.find.specs.Recordings.{Chosen, recordingOf, startOf, heldAt, at130}
-use Rattle.find.specs.Found.{FoundIn}
-use Rattle.find.proofs.Chosen.{One, ChosenIn, chosen-in}
-use Rattle.find.proofs.Standing.{found-seen, found-ends}
+use Rattle.descriptions.specs.declared.Held.{Held}
+use Rattle.descriptions.specs.declared.Held.the-variants as Held
+use Rattle.descriptions.specs.declared.Places.{Places}
+use Rattle.recordings.specs.Answers.{Answer, refusal, outside, numbered, indexed}
+use Rattle.recordings.specs.Recordings.{Chosen, recordingOf, startOf, heldAt, at130}
+use Rattle.recordings.specs.Found.{FoundIn}
+use Rattle.recordings.proofs.Chosen.{One, ChosenIn, chosen-in}
+use Rattle.recordings.proofs.Standing.{found-seen, found-ends}
 use Rattle.questions.specs.Questions.{itemsOf, itemsAt, itemIn, itemOf}
 use Rattle.questions.specs.Holding.{eventsIn, holdingOf}
 use Rattle.questions.specs.declared.items.Entry.{Entry}

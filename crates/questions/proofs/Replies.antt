@@ -19,12 +19,12 @@ use Rattle.rules.specs.Places.{bytesBefore, holder}
 use Rattle.rules.specs.Reading.{Value, valueOf}
 use Rattle.rules.proofs.Held.{channel-holds-at}
 use Rattle.rules.proofs.Places.{found-at}
-use Rattle.tables.specs.declared.Places.{Places}
-use Rattle.find.specs.Answers.{Answer, value, refusal, _>>=_}
-use Rattle.find.specs.Found.{FoundIn, countsOf}
-use Rattle.find.specs.Recordings.{Chosen, recordingOf, heldAt, at120}
-use Rattle.find.proofs.Chosen.{indexed-out, numbered-out, numbered-one, One, chosen-in}
-use Rattle.find.proofs.Standing.{found-seen}
+use Rattle.descriptions.specs.declared.Places.{Places}
+use Rattle.recordings.specs.Answers.{Answer, value, refusal, _>>=_}
+use Rattle.recordings.specs.Found.{FoundIn, countsOf}
+use Rattle.recordings.specs.Recordings.{Chosen, recordingOf, heldAt, at120}
+use Rattle.recordings.proofs.Chosen.{indexed-out, numbered-out, numbered-one, One, chosen-in}
+use Rattle.recordings.proofs.Standing.{found-seen}
 use Rattle.samples.specs.Asked.{FrameIn, RunIn}
 use Rattle.samples.specs.Frames.{ChosenFrame, frameOf, Samples, samplesOf, numberIn, timeOf}
 use Rattle.samples.specs.declared.Number.{Number}

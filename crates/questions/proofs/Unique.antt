@@ -6,9 +6,9 @@ use Prim.Native.Nat.{ℕ}
 use denote.Ref.{RefT}
 use Rattle.rules.specs.declared.Refusal.{Refusal}
 use Rattle.records.specs.declared.Kind.{Kind}
-use Rattle.find.specs.Answers.{Answer, value, refusal}
-use Rattle.find.specs.declared.Told.{Told}
-use Rattle.find.specs.declared.Told.the-variants as Told
+use Rattle.recordings.specs.Answers.{Answer, value, refusal}
+use Rattle.recordings.specs.declared.Told.{Told}
+use Rattle.recordings.specs.declared.Told.the-variants as Told
 use Rattle.samples.specs.declared.Counted.{Counted}
 use Rattle.samples.specs.declared.Counted.the-variants as Counted
 use Rattle.samples.specs.declared.Sampled.{Sampled}

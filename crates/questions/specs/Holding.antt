@@ -4,9 +4,9 @@ use mathlib.Core.Bool.{Bool, true, false}
 use Prim.Native.Nat.{ℕ}
 use Rattle.records.specs.declared.Kind.{Kind}
 use Rattle.records.specs.declared.Kind.the-variants as Kind
-use Rattle.tables.specs.declared.Held.{Held}
-use Rattle.tables.specs.declared.Held.the-variants as Held
-use Rattle.tables.specs.declared.Places.{Places}
+use Rattle.descriptions.specs.declared.Held.{Held}
+use Rattle.descriptions.specs.declared.Held.the-variants as Held
+use Rattle.descriptions.specs.declared.Places.{Places}
 
 -- the record of these items that holds, if there is one
 abbrev pub eventsIn : Bool → ℕ → Held

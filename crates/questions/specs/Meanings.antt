@@ -1,10 +1,10 @@
 -- What each answer says: document 01's number and position, or the values.
 -- Assumes nothing.
 use Prim.Native.Nat.{ℕ}
-use Rattle.find.specs.Answers.{Answer, value, refusal}
-use Rattle.find.specs.declared.Counts.{Counts}
-use Rattle.find.specs.declared.Told.{Told}
-use Rattle.find.specs.declared.Told.the-variants as Told
+use Rattle.recordings.specs.Answers.{Answer, value, refusal}
+use Rattle.recordings.specs.declared.Counts.{Counts}
+use Rattle.recordings.specs.declared.Told.{Told}
+use Rattle.recordings.specs.declared.Told.the-variants as Told
 use Rattle.samples.specs.declared.Counted.{Counted}
 use Rattle.samples.specs.declared.Counted.the-variants as Counted
 use Rattle.samples.specs.declared.Number.{Number}

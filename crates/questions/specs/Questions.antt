@@ -11,9 +11,9 @@ use Rattle.walk.specs.Walk.{pick}
 use Rattle.rules.specs.Rules as R
 use Rattle.records.specs.declared.Kind.{Kind}
 use Rattle.records.specs.declared.Kind.the-variants as Kind
-use Rattle.find.specs.Answers.{Answer, value, refusal, _>>=_, indexed, numbered}
-use Rattle.find.specs.Recordings.{Chosen, recordingOf, startOf, at120, at130}
-use Rattle.find.specs.declared.Counts.{Counts}
+use Rattle.recordings.specs.Answers.{Answer, value, refusal, _>>=_, indexed, numbered}
+use Rattle.recordings.specs.Recordings.{Chosen, recordingOf, startOf, at120, at130}
+use Rattle.recordings.specs.declared.Counts.{Counts}
 use Rattle.samples.specs.Frames.{frameOf, timeOf, Samples, samplesOf, numberIn}
 use Rattle.samples.specs.declared.Number.{Number}
 use Rattle.samples.specs.declared.Time.{Time}

@@ -10,13 +10,13 @@ ghost use Rattle.questions.specs.Meanings.{meaningI};
 ghost use Rattle.questions.specs.Questions.{itemIn, itemOf};
 ghost use Rattle.questions.specs.Holding.{holdingOf};
 use crate::channels::Text;
-use find::Found;
+use descriptions::Held;
+use descriptions::Places;
+use recordings::Found;
 use records::Kind;
 use rules::Item;
 use rules::Items;
 use rules::Refusal;
-use tables::Held;
-use tables::Places;
 use words::Order;
 use words::int4;
 use words::number4;
@@ -61,7 +61,7 @@ fn item_in(o: Order, s: &[u8], at: usize, item: usize) -> Itemed
         return Itemed::Refused(Refusal(19, 0));
     }
     let count = number4(o, s, at + Items::COUNT);
-    if !find::within(item, count) {
+    if !recordings::within(item, count) {
         return Itemed::Refused(Refusal(19, 0));
     }
     let p = item_place(o, s, at + Items::FIRST, item - 1);
@@ -96,9 +96,9 @@ fn holding(k: Kind, q: Places) -> Held
 pub fn item_asked(file: &[u8], k: Kind, recording: usize, item: usize) -> Itemed
     ensures { λ a. ⌜ meaningI a ≡ itemOf k (now (file .entry)) recording item ⌝ }
 {
-    let found = find::recording_asked(file, recording);
+    let found = recordings::recording_asked(file, recording);
     let Found::At(order, q) = found else {
-        return Itemed::Refused(find::of_found(found));
+        return Itemed::Refused(recordings::of_found(found));
     };
     let held = holding(k, q);
     match held {

@@ -7,8 +7,8 @@ ghost use Rattle.questions.specs.Questions.{factsOf, channelOf, patientI
 ghost use Rattle.questions.specs.Meanings.{meaningF, meaningD, meaningI, meaningT, meaningC, meaningS};
 use crate::channels::Described;
 use crate::items::Itemed;
-use find::Found;
-use find::Told;
+use recordings::Found;
+use recordings::Told;
 use records::Kind;
 use rules::Channel;
 use rules::Channels;
@@ -26,9 +26,9 @@ const FIRST_SAMPLE: usize = 0;
 pub fn facts(file: &[u8], recording: usize) -> Told
     ensures { λ a. ⌜ meaningF a ≡ factsOf (now (file .entry)) recording ⌝ }
 {
-    let found = find::recording_asked(file, recording);
+    let found = recordings::recording_asked(file, recording);
     match found {
-        Found::At(_, q) => Told::Facts(find::facts_of(q)),
+        Found::At(_, q) => Told::Facts(recordings::facts_of(q)),
         Found::Refused(r) => Told::Refused(r),
     }
 }
@@ -37,11 +37,11 @@ pub fn facts(file: &[u8], recording: usize) -> Told
 pub fn channel(file: &[u8], recording: usize, channel: usize) -> Described
     ensures { λ a. ⌜ meaningD a ≡ channelOf (now (file .entry)) recording channel ⌝ }
 {
-    let found = find::recording_asked(file, recording);
+    let found = recordings::recording_asked(file, recording);
     let Found::At(order, q) = found else {
-        return Described::Refused(find::of_found(found));
+        return Described::Refused(recordings::of_found(found));
     };
-    if !find::within(channel, q.count) {
+    if !recordings::within(channel, q.count) {
         return Described::Refused(Refusal(19, 0));
     }
     let at = q.channels + Channels::SUBS + Channel::LENGTH * (channel - 1);

@@ -24,18 +24,18 @@ use Rattle.rules.specs.Rules.{Head, head, span, Basic, Channel, sampleBytes, Fr
 use Rattle.rules.specs.declared.Channels.{Channels}
 use Rattle.rules.proofs.Sized.{sized}
 use Rattle.records.specs.Says.{Kept}
-use Rattle.tables.specs.Halves.{Tables, tables}
+use Rattle.descriptions.specs.Halves.{Tables, tables}
 use Rattle.rows.proofs.Lists.{admit-went}
 use Rattle.bodies.specs.Copy.{copy, Pastes}
 use Rattle.bodies.specs.declared.Way.{Way}
 use Rattle.bodies.proofs.Pieces.{put}
-use Rattle.shapes.specs.Shapes.{ShapeOf, ShapeIn, signalsIn, behindHead}
-use Rattle.shapes.specs.declared.Shape.{Shape}
-use Rattle.shapes.specs.declared.Sized.{Sized}
-use Rattle.shapes.proofs.Canonic.{bare}
-use Rattle.shapes.proofs.Chained.{tablesEvents, tables-bare, next-bare}
-use Rattle.shapes.proofs.Lengths.{Accepted, accepted}
-use Rattle.shapes.proofs.Measures.{stands, in-body}
+use Rattle.measures.specs.Shapes.{ShapeOf, ShapeIn, signalsIn, behindHead}
+use Rattle.measures.specs.declared.Shape.{Shape}
+use Rattle.measures.specs.declared.Sized.{Sized}
+use Rattle.measures.proofs.Canonic.{bare}
+use Rattle.measures.proofs.Chained.{tablesEvents, tables-bare, next-bare}
+use Rattle.measures.proofs.Lengths.{Accepted, accepted}
+use Rattle.measures.proofs.Measures.{stands, in-body}
 use Rattle.anew.proofs.Framing.{begun, ended, render-record, padded-events}
 
 -- the first of the bytes that are written first

@@ -20,17 +20,17 @@ use Rattle.rules.specs.Rules as R
 use Rattle.rules.specs.Rules.{recording, recordings}
 use Rattle.rules.specs.Canonical as C
 use Rattle.rules.proofs.Canon.{recording-size}
-use Rattle.tables.specs.Tabled.{Stand, HeldAs}
-use Rattle.tables.specs.declared.Before.{Before}
-use Rattle.tables.specs.declared.Before.the-variants as Before
-use Rattle.tables.specs.declared.Places.{Places}
+use Rattle.descriptions.specs.Tabled.{Stand, HeldAs}
+use Rattle.descriptions.specs.declared.Before.{Before}
+use Rattle.descriptions.specs.declared.Before.the-variants as Before
+use Rattle.descriptions.specs.declared.Places.{Places}
 use Rattle.judge.specs.Recorded.{leaves, Places-of}
 use Rattle.judge.proofs.Led.{Led, led, led-stop}
 use Rattle.bodies.specs.Copy.{Pastes}
-use Rattle.shapes.specs.Shapes.{ShapeOf, Bounds, Each, Given, lengthIn, behindHead}
-use Rattle.shapes.specs.declared.Sized.{Sized}
-use Rattle.shapes.specs.declared.Shaped.{Shaped}
-use Rattle.shapes.specs.declared.Shaped.the-variants as Shaped
+use Rattle.measures.specs.Shapes.{ShapeOf, Bounds, Each, Given, lengthIn, behindHead}
+use Rattle.measures.specs.declared.Sized.{Sized}
+use Rattle.measures.specs.declared.Shaped.{Shaped}
+use Rattle.measures.specs.declared.Shaped.the-variants as Shaped
 
 -- the canonical events of recordings that the walk read, with the serials from i on
 abbrev pub eventsOf : ℕ → List R.Placed → List Event

@@ -19,15 +19,15 @@ use Rattle.rules.specs.Canonical as C
 use Rattle.rules.proofs.Canon.{recording-size}
 use Rattle.rules.proofs.Renew.{record-size}
 use Rattle.records.specs.Says.{Kept}
-use Rattle.tables.specs.Tabled.{Stand}
-use Rattle.tables.specs.declared.Places.{Places}
+use Rattle.descriptions.specs.Tabled.{Stand}
+use Rattle.descriptions.specs.declared.Places.{Places}
 use Rattle.rows.proofs.Recorded.{within}
 use Rattle.bodies.specs.Copy.{Pastes}
 use Rattle.bodies.specs.declared.Way.{Way}
 use Rattle.bodies.proofs.Pieces.{put}
-use Rattle.shapes.specs.Shapes.{sizedFor, ShapeOf, ShapeIn, behindHead}
-use Rattle.shapes.specs.declared.Sized.{Sized}
-use Rattle.shapes.specs.declared.Shape.{Shape}
+use Rattle.measures.specs.Shapes.{sizedFor, ShapeOf, ShapeIn, behindHead}
+use Rattle.measures.specs.declared.Sized.{Sized}
+use Rattle.measures.specs.declared.Shape.{Shape}
 use Rattle.anew.proofs.Framing.{render-record}
 
 -- a head is 16 bytes long

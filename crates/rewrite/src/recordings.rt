@@ -11,27 +11,27 @@ ghost use Rattle.walk.specs.See.{see, goes};
 ghost use Rattle.rules.specs.Rules as R;
 ghost use Rattle.rules.specs.Canonical as C;
 ghost use Rattle.records.specs.Says.{Kept};
-ghost use Rattle.tables.specs.Tabled.{Room, Stand};
+ghost use Rattle.descriptions.specs.Tabled.{Room, Stand};
 ghost use Rattle.bodies.specs.Copy.{Pastes};
-ghost use Rattle.shapes.specs.Shapes.{ShapeOf, ShapeIn, Bounds, Each, Given, lengthIn, behindHead};
+ghost use Rattle.measures.specs.Shapes.{ShapeOf, ShapeIn, Bounds, Each, Given, lengthIn, behindHead};
 use anew::frames::frames_body;
 use anew::heads::put_head;
 use bodies::Way;
 use bodies::runs::letter;
 use bulk::clear_run;
 use bulk::copy_run;
+use descriptions::Before;
+use descriptions::Places;
 use judge::recording::Recorded;
 use judge::recording::recording_again;
+use measures::Shape;
+use measures::Shaped;
+use measures::read_shape;
 use rules::Channels;
 use rules::FileHeader;
 use rules::Frames;
 use rules::Head;
 use rules::Recording;
-use shapes::Shape;
-use shapes::Shaped;
-use shapes::read_shape;
-use tables::Before;
-use tables::Places;
 use words::Order;
 
 // The shape of the recording from byte p on, which has these places.
@@ -106,7 +106,7 @@ fn body(w: Way, file: &[u8], cs: Channels, f: Shape, s: &[u8], base: usize, d: &
     let stop = f.end;
     let from = at + Head::LENGTH;
     let end = at + signals.length;
-    copies::tables(w, s, base, d, 0);
+    transcripts::tables(w, s, base, d, 0);
     put_head(
         to,
         signals.size,
@@ -126,7 +126,7 @@ fn body(w: Way, file: &[u8], cs: Channels, f: Shape, s: &[u8], base: usize, d: &
         &s[from..stop],
         &mut d[from..end],
     );
-    let n = copies::next(w, s, base, stop, d, end);
+    let n = transcripts::next(w, s, base, stop, d, end);
     let rest = n.k;
     clear_run(&mut d[rest..]);
 }

@@ -15,12 +15,12 @@ use Rattle.rules.specs.Places.{bytesBefore}
 use Rattle.rules.proofs.Places.{Found, frame-found}
 use Rattle.rules.proofs.Asked.{frame-at}
 use Rattle.records.proofs.Facts.{between-in}
-use Rattle.tables.specs.declared.Places.{Places}
-use Rattle.find.specs.Answers.{value, refusal, numbered}
-use Rattle.find.specs.Found.{FoundIn}
-use Rattle.find.specs.Recordings.{Chosen, recordingOf, startOf}
-use Rattle.find.proofs.Chosen.{numbered-in, numbered-out, numbered-one, One, ChosenIn, chosen-in}
-use Rattle.find.proofs.Standing.{found-seen, found-ends}
+use Rattle.descriptions.specs.declared.Places.{Places}
+use Rattle.recordings.specs.Answers.{value, refusal, numbered}
+use Rattle.recordings.specs.Found.{FoundIn}
+use Rattle.recordings.specs.Recordings.{Chosen, recordingOf, startOf}
+use Rattle.recordings.proofs.Chosen.{numbered-in, numbered-out, numbered-one, One, ChosenIn, chosen-in}
+use Rattle.recordings.proofs.Standing.{found-seen, found-ends}
 use Rattle.samples.specs.Asked.{FramedAs}
 use Rattle.samples.specs.Frames.{frameOf}
 use Rattle.samples.specs.declared.Framed.the-variants as Framed

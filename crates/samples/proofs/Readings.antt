@@ -9,7 +9,7 @@ use Rattle.rules.specs.Rules as R
 use Rattle.rules.specs.Rules.{samplesIn, width}
 use Rattle.rules.specs.Reading.{valueOf, samplesReading}
 use Rattle.rules.proofs.Renew.{All, SamplesOk}
-use Rattle.find.specs.Answers.{value, indexed, numbered}
+use Rattle.recordings.specs.Answers.{value, indexed, numbered}
 
 -- one of a list each of which is known
 pub all-one : {A : Type 0} (P : A → Type 0) (d : A) (l : List A) (i : ℕ) → i < length l → All P l → P (getD l i d)

@@ -18,11 +18,11 @@ use Rattle.rules.proofs.Asked.{recording-at, sample-at}
 use Rattle.rules.proofs.Renew.{FrameOk, SamplesOk}
 use Rattle.rules.proofs.Renewed.{recording-ok}
 use Rattle.records.specs.Says.{Kept}
-use Rattle.tables.specs.declared.Places.{Places}
-use Rattle.find.specs.Answers.{value, refusal, indexed, numbered}
-use Rattle.find.specs.Recordings.{Chosen}
-use Rattle.find.proofs.Chosen.{indexed-in, numbered-out, numbered-one, One, answered, ChosenIn, chosen-in}
-use Rattle.find.proofs.Standing.{found-seen}
+use Rattle.descriptions.specs.declared.Places.{Places}
+use Rattle.recordings.specs.Answers.{value, refusal, indexed, numbered}
+use Rattle.recordings.specs.Recordings.{Chosen}
+use Rattle.recordings.proofs.Chosen.{indexed-in, numbered-out, numbered-one, One, answered, ChosenIn, chosen-in}
+use Rattle.recordings.proofs.Standing.{found-seen}
 use Rattle.samples.specs.Asked.{FrameIn, Inside, RunIn, RanAs, runOf}
 use Rattle.samples.specs.Frames.{ChosenFrame, frameOf, Samples, samplesOf}
 use Rattle.samples.specs.declared.Ran.the-variants as Ran

@@ -17,7 +17,7 @@ use Rattle.rules.specs.Reading.{valueOf}
 use Rattle.rules.specs.Rules.{sampleBytes, samplesIn, samplesOf, width}
 use Rattle.records.specs.Says.{Kept}
 use Rattle.records.proofs.Steps.{KeptOne}
-use Rattle.find.specs.Answers.{value, indexed}
+use Rattle.recordings.specs.Answers.{value, indexed}
 use Rattle.samples.specs.Asked.{Inside, runOf}
 use Rattle.samples.specs.Frames.{numberIn}
 use Rattle.samples.specs.declared.Number.{Number}

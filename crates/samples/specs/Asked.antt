@@ -10,9 +10,9 @@ use Rattle.walk.specs.See.{Goes, see}
 use Rattle.rules.specs.Rules as R
 use Rattle.rules.specs.Reading.{valueOf}
 use Rattle.rules.specs.declared.Refusal.{Refusal}
-use Rattle.tables.specs.declared.Places.{Places}
-use Rattle.find.specs.Answers.{value, refusal, indexed}
-use Rattle.find.specs.Found.{FoundIn}
+use Rattle.descriptions.specs.declared.Places.{Places}
+use Rattle.recordings.specs.Answers.{value, refusal, indexed}
+use Rattle.recordings.specs.Found.{FoundIn}
 use Rattle.samples.specs.Frames.{ChosenFrame, frameOf, Samples, samplesOf}
 use Rattle.samples.specs.declared.Framed.{Framed}
 use Rattle.samples.specs.declared.Framed.the-variants as Framed

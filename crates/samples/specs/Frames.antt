@@ -6,8 +6,8 @@ use lib.ListN.{take}
 use Rattle.words.specs.Floats.{floatOf}
 use Rattle.rules.specs.Rules as R
 use Rattle.rules.specs.Reading.{Value, whole, float, frameReading}
-use Rattle.find.specs.Answers.{Answer, value, _>>=_, numbered}
-use Rattle.find.specs.Recordings.{Chosen, recordingOf, startOf}
+use Rattle.recordings.specs.Answers.{Answer, value, _>>=_, numbered}
+use Rattle.recordings.specs.Recordings.{Chosen, recordingOf, startOf}
 use Rattle.samples.specs.declared.Number.{Number}
 use Rattle.samples.specs.declared.Number.the-variants as Number
 use Rattle.samples.specs.declared.Time.{Time}

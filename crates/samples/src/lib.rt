@@ -8,16 +8,16 @@ ghost use Rattle.walk.specs.See.{see, goes};
 ghost use Rattle.rules.specs.Rules as R;
 ghost use Rattle.rules.specs.Reading.{valueOf};
 ghost use Rattle.records.specs.Says.{Kept};
-ghost use Rattle.find.specs.Answers.{value, indexed};
+ghost use Rattle.recordings.specs.Answers.{value, indexed};
 ghost use Rattle.samples.specs.Frames.{timeOf, numberIn};
 ghost use Rattle.samples.specs.Asked.{runOf, refusalFramed, refusalRan, FramedAs, RanAs, Inside};
-use find::Found;
+use descriptions::Places;
+use recordings::Found;
 use rules::Channel;
 use rules::Channels;
 use rules::Frame;
 use rules::Frames;
 use rules::Refusal;
-use tables::Places;
 use words::Float;
 use words::Order;
 use words::float4;
@@ -97,11 +97,11 @@ pub fn of_ran(a: Ran) -> Refusal
 pub fn frame_asked(file: &[u8], recording: usize, frame: usize) -> Framed
     ensures { λ a. ⌜ FramedAs (now (file .entry)) recording frame a ⌝ }
 {
-    let found = find::recording_asked(file, recording);
+    let found = recordings::recording_asked(file, recording);
     let Found::At(order, q) = found else {
-        return Framed::Refused(find::of_found(found));
+        return Framed::Refused(recordings::of_found(found));
     };
-    if !find::within(frame, q.total) {
+    if !recordings::within(frame, q.total) {
         return Framed::Refused(Refusal(19, 0));
     }
     let before = records::less(frame, FIRST_FRAME);
@@ -164,7 +164,7 @@ pub fn samples_asked(file: &[u8], recording: usize, frame: usize, channel: usize
     let Framed::At(order, q, at) = framed else {
         return Ran::Refused(of_framed(framed));
     };
-    if !find::within(channel, q.count) {
+    if !recordings::within(channel, q.count) {
         return Ran::Refused(Refusal(19, 0));
     }
     let subs = q.channels + Channels::SUBS;

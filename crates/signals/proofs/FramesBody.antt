@@ -22,7 +22,7 @@ use Rattle.records.specs.Says.{halts, tested, resumed}
 use Rattle.records.specs.declared.Tested.{Tested}
 use Rattle.records.specs.declared.Tested.the-variants as Tested
 use Rattle.records.proofs.Facts.{between-in}
-use Rattle.tables.proofs.Stands.{yields-weaken, yields-past}
+use Rattle.descriptions.proofs.Stands.{yields-weaken, yields-past}
 use Rattle.signals.specs.Framed.{framesOf}
 use Rattle.signals.specs.Shaped.{fieldTests, behindFields, Shapes}
 use Rattle.signals.specs.declared.frames.Shape.{Shape}

@@ -21,8 +21,8 @@ use Rattle.rules.specs.declared.Frames.{Frames}
 use Rattle.rules.specs.declared.Head.{Head}
 use Rattle.rules.proofs.Room.{stays-framesRest}
 use Rattle.records.specs.Says.{headOf, Headroom, headroom}
-use Rattle.tables.specs.Halves.{Tables, signals}
-use Rattle.tables.proofs.Stands.{yields-past}
+use Rattle.descriptions.specs.Halves.{Tables, signals}
+use Rattle.descriptions.proofs.Stands.{yields-past}
 use Rattle.signals.specs.Framed.{framesOf}
 use Rattle.signals.specs.Signaled.{Known, Whole}
 use Rattle.signals.proofs.FramesBody.{yields-frames}

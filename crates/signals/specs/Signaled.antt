@@ -14,7 +14,7 @@ use Rattle.rules.specs.declared.Frames.{Frames}
 use Rattle.rules.specs.declared.Head.{Head}
 use Rattle.rules.specs.declared.Refusal.{Refusal}
 use Rattle.records.specs.Says.{halts, headOf, Kept}
-use Rattle.tables.specs.Halves.{Tables}
+use Rattle.descriptions.specs.Halves.{Tables}
 use Rattle.signals.specs.declared.frames.Framed.{Framed}
 use Rattle.signals.specs.declared.frames.Framed.the-variants as Framed
 

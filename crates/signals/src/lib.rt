@@ -9,7 +9,7 @@ ghost use Rattle.words.specs.declared.Order.{Order};
 ghost use Rattle.walk.specs.See.{gate, see};
 ghost use Rattle.rules.specs.Rules as R;
 ghost use Rattle.records.specs.Says.{tested};
-ghost use Rattle.tables.specs.Halves.{Tables, signals};
+ghost use Rattle.descriptions.specs.Halves.{Tables, signals};
 ghost use Rattle.signals.specs.Signaled.{refusalF, Known, Signaled};
 use crate::frames::Framed;
 use records::Headed;

@@ -28,11 +28,11 @@ use Rattle.rules.specs.Rules.{head, coded, admit, span, basic, next, part, chan
 use Rattle.rules.specs.declared.Head.{Head}
 use Rattle.rules.proofs.Room.{stays-recordingBody, stays-recording}
 use Rattle.records.specs.Says.{Kept}
-use Rattle.tables.specs.Halves.{Tables, tables, signals}
-use Rattle.tables.specs.Tabled.{Stand, HeldAs}
-use Rattle.tables.specs.declared.Before.{Before}
-use Rattle.tables.specs.declared.Before.the-variants as Before
-use Rattle.tables.specs.declared.Places.{Places}
+use Rattle.descriptions.specs.Halves.{Tables, tables, signals}
+use Rattle.descriptions.specs.Tabled.{Stand, HeldAs}
+use Rattle.descriptions.specs.declared.Before.{Before}
+use Rattle.descriptions.specs.declared.Before.the-variants as Before
+use Rattle.descriptions.specs.declared.Places.{Places}
 use Rattle.judge.specs.Recorded.{leaves, Places-of}
 use Rattle.judge.proofs.Led.{Led, led, led-stop}
 use Rattle.rows.specs.Rows.{Marks}
@@ -41,7 +41,7 @@ use Rattle.rows.proofs.Recorded.{Begun, begun, led-events}
 use Rattle.bodies.specs.Copy.{copy, Pastes, Holds, RecordCopied}
 use Rattle.bodies.specs.declared.Way.{Way}
 use Rattle.bodies.proofs.Copying.{copy-bind, copy-part, length-copy, holds-join}
-use Rattle.copies.proofs.Onward.{copy-admit}
+use Rattle.transcripts.proofs.Onward.{copy-admit}
 use Rattle.turn.proofs.Turning.{filled-first, read-part, copy-require, copy-padding}
 
 -- one walk after two others is one after the first, and then the second

@@ -33,7 +33,7 @@ use Rattle.rows.proofs.Lists.{admit-went, require-went}
 use Rattle.bodies.specs.Copy.{copy, filling}
 use Rattle.bodies.specs.declared.Way.{Way}
 use Rattle.bodies.proofs.Copying.{copy-part, copy-body, length-copy}
-use Rattle.copies.proofs.Onward.{copy-admit}
+use Rattle.transcripts.proofs.Onward.{copy-admit}
 
 -- bytes written front to back: the first of them, and a part behind what stands
 pub filled-first : (d₀ ys : List ℕ) (m : ℕ) → length ys ≡ m → ys ++ drop m d₀ ≡ pasted d₀ 0 ys

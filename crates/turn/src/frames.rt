@@ -17,8 +17,6 @@ use bodies::runs::numbers;
 use bodies::runs::reserved;
 use bodies::widths_of;
 use bulk::copy_run;
-use copies::Marked;
-use copies::next;
 use records::Fits;
 use records::Serial;
 use records::Step;
@@ -26,6 +24,8 @@ use rules::Channels;
 use rules::Frame;
 use rules::Frames;
 use rules::Head;
+use transcripts::Marked;
+use transcripts::next;
 
 // A record 145 whose samples end at byte `filled`.
 fn frame(

@@ -9,19 +9,19 @@ ghost use Rattle.words.specs.Runs.{pasted};
 ghost use Rattle.walk.specs.See.{see, goes};
 ghost use Rattle.rules.specs.Rules as R;
 ghost use Rattle.records.specs.Says.{Kept};
-ghost use Rattle.tables.specs.Tabled.{Room, Stand};
+ghost use Rattle.descriptions.specs.Tabled.{Room, Stand};
 ghost use Rattle.bodies.specs.Copy.{copy, Holds};
 ghost use Rattle.turn.specs.Turn.{turning};
 use bodies::Way;
 use bodies::runs::letter;
 use bulk::copy_run;
+use descriptions::Before;
+use descriptions::Places;
 use judge::recording::Recorded;
 use judge::recording::recording_again;
 use rules::Channels;
 use rules::FileHeader;
 use rules::Head;
-use tables::Before;
-use tables::Places;
 use words::Order;
 
 // The other order.
@@ -49,13 +49,13 @@ fn body(w: Way, file: &[u8], cs: Channels, s: &[u8], base: usize, out: &mut [u8]
     requires { ⌜ (cs .subs + 256 * cs .count ≤ length (now file)) × (cs .count ≤ 128) × (base + length (now s) < 9223372036854775808) × (k ≤ length (now out)) ⌝ }
     ensures { λ _. ⌜ ((held : Option R.Held) (h : R.Head) (x : R.Placed) (e : ℕ) → R.span h ≡ 16 + length (now (s .entry)) → length (x .recording .channels) ≡ cs .count → Kept (w .from) (now (file .entry)) (cs .subs) (x .recording .channels) → see (w .from) base (now (s .entry)) base (R.recordingBody held h) ≡ goes x e → Holds (now (out .entry)) (now (out .exit)) k (copy w base (now (s .entry)) base (R.recordingBody held h))) ⌝ }
 {
-    let t = copies::tables(w, s, base, out, k);
+    let t = transcripts::tables(w, s, base, out, k);
     let d = crate::frames::frames(w, file, cs, s, base, t.next, out, t.k);
     let rest = d.next.at + Head::LENGTH;
     if s.len() < rest {
         return;
     }
-    copies::text(&s[rest..], out, d.k);
+    transcripts::text(&s[rest..], out, d.k);
 }
 
 // The recording from byte p of the file on, which has these places.
@@ -68,7 +68,7 @@ fn recording(w: Way, file: &[u8], p: usize, q: Places, out: &mut [u8])
     if end < base {
         return;
     }
-    let k = copies::head(w, file, p, out, p);
+    let k = transcripts::head(w, file, p, out, p);
     let cs = Channels {
         subs: q.channels + Channels::SUBS,
         count: q.count,

@@ -3,7 +3,7 @@ use native.Mathlib.Nat.{zero-add}
 use native.Mathlib.Omega.{arith}
 use borrow.Author.Needs.{needs}
 use lib.ListN.{length}
-use Rattle.tables.specs.Tabled.{Within}
+use Rattle.descriptions.specs.Tabled.{Within}
 use Rattle.judge.proofs.Recordings.{Going, going-start, going-none, going-stop, going-on}
 use Rattle.judge.proofs.recordings_from.Statement.{statement}
 use Rattle.judge.proofs.recordings_from.Tie as tie

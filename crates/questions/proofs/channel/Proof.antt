@@ -10,7 +10,7 @@ use denote.Ref.{now}
 use lib.ListN.{length}
 use Rattle.rules.specs.Rules as R
 use Rattle.records.proofs.Facts.{between-in}
-use Rattle.tables.specs.Tabled.{Room}
+use Rattle.descriptions.specs.Tabled.{Room}
 use Rattle.questions.proofs.Replies.{channel-refused, channel-outside, channel-told}
 use Rattle.questions.proofs.channel.Statement.{statement}
 use Rattle.questions.proofs.channel.Tie as tie

@@ -10,7 +10,7 @@ use denote.Ref.{now}
 use lib.ListN.{length}
 use Rattle.rules.specs.Rules as R
 use Rattle.records.proofs.Facts.{between-in}
-use Rattle.tables.specs.Tabled.{Room}
+use Rattle.descriptions.specs.Tabled.{Room}
 use Rattle.samples.proofs.Sampling.{samples-refused, samples-outside, samples-found-at}
 use Rattle.samples.proofs.samples_asked.Statement.{statement}
 use Rattle.samples.proofs.samples_asked.Tie as tie

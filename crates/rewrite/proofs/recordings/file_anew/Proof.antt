@@ -11,7 +11,7 @@ use lib.Seq.{length-take-le}
 use borrow.Author.Needs.{needs}
 use Rattle.walk.specs.See.{see, goes}
 use Rattle.rules.specs.Rules.{Placed, recordings}
-use Rattle.tables.specs.Tabled.{Within}
+use Rattle.descriptions.specs.Tabled.{Within}
 use Rattle.rewrite.proofs.Files.{going-led, going-stop, Written, written-start, written-next, written-end, behind-header}
 use Rattle.rewrite.proofs.recordings.file_anew.Statement.{statement}
 use Rattle.rewrite.proofs.recordings.file_anew.Tie as tie

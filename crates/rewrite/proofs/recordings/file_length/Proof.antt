@@ -9,7 +9,7 @@ use lib.ListN.{length}
 use borrow.Author.Needs.{needs}
 use Rattle.walk.specs.See.{see, goes}
 use Rattle.rules.specs.Rules.{Placed, recordings}
-use Rattle.tables.specs.Tabled.{Within}
+use Rattle.descriptions.specs.Tabled.{Within}
 use Rattle.rewrite.proofs.Files.{length-most, going-led, going-stop, Counted, counted-start, counted-next, counted-end}
 use Rattle.rewrite.proofs.recordings.file_length.Statement.{statement}
 use Rattle.rewrite.proofs.recordings.file_length.Tie as tie

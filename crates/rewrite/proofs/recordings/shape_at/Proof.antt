@@ -8,7 +8,7 @@ use lib.ListN.{length, take, drop, length-drop}
 use lib.Seq.{length-take-le}
 use Rattle.words.proofs.Words.{bytes}
 use Rattle.rows.proofs.Recorded.{within}
-use Rattle.shapes.proofs.Lengths.{within-at}
+use Rattle.measures.proofs.Lengths.{within-at}
 use Rattle.rewrite.proofs.recordings.shape_at.Statement.{statement}
 use Rattle.rewrite.proofs.recordings.shape_at.Tie as tie
 

@@ -10,7 +10,7 @@ use Rattle.rules.proofs.Room.{stays-framesRest}
 use Rattle.records.specs.Says.{headOf}
 use Rattle.signals.proofs.FramesBody.{body-fills}
 use Rattle.rows.proofs.Lists.{frames-refused}
-use Rattle.copies.proofs.Onward.{record-copied}
+use Rattle.transcripts.proofs.Onward.{record-copied}
 use Rattle.turn.proofs.Turning.{frames-in}
 use borrow.Author.Needs.{needs}
 use Rattle.turn.proofs.frames.frames.Statement.{statement}

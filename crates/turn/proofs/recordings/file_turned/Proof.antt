@@ -11,7 +11,7 @@ use lib.ListN.{length}
 use lib.Seq.{length-take-le}
 use Rattle.walk.specs.See.{see, goes}
 use Rattle.rules.specs.Rules.{Placed, recordings}
-use Rattle.tables.specs.Tabled.{Within}
+use Rattle.descriptions.specs.Tabled.{Within}
 use Rattle.turn.proofs.Sent.{Sending, sending-start, sending-led, sending-stop, sending-next, sending-end, file-copied}
 use borrow.Author.Needs.{needs}
 use Rattle.turn.proofs.recordings.file_turned.Statement.{statement}

@@ -1,0 +1,103 @@
+-- The channels of a 120 that passed stand in its bytes, and so in the file; and the counts of a 100 that passed.
+-- Assumes nothing.
+use mathlib.Core.Path.{_≡_, ap, _∙_}
+use mathlib.Core.Bool.{Bool, true, false}
+use mathlib.Core.List.{List, [], _∷_}
+use mathlib.Core.Option.{Option, none, some}
+use Prim.Native.Nat.{ℕ, _+_, _*_, _-_, _≤_}
+use native.Mathlib.Nat.{add-assoc}
+use native.Mathlib.Omega.{arith}
+use borrow.Author.Tests.{eqb-true}
+use lib.ListN.{length, take, drop}
+use Rattle.words.specs.declared.Order.{Order}
+use Rattle.words.specs.Numbers.{wordIn, bytesAt, numberAt}
+use Rattle.walk.specs.Walk.{laid, Walk, give, refuse, check, number, read, skip, list, pick, _>>=_, _>>_}
+use Rattle.walk.specs.See.{goes, see, Yields}
+use Rattle.walk.proofs.Seen.{yields, yields-bind, part-bytes}
+use Rattle.rules.specs.Rules as R
+use Rattle.rules.specs.Rules.{fixed, head, admit, basicBody, channels, channelsBody, channel, series}
+use Rattle.records.specs.Says.{Kept}
+use Rattle.records.proofs.Facts.{between-in}
+use Rattle.records.proofs.Steps.{yields-channels}
+use Rattle.descriptions.specs.Tabled.{HeldIs, HeldAs, Within, Stand, Room, Owned, Value, heldAt, channelsIn, countIn}
+use Rattle.descriptions.specs.declared.Before.{Before}
+use Rattle.descriptions.specs.declared.Before.the-variants as Before
+
+pub yields-basic : (o : Order) (b : ℕ) (s : List ℕ) (room at : ℕ) → Yields o b s at (R.basic room) (λ x e. (1 ≤ x .channels) × (x .channels ≤ 128) × (x .frames ≤ 1000000))
+unfolding fixed head admit basicBody _>>=_ _>>_
+yields-basic o b s room at _ _ _ _ _ _ c f _ _ _ _ _ _ _ = (between-in 1 128 _ c .0, between-in 1 128 _ c .1, between-in 1 1000000 _ f .1)
+
+-- less may be said of the answer
+pub yields-weaken : {A : Type 0} (o : Order) (b : ℕ) (s : List ℕ) (w : Walk A) (at : ℕ) (Q R : A → ℕ → Type 0) → ((a : A) (e : ℕ) → Q a e → R a e) → Yields o b s at w Q → Yields o b s at w R
+yields-weaken o b s (give x) at Q R i h = i x at h
+yields-weaken o b s (refuse n p) at Q R i h = tt
+yields-weaken o b s (check c n p w) at Q R i h = λ e. yields-weaken o b s w at Q R i (h e)
+yields-weaken o b s (number n f) at Q R i h = yields-weaken o b s (f (numberAt o n s (at - b))) (at + n) Q R i h
+yields-weaken o b s (read k n f) at Q R i h = yields-weaken o b s (f _) (at + n) Q R i h
+yields-weaken o b s (skip n w) at Q R i h = yields-weaken o b s w (at + n) Q R i h
+yields-weaken o b s (list p l c m w) at Q R i h = yields-weaken o b s w at Q R i h
+
+-- of any walk nothing need be said
+yields-any : {A : Type 0} (o : Order) (b : ℕ) (s : List ℕ) (w : Walk A) (at : ℕ) → Yields o b s at w (λ _ _. Unit {0})
+yields-any o b s (give x) at = tt
+yields-any o b s (refuse n p) at = tt
+yields-any o b s (check c n p w) at = λ _. yields-any o b s w at
+yields-any o b s (number n f) at = yields-any o b s (f (numberAt o n s (at - b))) (at + n)
+yields-any o b s (read k n f) at = yields-any o b s (f (laid o k (bytesAt n s (at - b)))) (at + n)
+yields-any o b s (skip n w) at = yields-any o b s w (at + n)
+yields-any o b s (list p l c m w) at = yields-any o b s w at
+
+-- so of a step, where what follows does not ask
+pub yields-past : {A B : Type 0} (o : Order) (b : ℕ) (s : List ℕ) (w : Walk A) (k : A → Walk B) (at : ℕ) (R : B → ℕ → Type 0) → ((a : A) (e : ℕ) → Yields o b s e (k a) R) → Yields o b s at (w >>= k) R
+yields-past o b s w k at R g = yields-bind o b s w k at (λ _ _. Unit {0}) R (yields-any o b s w at) (λ a e _. g a e)
+
+-- the rest of the 120 at byte p
+yields-rest : (o : Order) (b : ℕ) (s : List ℕ) (x : R.Basic) (room : ℕ) (h : R.Head) (p : ℕ) → Yields o b s (b + (p + 16)) (channels x room h) (λ cs e. Stand o s p (x .channels) cs × (x .channels ≤ 128) × (e ≡ b + (p + 32 + 256 * x .channels)))
+unfolding channels channelsBody admit _>>=_ _>>_
+yields-rest o b s x room h p _ _ _ c₁ c₂ _ _ =
+    let m : ℕ = numberAt o 4 s (b + (p + 16) - b) in
+    let d : m ≡ x .channels = eqb-true m (x .channels) c₂ in
+    let l : m ≤ 128 = between-in 1 128 m c₁ .1 in
+    let z : b + (p + 16) + 4 + 4 + 8 ≡ b + (p + 32) = omega arith in
+    rw z (yields-weaken o b s (series m 1 256 (R.span h - 32) channel) (b + (p + 32)) _ _
+    (λ cs e q. ((q .1 ∙ d, q .0), omega arith, rw d at (q .2)))
+    (yields-channels o b s (R.span h - 32) m 1 (p + 32)))
+
+-- so of the channels that the walk gives, where it ends at byte q
+pub owned : (o : Order) (b : ℕ) (s : List ℕ) (x : R.Basic) (room : ℕ) (h : R.Head) (p q m : ℕ) → x .channels ≡ m → q ≤ length s → (cs : List R.Channel) → see o b s (b + (p + 16)) (channels x room h) ≡ goes cs (b + q) → Owned o s p m cs
+owned o b s x room h p q m i l cs k =
+    let y : Stand o s p (x .channels) cs × (x .channels ≤ 128) × (b + q ≡ b + (p + 32 + 256 * x .channels)) = yields o b s (channels x room h) (b + (p + 16)) _ (yields-rest o b s x room h p) k in
+    rw (← i) (y .0, (omega (arith, y .2), y .1))
+
+-- what stands in a part of the file stands in the file
+module _ (o : Order) (base n : ℕ) (s file : List ℕ) (is : s ≡ take n (drop base file)) where
+  number-part : (p d : ℕ) → p + d + 4 ≤ n → numberAt o 4 s (p + d) ≡ numberAt o 4 file (base + p + d)
+  unfolding numberAt
+  number-part p d l =
+      let z : base + (p + d) ≡ base + p + d = omega arith in
+      ap (λ (x : List ℕ). wordIn o (take 4 (drop (p + d) x))) is ∙ ap (wordIn o) (part-bytes file base n (p + d) 4 l) ∙ ap (λ (x : ℕ). wordIn o (take 4 (drop x file))) z
+
+  kept-part : (p : ℕ) (cs : List R.Channel) → p + 256 * length cs ≤ n → Kept o s p cs → Kept o file (base + p) cs
+  kept-part p [] l k = tt
+  kept-part p (c ∷ cs) l k =
+      (k .0 ∙ number-part p 20 (omega arith), k .1 ∙ number-part p 28 (omega arith), k .2 ∙ number-part p 32 (omega arith), rw (add-assoc base p 256) (kept-part (p + 256) cs (omega arith) (k .3)))
+
+  stand-part : (p m : ℕ) (cs : List R.Channel) → p + 32 + 256 * m ≤ n → Stand o s p m cs → Stand o file (base + p) m cs
+  stand-part p m cs l k = (k .0, rw (add-assoc base p 32) (kept-part (p + 32) cs (rw (k .0) l) (k .1)))
+
+-- the channels that hold: own ones, or those of the recording before
+module _ (o : Order) (base : ℕ) (s : List ℕ) (p m : ℕ) where
+  pub stand : (file : List ℕ) (before : Before) (held : Option R.Held) (own : Bool) (at : ℕ) (cs : List R.Channel) → s ≡ take (length s) (drop base file) → HeldAs o file before held → Value (Owned o s p m) (R.heldChannels held) own cs → at ≡ pick own (base + p) (heldAt (channelsIn before)) → Stand o file at (pick own m (countIn before)) cs
+  stand file before held true at cs is h v e = rw e (stand-part o base (length s) s file is p m cs (v .1 .0) (v .0))
+  stand file Before.Nothing none false at cs is h v e = absurd (let z : _≡_ {A = ℕ} 0 1 = cc in omega arith)
+  stand file Before.Nothing (some x) false at cs is h v e = absurd h
+  stand file (Before.These q) none false at cs is h v e = absurd h
+  stand file (Before.These q) (some x) false at cs is h v e =
+      let d : cs ≡ x .channels = cc in
+      rw (e, d) h
+
+  pub room : (before : Before) (hv : Option (List R.Channel)) (own : Bool) (at : ℕ) (cs : List R.Channel) → HeldIs (channelsIn before) hv → Value (Owned o s p m) hv own cs → at ≡ pick own (base + p) (heldAt (channelsIn before)) → (L : ℕ) → base + length s ≤ L → Within L before → Room L at (pick own m (countIn before))
+  room before hv true at cs i v e L l w = (omega (arith, v .1 .0), v .1 .1)
+  room Before.Nothing none false at cs i v e L l w = absurd (let z : _≡_ {A = ℕ} 0 1 = cc in omega arith)
+  room Before.Nothing (some x) false at cs i v e L l w = absurd i
+  room (Before.These q) hv false at cs i v e L l w = rw e w

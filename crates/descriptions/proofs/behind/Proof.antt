@@ -1,0 +1,39 @@
+use mathlib.Core.Path.{refl}
+use borrow.Author.Needs.{needs}
+use Rattle.descriptions.proofs.behind.Statement.{statement}
+use Rattle.descriptions.proofs.behind.Tie as tie
+
+next-head-requires : tie.Need-next-head-requires
+next-head-requires c κs = search needs
+
+enum-known-found : tie.Need-enum-known-found
+enum-known-found c = search needs
+
+enum-told : tie.Need-enum-told
+enum-told c = search needs
+
+of-head-requires : tie.Need-of-head-requires
+of-head-requires c κs = search needs
+
+returns : tie.Need-returns
+returns c = simp (c .of-head .ensures, c .before .enum-told .given .1) (rw (c .before .enum-told .given .1) at (c .before .before .before .next-head .ensures .0), tt)
+
+add-t9 : tie.Need-add-t9
+add-t9 c = search needs
+
+returns-2 : tie.Need-returns-2
+returns-2 c =
+    let w = rw (c .before .found .given .1) at (c .before .before .before .next-head .ensures .1) in
+    (rw (c .before .found .given .1) at (c .before .before .before .next-head .ensures .0), (refl, refl, w .0, w .1))
+
+pub behind-spec : {M : Type 1} → statement M
+behind-spec =
+    tie.close
+    (tie.spec
+    next-head-requires
+    enum-known-found
+    enum-told
+    of-head-requires
+    returns
+    add-t9
+    returns-2)

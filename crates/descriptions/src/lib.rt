@@ -1,0 +1,259 @@
+// The tables of a recording: record 100, and 120, 130 and 200, each of which may be absent.
+ghost use mathlib.Core.Path.{_≡_};
+ghost use mathlib.Core.List.{List};
+ghost use mathlib.Core.Option.{Option};
+ghost use Prim.Native.Nat.{ℕ, _+_, _-_, _≤_, _<_};
+ghost use lib.ListN.{length, take, drop};
+ghost use Rattle.walk.specs.Walk.{pick};
+ghost use Rattle.walk.specs.See.{see, over};
+ghost use Rattle.rules.specs.Rules as R;
+ghost use Rattle.records.specs.Says.{headroom, okOf};
+ghost use Rattle.descriptions.specs.Tabled.{refusalBasic, refusalPart, refusalTables, channelsIn, patientIn, countIn, codeOf, Owned, HeldAs, lacking, followed, Follows, Stood, Judges, tabled, Ready};
+use records::Basiced;
+use records::Headed;
+use records::Kind;
+use records::Step;
+use rules::Basic;
+use rules::Channels;
+use rules::Events;
+use rules::Head;
+use rules::Patient;
+use rules::Refusal;
+use words::Order;
+
+// Where a recording stands, and the records that hold for it.
+pub struct Places {
+    pub start: usize,
+    pub end: usize,
+    pub channels: usize,
+    pub count: u32,
+    pub patient: usize,
+    pub has_events: bool,
+    pub events: usize,
+    pub frames: usize,
+    pub frame: usize,
+    pub total: u32,
+    pub seconds: u32,
+}
+
+// The recording before, whose 120 and 130 hold where a recording has none.
+pub enum Before {
+    Nothing,
+    These(Places),
+}
+
+// Where the record stands that holds in the place of one that is absent.
+pub enum Held {
+    Nothing,
+    At(usize),
+}
+
+// A part that may be absent: whether it is there, where the one that holds stands, and the head behind it.
+pub struct Part {
+    pub own: bool,
+    pub at: usize,
+    pub next: Head,
+}
+
+pub enum Parted {
+    On(Part),
+    Stop(Refusal),
+}
+
+// The parts before the 140, and its head; `count` is how many channels hold.
+pub struct Tables {
+    pub basic: Basic,
+    pub own: bool,
+    pub channels: usize,
+    pub count: u32,
+    pub patient: usize,
+    pub has_events: bool,
+    pub events: usize,
+    pub next: Head,
+}
+
+pub enum Tabled {
+    On(Tables),
+    Stop(Refusal),
+}
+
+fn of_basic(a: Basiced) -> Refusal
+    ensures { λ r. ⌜ r ≡ refusalBasic a ⌝ }
+{
+    match a {
+        Basiced::Holds(_) => Refusal(0, 0),
+        Basiced::Stop(r) => r,
+    }
+}
+
+fn of_part(a: Parted) -> Refusal
+    ensures { λ r. ⌜ r ≡ refusalPart a ⌝ }
+{
+    match a {
+        Parted::On(_) => Refusal(0, 0),
+        Parted::Stop(r) => r,
+    }
+}
+
+pub fn of_tables(a: Tabled) -> Refusal
+    ensures { λ r. ⌜ r ≡ refusalTables a ⌝ }
+{
+    match a {
+        Tabled::On(_) => Refusal(0, 0),
+        Tabled::Stop(r) => r,
+    }
+}
+
+fn held_channels(b: Before) -> Held
+    ensures { λ r. ⌜ r ≡ channelsIn b ⌝ }
+{
+    match b {
+        Before::Nothing => Held::Nothing,
+        Before::These(p) => Held::At(p.channels),
+    }
+}
+
+fn held_patient(b: Before) -> Held
+    ensures { λ r. ⌜ r ≡ patientIn b ⌝ }
+{
+    match b {
+        Before::Nothing => Held::Nothing,
+        Before::These(p) => Held::At(p.patient),
+    }
+}
+
+fn held_count(b: Before) -> u32
+    ensures { λ r. ⌜ r ≡ countIn b ⌝ }
+{
+    match b {
+        Before::Nothing => 0,
+        Before::These(p) => p.count,
+    }
+}
+
+// How many channels hold: as many as record 100 says, or those taken over.
+fn count_of(own: bool, channels: u32, before: Before) -> u32
+    ensures { λ r. ⌜ r ≡ pick own channels (countIn before) ⌝ }
+{
+    if own {
+        return channels;
+    }
+    held_count(before)
+}
+
+fn items_code(k: Kind) -> u32
+    ensures { λ r. ⌜ r ≡ codeOf k ⌝ }
+{
+    match k {
+        Kind::Patient => Patient::CODE,
+        Kind::Event => Events::CODE,
+    }
+}
+
+// A part that is absent: what holds in its place, or the refusal of the head that stands there.
+fn absent(base: usize, h: Head, held: Held) -> Parted
+    requires { ⌜ base + (h .at + 4) < 9223372036854775808 ⌝ }
+    ensures { λ a. ⌜ a ≡ lacking base h held ⌝ }
+{
+    match held {
+        Held::Nothing => Parted::Stop(Refusal(9, base + h.at + Head::CODE)),
+        Held::At(at) => Parted::On(Part {
+            own: false,
+            at,
+            next: h,
+        }),
+    }
+}
+
+// A part that stands at byte `at` and stops at byte `end`: the head of the next record.
+fn behind(o: Order, s: &[u8], base: usize, at: usize, end: usize) -> Parted
+    requires { ⌜ (at ≤ end) × (end ≤ length (now s)) × (base + length (now s) < 9223372036854775808) ⌝ }
+    ensures { λ a. ⌜ ((fuel : ℕ) → length (now (s .entry)) < end + fuel → over headroom (see o base (now (s .entry)) (base + end) (R.next fuel (length (now (s .entry)) - end))) ≡ followed base (length (now (s .entry))) a) × Stood (base + at) end (length (now (s .entry))) a ⌝ }
+{
+    let found = records::next_head(o, s, base, end);
+    let Headed::At(next) = found else {
+        return Parted::Stop(records::of_head(found));
+    };
+    Parted::On(Part {
+        own: true,
+        at: base + at,
+        next,
+    })
+}
+
+fn channels_part(o: Order, s: &[u8], base: usize, h: Head, channels: u32, held: Held) -> Parted
+    requires { ⌜ (h .at + 16 ≤ length (now s)) × (base + length (now s) < 9223372036854775808) ⌝ }
+    ensures { λ a. ⌜ ((b : R.Basic) → b .channels ≡ channels → Judges o base (now (s .entry)) 120 (R.channels b) (Owned o (now (s .entry)) (h .at) channels) h held a) × Follows (h .at) (length (now (s .entry))) a ⌝ }
+{
+    if h.code != Channels::CODE {
+        return absent(base, h, held);
+    }
+    let step = records::channels_at(o, s, base, h, channels);
+    let Step::On(end) = step else {
+        return Parted::Stop(records::of_step(step));
+    };
+    behind(o, s, base, h.at, end)
+}
+
+fn items_part(o: Order, k: Kind, s: &[u8], base: usize, h: Head, held: Held) -> Parted
+    requires { ⌜ (h .at + 16 ≤ length (now s)) × (base + length (now s) < 9223372036854775808) ⌝ }
+    ensures { λ a. ⌜ Judges o base (now (s .entry)) (codeOf k) (R.items (okOf k)) (λ _. Unit {0}) h held a × Follows (h .at) (length (now (s .entry))) a ⌝ }
+{
+    if h.code != items_code(k) {
+        return absent(base, h, held);
+    }
+    let step = records::items_at(o, k, s, base, h);
+    let Step::On(end) = step else {
+        return Parted::Stop(records::of_step(step));
+    };
+    behind(o, s, base, h.at, end)
+}
+
+// The tables of the recording whose body is s, which stands at `base` in the file.
+pub fn read_tables(o: Order, s: &[u8], base: usize, before: Before) -> Tabled
+    requires { ⌜ (16 ≤ base) × (base + length (now s) < 9223372036854775808) ⌝ }
+    ensures { λ a. ⌜ ((file : List ℕ) (held : Option R.Held) → now (s .entry) ≡ take (length (now (s .entry))) (drop base file) → HeldAs o file before held → tabled o file base held (now (s .entry)) before a) × Ready base (length (now (s .entry))) before a ⌝ }
+{
+    let first = records::basic_at(o, s, base, 0);
+    let Basiced::Holds(basic) = first else {
+        return Tabled::Stop(of_basic(first));
+    };
+    let found = records::next_head(o, s, base, Basic::LENGTH);
+    let Headed::At(h) = found else {
+        return Tabled::Stop(records::of_head(found));
+    };
+    let cs = channels_part(o, s, base, h, basic.channels, held_channels(before));
+    let Parted::On(c) = cs else {
+        return Tabled::Stop(of_part(cs));
+    };
+    let ps = items_part(o, Kind::Patient, s, base, c.next, held_patient(before));
+    let Parted::On(p) = ps else {
+        return Tabled::Stop(of_part(ps));
+    };
+    let es = items_part(o, Kind::Event, s, base, p.next, Held::At(0));
+    let Parted::On(e) = es else {
+        return Tabled::Stop(of_part(es));
+    };
+    let next = e.next;
+    Tabled::On(Tables {
+        basic,
+        own: c.own,
+        channels: c.at,
+        count: count_of(c.own, basic.channels, before),
+        patient: p.at,
+        has_events: e.own,
+        events: e.at,
+        next,
+    })
+}
+
+// The channels of a recording: its own, or those taken over.
+pub fn channels_of(t: Tables) -> Channels
+    requires { ⌜ t .channels + 32 < 18446744073709551616 ⌝ }
+    ensures { λ r. ⌜ (r .subs ≡ t .channels + 32) × (r .count ≡ t .count) ⌝ }
+{
+    Channels {
+        subs: t.channels + Channels::SUBS,
+        count: t.count,
+    }
+}

@@ -1,0 +1,226 @@
+-- What the walk of a recording's body came to, for what the code measures of it: where its 140 stands, and how long the canonical form is.
+-- Assumes nothing.
+use mathlib.Core.Path.{_≡_, refl, sym, ap, _∙_}
+use mathlib.Core.Bool.{Bool}
+use mathlib.Core.List.{List, [], _++_}
+use mathlib.Core.Option.{Option, some}
+use Prim.Native.Nat.{ℕ, _+_, _-_, _*_, _≤_, _<_}
+use native.Mathlib.Omega.{arith}
+use borrow.Author.Tests.{leb-true, eqb-true}
+use lib.Dec.{leb, eqb}
+use lib.ListN.{length, drop}
+use Rattle.words.specs.Numbers.{Bytes}
+use Rattle.words.specs.declared.Order.{Order}
+use Rattle.words.proofs.Words.{bytes-take, bytes-drop}
+use Rattle.walk.specs.Walk.{Event, size, Walk, _>>=_, _>>_, Outcome, refused, passed, run}
+use Rattle.walk.specs.Plays.{Plays}
+use Rattle.walk.specs.See.{goes, see, Stays}
+use Rattle.walk.specs.Trace.{trace}
+use Rattle.walk.proofs.Laws.{read-of, size-append, size-cleared}
+use Rattle.walk.proofs.Seen.{seen, stays-goes, stays-bind, body-length}
+use Rattle.walk.proofs.Tracing.{size-trace}
+use Rattle.walk.proofs.Went.{gate-went, goes-same, by-onward, by-went, by-then}
+use Rattle.rules.specs.Rules.{Head, head, span, padOk, padding, Basic, basic, channels, items, patientCode, eventCode, Frame, Frames, frames, Maker, Next, next, Held, heldChannels, heldPatient, Placed, contentLimit, delimiter, recordingBody, recording}
+use Rattle.rules.specs.Canonical.{recordOf, framesBytes, framesHead, framesWritten, makerEvents, delimiterHead, delimiterEvents, content, most, sizeFor, multiplierFor}
+use Rattle.rules.proofs.Room.{Behind, stays-basic, stays-next, stays-part, stays-channelsRest, stays-itemsRest, stays-framesRest}
+use Rattle.rules.proofs.Renew.{FramesOk, frames-ok, frames-size, next-ok}
+use Rattle.rules.proofs.Sized.{sized}
+use Rattle.descriptions.specs.Halves.{Tables, tables, signals}
+use Rattle.descriptions.proofs.Halves.{halves}
+use Rattle.rows.proofs.Lists.{require-went}
+use Rattle.rows.proofs.Recorded.{Within}
+use Rattle.measures.specs.Shapes.{limit}
+use Rattle.measures.proofs.Chained.{Stands, tablesEvents, tables-bare, content-tables}
+
+-- a walk that went on over bytes: what holds of its answer, and that it accepts the events that it read
+record Heard {A : Type 0} (w : Walk A) (Q : A → ℕ → Type 0) (a : A) (e : ℕ) : Type 0 where
+  holds : Q a e
+  events : List Event
+  plays : Plays events w a
+
+heard : {A : Type 0} (o : Order) (b : ℕ) (s : List ℕ) (L : ℕ) → L ≤ b + length s → Bytes s → (w : Walk A) (at : ℕ) (Q : A → ℕ → Type 0) {a : A} {e : ℕ} → b ≤ at → Stays L at w Q → see o b s at w ≡ goes a e → Heard w Q a e
+heard {A} o b s L fit bytes w at Q {a} {e} g h k = go (run o at (drop (at - b) s) w) refl
+  where
+    go : (y : Outcome A) → run o at (drop (at - b) s) w ≡ y → Heard w Q a e
+    go (refused n p) i = absurd (let v = rw i at (seen o b s L fit w at Q g h) ∙ k in let z : _≡_ {A = ℕ} 0 1 = cc in omega arith)
+    go (passed x r t) i =
+        let v = rw i at (seen o b s L fit w at Q g h) ∙ k in
+        record { holds = stays-goes o b s L fit w at Q g h k; events = t; plays = rw (← goes-same v .0) (read-of w o at (drop (at - b) s) (bytes-drop (at - b) s bytes) i .plays) }
+
+-- the tables of a recording of n bytes stay in it
+stays-tables : (held : Option Held) (n at : ℕ) → Stays (at + (n - 16)) at (tables held n) (λ t e. Behind (at + (n - 16)) n (t .events .next) e)
+unfolding tables
+stays-tables held n at =
+    let L : ℕ = at + (n - 16) in
+    stays-bind _ _ _ _ _ _ (stays-basic at (n - 16))
+    (λ b e₁ q₁. stays-bind _ _ _ _ _ _ (stays-next n (n - 144) n L e₁ (omega (arith, q₁)) (omega (arith, q₁)) (omega (arith, q₁)))
+    (λ r e₂ q₂. stays-bind _ _ _ _ _ _ (stays-part n 120 (channels b) (stays-channelsRest b) (heldChannels held) r L e₂ q₂)
+    (λ c e₃ q₃. stays-bind _ _ _ _ _ _ (stays-part n 130 (items patientCode) (stays-itemsRest patientCode) (heldPatient held) (c .next) L e₃ q₃)
+    (λ p e₄ q₄. stays-bind _ _ _ _ _ _ (stays-part n 200 (items eventCode) (stays-itemsRest eventCode) (some []) (p .next) L e₄ q₄)
+    (λ e e₅ q₅. q₅)))))
+
+-- what they came to: how long their canonical form is, and where the head stands that follows
+record Told (o : Order) (b : ℕ) (s : List ℕ) (n : ℕ) (t : Tables) (m : ℕ) : Type 0 where
+  held : Option Held
+  went : see o b s b (tables held n) ≡ goes t m
+  long : b + 16 + size (tablesEvents t) ≡ m
+  behind : Behind (b + (n - 16)) n (t .events .next) m
+  stands : Stands o b s (b + (n - 16)) (t .events .next) m
+
+tables-told : (o : Order) (b : ℕ) (s : List ℕ) (held : Option Held) (n : ℕ) {t : Tables} {m : ℕ} → n ≤ length s + 16 → see o b s b (tables held n) ≡ goes t m → Told o b s n t m
+unfolding size
+tables-told o b s held n {t} {m} l g =
+    let fit : b + (n - 16) ≤ b + length s = omega arith in
+    let r = tables-bare o b s held n t m l g in
+    let e = size-trace o b s (b + (n - 16)) fit (tables held n) b _ (omega arith) (stays-tables held n b) g in
+    let z = sym (size-cleared (trace o b s b (tables held n))) ∙ (ap size (r .0) ∙ size-append (tablesEvents t) _) in
+    record { held = held; went = g; long = omega (arith, e, z); behind = stays-goes o b s (b + (n - 16)) fit (tables held n) b _ (omega arith) (stays-tables held n b) g; stands = r .1 }
+
+-- a walk by the room that it is given, said otherwise
+moved : {A : Type 0} (o : Order) (b : ℕ) (s : List ℕ) (w : ℕ → Walk A) {a : A} (p p′ r r′ q q′ : ℕ) → p ≡ p′ → r ≡ r′ → q ≡ q′ → see o b s p (w r) ≡ goes a q → see o b s p′ (w r′) ≡ goes a q′
+moved o b s w p p′ r r′ q q′ i j k g = rw (i, j, k) at g
+
+-- a delimiter that the walk accepted
+
+no-head : (size code serial multiplier : ℕ) → size ≡ 0 → code ≡ 0 → serial ≡ 0 → multiplier ≡ 0 → _≡_ {A = Head} (record { size = size; code = code; serial = serial; multiplier = multiplier }) delimiterHead
+no-head size code serial multiplier p q r t = rw (p, q, r, t)
+
+delimiter-is : (o : Order) (b : ℕ) (s : List ℕ) (at : ℕ) (h : Head) {u : Unit {0}} {e : ℕ} → see o b s at (delimiter h) ≡ goes u e → h ≡ delimiterHead
+unfolding delimiter see _>>=_ _>>_
+delimiter-is o b s at h g =
+    let g₁ = gate-went _ _ _ _ g in
+    let g₂ = gate-went _ _ _ _ (g₁ .1) in
+    let g₃ = gate-went _ _ _ _ (g₂ .1) in
+    let g₄ = gate-went _ _ _ _ (g₃ .1) in
+    no-head (h .size) (h .code) (h .serial) (h .multiplier) (eqb-true (h .size) 0 (g₃ .0)) (eqb-true (h .code) 0 (g₁ .0)) (eqb-true (h .serial) 0 (g₄ .0)) (eqb-true (h .multiplier) 0 (g₂ .0))
+
+-- a recording's body that the walk accepted: the tables before its 140, which stands at byte `at` of the body, what follows it, and how long the canonical form is
+pub record Accepted (o : Order) (b : ℕ) (s : List ℕ) (x : Placed) : Type 0 where
+  pub at : ℕ
+  pub held : Option Held
+  pub before : Tables
+  pub begins : see o b s b (tables held (16 + length s)) ≡ goes before (b + (at + 16))
+  pub front : size (tablesEvents before) ≡ at
+  pub place : 16 + at ≡ x .layout .at140
+  pub inside : at + 16 ≤ length s
+  pub top : Head
+  pub stands : see o b s (b + at) (head (length s - at)) ≡ goes top (b + (at + 16))
+  pub counts : Basic
+  pub own : Bool
+  pub back : ℕ
+  pub value : Frames
+  pub went : see o b s (b + (at + 16)) (frames counts own (x .recording .channels) back (length s - at) top) ≡ goes value (b + (at + span top))
+  pub fuel : ℕ
+  pub enough : length s < at + span top + fuel
+  pub after : Next
+  pub end : ℕ
+  pub behind : see o b s (b + (at + span top)) (next fuel (length s - (at + span top))) ≡ goes after end
+  pub closes : after .head ≡ delimiterHead
+  pub seconds : x .recording .seconds ≡ value .seconds
+  pub frames : x .recording .frames ≡ value .frames
+  pub count : length (x .recording .frames) ≡ counts .frames
+  pub makers : ℕ
+  pub wide : size (makerEvents (after .makers)) ≡ makers
+  pub left : makers + after .room ≡ length s - (at + span top)
+  pub events :
+      content (x .recording) ≡
+      tablesEvents before ++ (recordOf (framesHead (x .recording .seconds) (x .recording .channels) (x .recording .frames)) (framesWritten (x .recording .seconds) (x .recording .channels) (x .recording .frames)) ++ (makerEvents (after .makers) ++ delimiterEvents))
+  pub long : size (content (x .recording)) ≡ at + span (framesHead (x .recording .seconds) (x .recording .channels) (x .recording .frames)) + (makers + 16)
+  pub few : framesBytes (x .recording .seconds) (x .recording .channels) (x .recording .frames) ≤ limit
+  pub total : 16 + size (content (x .recording)) ≤ limit
+
+-- the limit counts no padding: the canonical form has that of its 140 alone
+total-sum : (B len room at bytes pad span f k d all : ℕ) → B ≡ 16 + len → at + room ≡ len → bytes + pad ≡ span → span ≤ room → k + d ≡ room - span → 16 ≤ d → B - (d - 16) - pad ≤ contentLimit → all ≡ at + f + (k + 16) → f < bytes + 128 → 16 + all ≤ limit
+total-sum B len room at bytes pad span f k d all h₁ h₂ h₃ h₄ h₅ h₆ h₇ h₈ h₉ =
+    let i : B - (d - 16) - pad ≡ 32 + at + bytes + k = omega (arith, h₁, h₂, h₃, h₄, h₅, h₆) in
+    let j : 32 + at + bytes + k ≤ contentLimit = rw i at h₇ in
+    omega (arith, j, h₈, h₉)
+
+pad-short : (n : ℕ) → n ≤ 128 * most → span (record { size = sizeFor n; code = 0; serial = 0; multiplier = multiplierFor n }) < n + 128
+pad-short n h = let z = sized n in omega (arith, z .close, z .low h)
+
+-- a recording that these tables begin
+content-size : (t : Tables) (seconds : ℕ) (fs : List Frame) (ms : List Maker) → FramesOk (t .basic) (t .channels .own) (t .channels .value) seconds fs →
+    size (tablesEvents t ++ (recordOf (framesHead seconds (t .channels .value) fs) (framesWritten seconds (t .channels .value) fs) ++ (makerEvents ms ++ delimiterEvents))) ≡ size (tablesEvents t) + span (framesHead seconds (t .channels .value) fs) + (size (makerEvents ms) + 16)
+unfolding delimiterEvents size
+content-size t seconds fs ms f =
+    rw (
+      size-append (tablesEvents t),
+      size-append (recordOf (framesHead seconds (t .channels .value) fs) (framesWritten seconds (t .channels .value) fs)),
+      frames-size (t .basic) (t .channels .own) (t .channels .value) seconds fs f,
+      size-append (makerEvents ms),
+    )
+    (omega arith)
+
+module _ (o : Order) (b : ℕ) (s : List ℕ) (bytes : Bytes s) (h : Head) (fills : span h ≡ 16 + length s) where
+  abbrev L : ℕ
+  L = b + (span h - 16)
+
+  hears : {A : Type 0} (w : Walk A) (at : ℕ) (Q : A → ℕ → Type 0) {a : A} {e : ℕ} → b ≤ at → Stays L at w Q → see o b s at w ≡ goes a e → Heard w Q a e
+  hears = heard o b s L (omega arith) bytes
+
+  signals-told : (t : Tables) (m : ℕ) → Told o b s (span h) t m → {x : Placed} {e : ℕ} → see o b s m (signals t h) ≡ goes x e → Accepted o b s x
+  unfolding signals see
+  signals-told t m k g =
+      let last : Next = t .events .next in
+      let top : Head = last .head in
+      let back : ℕ = span h - last .room - 20 in
+      let v : ℕ → Walk Frames = λ r. frames (t .basic) (t .channels .own) (t .channels .value) back r top in
+      by-went o b s m (v (last .room)) _ (require-went o b s m (eqb (top .code) 140) 9 12 _ g .1) λ f m₁ f₀ g₁.
+      by-went o b s m₁ (next (span h) (last .room - span top)) _ g₁ λ d m₂ d₀ g₂.
+      by-then o b s m₂ (delimiter (d .head)) _ g₂ λ _ m₃ c₃ g₃.
+      let l = require-went o b s m₃ (leb (span h - (d .room - 16) - f .padded) contentLimit) 14 _ _ g₃ in
+      by-then o b s m₃ (padding (d .room - 16)) _ (require-went o b s m₃ (padOk h (d .room - 16)) 10 0 _ (l .1) .1) λ _ m₄ _ g₄.
+      let q = k .behind in
+      let at : ℕ = size (tablesEvents t) in
+      let p : at + last .room ≡ length s = omega (arith, k .long, q .2) in
+      let f₁ = hears (v (last .room)) m _ (omega (arith, k .long)) (stays-framesRest (t .basic) (t .channels .own) (t .channels .value) back (last .room) top L m (q .2)) f₀ in
+      let z : (16 ≤ span top) × (span top ≤ last .room) × (m₁ + (last .room - span top) ≡ L) = f₁ .holds in
+      let f₂ = frames-ok (t .basic) (t .channels .own) (t .channels .value) back (last .room) top (f₁ .plays) in
+      let d₁ = hears (next (span h) (last .room - span top)) m₁ (Behind L (span h)) (omega (arith, z, q .1)) (stays-next (span h) (last .room - span top) (span h) L m₁ (omega (arith, q .1)) (omega (arith, q .1)) (z .2)) d₀ in
+      let d₂ = next-ok (span h) (last .room - span top) (d₁ .plays) in
+      let n = ap size (content-tables t (f .seconds) (f .frames) (d .makers)) ∙ content-size t (f .seconds) (f .frames) (d .makers) (f₂ .0) in
+      rw (← goes-same g₄ .0)
+      (record {
+        at = at;
+        held = k .held;
+        before = t;
+        begins = moved o b s (tables (k .held)) b b (span h) (16 + length s) m (b + (at + 16)) refl fills (sym (k .long) ∙ omega arith) (k .went);
+        front = refl;
+        place = omega arith;
+        inside = omega (arith, q .0);
+        top = top;
+        stands = moved o b s head (m - 16) (b + at) (last .room) (length s - at) m (b + (at + 16)) (omega (arith, k .long)) (omega arith) (omega (arith, k .long)) (k .stands .head);
+        counts = t .basic;
+        own = t .channels .own;
+        back = back;
+        value = f;
+        went = moved o b s v m (b + (at + 16)) (last .room) (length s - at) m₁ (b + (at + span top)) (omega (arith, k .long)) (omega arith) (omega (arith, z)) f₀;
+        fuel = span h;
+        enough = omega arith;
+        after = d;
+        end = m₂;
+        behind = moved o b s (next (span h)) m₁ (b + (at + span top)) (last .room - span top) (length s - (at + span top)) m₂ m₂ (omega (arith, z)) (omega arith) refl d₀;
+        closes = delimiter-is o b s m₂ (d .head) c₃;
+        seconds = refl;
+        frames = refl;
+        count = f₂ .0 .count;
+        makers = size (makerEvents (d .makers));
+        wide = refl;
+        left = omega (arith, d₂ .left);
+        events = content-tables t (f .seconds) (f .frames) (d .makers);
+        long = n;
+        few = f₂ .0 .total;
+        total = total-sum (span h) (length s) (last .room) at _ _ _ _ _ _ _ fills p (f₂ .1) (f₂ .2) (d₂ .left) (d₂ .enough) (leb-true _ contentLimit (l .0)) n (pad-short _ (f₂ .0 .total));
+      })
+
+  pub accepted : (held : Option Held) {x : Placed} {e : ℕ} → see o b s b (recordingBody held h) ≡ goes x e → Accepted o b s x
+  accepted held g =
+      by-onward (see o b s b (tables held (span h))) (λ t m. see o b s m (signals t h)) (sym (halves o b s b held h) ∙ g) λ t m t₀ g₁.
+      signals-told t m (tables-told o b s held (span h) (omega arith) t₀) g₁
+
+-- a recording that the walk accepted: its 140 stands inside it
+pub within-at : {o : Order} {s : List ℕ} {p q : ℕ} {held : Option Held} {x : Placed} → Bytes s → q ≤ length s → Within o s p q held x → (frames : ℕ) → frames ≡ p + x .layout .at140 → (p + 16 ≤ frames) × (frames ≤ q)
+within-at {o} {s} {p} {q} {held} bytes inside w frames e =
+    let v = accepted o (p + 16) _ (bytes-take (q - (p + 16)) (drop (p + 16) s) (bytes-drop (p + 16) s bytes)) (w .top) (w .fills) held (w .body) in
+    (omega (arith, v .place), omega (arith, v .place, v .inside, w .starts, body-length p q s (w .starts) inside))

@@ -1,0 +1,83 @@
+use mathlib.Core.Path.{refl, sym, _∙_}
+use native.Mathlib.Omega.{arith}
+use denote.Ref.{now}
+use borrow.Author.Needs.{needs}
+use borrow.Author.Tests.{not-true, not-false}
+use Rattle.words.proofs.Words.{bytes}
+use Rattle.records.proofs.Facts.{between-in}
+use Rattle.judge.proofs.Verdicts.{accepted-seen}
+use Rattle.recordings.proofs.Reach.{asked-refused, asked-outside, asked-found}
+use Rattle.recordings.proofs.recording_asked.Statement.{statement}
+use Rattle.recordings.proofs.recording_asked.Tie as tie
+
+judge-requires : tie.Need-judge-requires
+judge-requires c κs = search needs
+
+enum-known-judged : tie.Need-enum-known-judged
+enum-known-judged c = search needs
+
+enum-told : tie.Need-enum-told
+enum-told c = search needs
+
+of-judged-requires : tie.Need-of-judged-requires
+of-judged-requires c κs = search needs
+
+returns : tie.Need-returns
+returns c =
+    let e = c .before .enum-told .given .1 in
+    rw (c .of-judged .ensures, e) (asked-refused (now (c .before .before .before .before .before .args .file)) (c .before .before .before .before .before .args .recording) (rw e at (c .before .before .before .judge .ensures)))
+
+within-requires : tie.Need-within-requires
+within-requires c κs = search needs
+
+returns-2 : tie.Need-returns-2
+returns-2 c =
+    let x = rw (c .before .before .before .judged .given .1) at (c .before .before .before .before .before .judge .ensures) in
+    asked-outside _ _ x _ (sym (c .before .within .ensures) ∙ not-true (c .before .within .result) (c .if1 .taken))
+
+cast-recordings-to : tie.Need-cast-recordings-to
+cast-recordings-to c =
+    let l = between-in _ _ _ (sym (c .before .within .ensures) ∙ not-false (c .before .within .result) (c .if1 .left)) in
+    omega (arith, l .1, c .before .before .known-told .given)
+
+recordings-to-requires : tie.Need-recordings-to-requires
+recordings-to-requires c κs =
+    let x = rw (c .before .before .before .judged .given .1) at (c .before .before .before .before .before .judge .ensures) in
+    (accepted-seen _ _ x .long, omega (arith, c .before .before .before .before .before .before .before .good))
+
+enum-told-2 : tie.Need-enum-told-2
+enum-told-2 c = search needs
+
+enum-known-last : tie.Need-enum-known-last
+enum-known-last c = search needs
+
+returns-3 : tie.Need-returns-3
+returns-3 c =
+    let x = rw (c .before .before .before .before .before .before .judged .given .1) at (c .before .before .before .before .before .before .before .before .judge .ensures) in
+    let l = sym (c .before .before .before .before .within .ensures) ∙ not-false (c .before .before .before .before .within .result) (c .before .before .before .if1 .left) in
+    absurd (omega (arith, between-in 1 _ _ l .0, rw (c .enum-told2 .given .1) at (c .before .before .recordings-to .ensures _ x refl (between-in 1 _ _ l .1))))
+
+returns-4 : tie.Need-returns-4
+returns-4 c =
+    let x = rw (c .before .before .before .before .before .before .before .judged .given .1) at (c .before .before .before .before .before .before .before .before .before .judge .ensures) in
+    let l = sym (c .before .before .before .before .before .within .ensures) ∙ not-false (c .before .before .before .before .before .within .result) (c .before .before .before .before .if1 .left) in
+    let b = bytes (now (c .before .before .before .before .before .before .before .before .before .before .before .args .file)) (λ k. omega (arith, c .before .before .before .before .before .before .before .before .before .before .shared-slice-known .given k)) in
+    asked-found _ _ x b _ refl _ _ (rw (c .before .last .given .1) at (c .before .before .before .recordings-to .ensures _ x refl (between-in 1 _ _ l .1)))
+
+pub recording-asked-spec : {M : Type 1} → statement M
+recording-asked-spec =
+    tie.close
+    (tie.spec
+    judge-requires
+    enum-known-judged
+    enum-told
+    of-judged-requires
+    returns
+    within-requires
+    returns-2
+    cast-recordings-to
+    recordings-to-requires
+    enum-told-2
+    enum-known-last
+    returns-3
+    returns-4)
