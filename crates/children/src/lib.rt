@@ -1,6 +1,7 @@
 // The records that stand directly in a recording's body, one after the other.
 ghost use Prim.Native.Nat.{_+_, _≤_, _<_};
 ghost use lib.ListN.{length};
+ghost use Rattle.words.specs.Sizes.{Addressable};
 ghost use Rattle.children.specs.Children.{Visits};
 use records::Fits;
 use records::Headed;
@@ -19,7 +20,7 @@ pub enum Direct {
 
 // What stands at byte p of a recording's body, which stands at `base`.
 pub fn record_at(o: Order, s: &[u8], base: usize, p: usize) -> Direct
-    requires { ⌜ (p ≤ length (now s)) × (base + length (now s) < 9223372036854775808) ⌝ }
+    requires { ⌜ (p ≤ length (now s)) × Addressable (base + length (now s)) ⌝ }
     ensures { λ a. ⌜ Visits o base (now (s .entry)) p a ⌝ }
 {
     let found = records::head_at(o, s, base, p);

@@ -4,6 +4,7 @@ ghost use mathlib.Core.List.{List};
 ghost use mathlib.Core.Option.{Option};
 ghost use Prim.Native.Nat.{ℕ, _+_, _-_, _≤_, _<_};
 ghost use lib.ListN.{length, take, drop};
+ghost use Rattle.words.specs.Sizes.{Addressable};
 ghost use Rattle.walk.specs.Walk.{pick};
 ghost use Rattle.walk.specs.See.{see, over};
 ghost use Rattle.rules.specs.Rules as R;
@@ -152,7 +153,7 @@ fn items_code(k: Kind) -> u32
 
 // A part that is absent: what holds in its place, or the refusal of the head that stands there.
 fn absent(base: usize, h: Head, held: Held) -> Parted
-    requires { ⌜ base + (h .at + 4) < 9223372036854775808 ⌝ }
+    requires { ⌜ Addressable (base + (h .at + 4)) ⌝ }
     ensures { λ a. ⌜ a ≡ lacking base h held ⌝ }
 {
     match held {
@@ -167,7 +168,7 @@ fn absent(base: usize, h: Head, held: Held) -> Parted
 
 // A part that stands at byte `at` and stops at byte `end`: the head of the next record.
 fn behind(o: Order, s: &[u8], base: usize, at: usize, end: usize) -> Parted
-    requires { ⌜ (at ≤ end) × (end ≤ length (now s)) × (base + length (now s) < 9223372036854775808) ⌝ }
+    requires { ⌜ (at ≤ end) × (end ≤ length (now s)) × Addressable (base + length (now s)) ⌝ }
     ensures { λ a. ⌜ ((fuel : ℕ) → length (now (s .entry)) < end + fuel → over headroom (see o base (now (s .entry)) (base + end) (R.next fuel (length (now (s .entry)) - end))) ≡ followed base (length (now (s .entry))) a) × Stood (base + at) end (length (now (s .entry))) a ⌝ }
 {
     let found = records::next_head(o, s, base, end);
@@ -182,7 +183,7 @@ fn behind(o: Order, s: &[u8], base: usize, at: usize, end: usize) -> Parted
 }
 
 fn channels_part(o: Order, s: &[u8], base: usize, h: Head, channels: u32, held: Held) -> Parted
-    requires { ⌜ (h .at + 16 ≤ length (now s)) × (base + length (now s) < 9223372036854775808) ⌝ }
+    requires { ⌜ (h .at + 16 ≤ length (now s)) × Addressable (base + length (now s)) ⌝ }
     ensures { λ a. ⌜ ((b : R.Basic) → b .channels ≡ channels → Judges o base (now (s .entry)) 120 (R.channels b) (Owned o (now (s .entry)) (h .at) channels) h held a) × Follows (h .at) (length (now (s .entry))) a ⌝ }
 {
     if h.code != Channels::CODE {
@@ -196,7 +197,7 @@ fn channels_part(o: Order, s: &[u8], base: usize, h: Head, channels: u32, held: 
 }
 
 fn items_part(o: Order, k: Kind, s: &[u8], base: usize, h: Head, held: Held) -> Parted
-    requires { ⌜ (h .at + 16 ≤ length (now s)) × (base + length (now s) < 9223372036854775808) ⌝ }
+    requires { ⌜ (h .at + 16 ≤ length (now s)) × Addressable (base + length (now s)) ⌝ }
     ensures { λ a. ⌜ Judges o base (now (s .entry)) (codeOf k) (R.items (okOf k)) (λ _. Unit {0}) h held a × Follows (h .at) (length (now (s .entry))) a ⌝ }
 {
     if h.code != items_code(k) {
@@ -211,7 +212,7 @@ fn items_part(o: Order, k: Kind, s: &[u8], base: usize, h: Head, held: Held) -> 
 
 // The tables of the recording whose body is s, which stands at `base` in the file.
 pub fn read_tables(o: Order, s: &[u8], base: usize, before: Before) -> Tabled
-    requires { ⌜ (16 ≤ base) × (base + length (now s) < 9223372036854775808) ⌝ }
+    requires { ⌜ (16 ≤ base) × Addressable (base + length (now s)) ⌝ }
     ensures { λ a. ⌜ ((file : List ℕ) (held : Option R.Held) → now (s .entry) ≡ take (length (now (s .entry))) (drop base file) → HeldAs o file before held → tabled o file base held (now (s .entry)) before a) × Ready base (length (now (s .entry))) before a ⌝ }
 {
     let first = records::basic_at(o, s, base, 0);

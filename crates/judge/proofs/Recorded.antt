@@ -11,6 +11,7 @@ use borrow.Author.Tests.{leb-true, eqb-true, eq-eqb, ne-eqb}
 use lib.Dec.{leb, ltb, eqb}
 use lib.ListN.{length, take, drop, length-drop}
 use lib.Seq.{length-take-le}
+use Rattle.words.specs.Sizes.{Addressable}
 use Rattle.words.specs.Numbers.{numberAt}
 use Rattle.words.specs.declared.Order.{Order}
 use Rattle.walk.specs.Walk.{pick, _>>=_, _>>_}
@@ -148,11 +149,11 @@ module _ (o : Order) (file : List ℕ) (at : ℕ) (s : List ℕ) (before : Befor
           rw (i, j) (placed numbers g (omega (arith, z .1)) (told .1) l)
 
 -- the bounds that hold whatever the walk holds, and what the functions that are called ask: in a file of L bytes
-module _ (at n L : ℕ) (before : Before) (t : Tables) (b : Bounds (at + 16) n before t) (fits : at + 16 + n ≤ L) (short : L < 9223372036854775808) (within : Within L before) where
+module _ (at n L : ℕ) (before : Before) (t : Tables) (b : Bounds (at + 16) n before t) (fits : at + 16 + n ≤ L) (short : Addressable L) (within : Within L before) where
   pub channels-asked : t .channels + 32 < 18446744073709551616
   channels-asked = omega (arith, b .room L fits within .0)
 
-  pub signals-asked : (cs : Channels) → ChannelsOf t cs → (128 ≤ t .next .at) × (t .next .at + 16 ≤ n) × (16 ≤ at + 16) × (at + 16 + n < 9223372036854775808) × (t .basic .frames ≤ 1000000) × (cs .count ≤ 128) × (cs .subs + 256 * cs .count ≤ L)
+  pub signals-asked : (cs : Channels) → ChannelsOf t cs → (128 ≤ t .next .at) × (t .next .at + 16 ≤ n) × (16 ≤ at + 16) × Addressable (at + 16 + n) × (t .basic .frames ≤ 1000000) × (cs .count ≤ 128) × (cs .subs + 256 * cs .count ≤ L)
   signals-asked cs c =
       let r : Room L (t .channels) (t .count) = b .room L fits within in
       (b .low, b .fits, omega arith, omega arith, b .short, rw (c .1) (r .1), rw (c .0, c .1) (r .0))
@@ -246,5 +247,5 @@ module _ (file : List ℕ) (p q : ℕ) (low : p ≤ q) (fits : q ≤ length file
   part-length : length part ≡ q - p
   part-length = length-take-le (q - p) (drop p file) (rw length-drop (omega arith))
 
-  pub part-asked : (before : Before) → length file < 9223372036854775808 → Within (length file) before → (part ≡ take (length part) (drop p file)) × (p + length part ≤ length file) × (length file < 9223372036854775808) × Within (length file) before
+  pub part-asked : (before : Before) → Addressable (length file) → Within (length file) before → (part ≡ take (length part) (drop p file)) × (p + length part ≤ length file) × Addressable (length file) × Within (length file) before
   part-asked before short within = (ap (λ (n : ℕ). take n (drop p file)) (sym part-length), omega (arith, part-length), short, within)

@@ -4,6 +4,7 @@ ghost use mathlib.Core.List.{List};
 ghost use mathlib.Core.Option.{Option};
 ghost use Prim.Native.Nat.{ℕ, _+_, _-_, _≤_, _<_};
 ghost use lib.ListN.{length, take, drop};
+ghost use Rattle.words.specs.Sizes.{Addressable};
 ghost use Rattle.walk.specs.See.{see, goes};
 ghost use Rattle.rules.specs.Rules as R;
 ghost use Rattle.descriptions.specs.Tabled.{Within, HeldAs};
@@ -37,7 +38,7 @@ pub enum Recorded {
 
 // The places of the recording at `at`, whose body has n bytes and these tables: its frames are so long, and of so many seconds.
 fn places_for(at: usize, n: usize, t: Tables, frame: usize, seconds: u32) -> Places
-    requires { ⌜ (t .next .at ≤ n) × (at + 16 + n < 9223372036854775808) ⌝ }
+    requires { ⌜ (t .next .at ≤ n) × Addressable (at + 16 + n) ⌝ }
     ensures { λ r. ⌜ r ≡ placesFor at n t frame seconds ⌝ }
 {
     let base = at + Head::LENGTH;
@@ -67,7 +68,7 @@ fn recording_body(
     multiplier: u32,
     before: Before,
 ) -> Recorded
-    requires { ⌜ (now s ≡ take (length (now s)) (drop (at + 16) (now file))) × (at + 16 + length (now s) ≤ length (now file)) × (length (now file) < 9223372036854775808) × Within (length (now file)) before ⌝ }
+    requires { ⌜ (now s ≡ take (length (now s)) (drop (at + 16) (now file))) × (at + 16 + length (now s) ≤ length (now file)) × Addressable (length (now file)) × Within (length (now file)) before ⌝ }
     ensures { λ a. ⌜ ((held : Option R.Held) (h : R.Head) → HeldAs o (now (file .entry)) before held → R.span h ≡ 16 + length (now (s .entry)) → h .multiplier ≡ multiplier → recorded o (now (file .entry)) at before (see o (at + 16) (now (s .entry)) (at + 16) (R.recordingBody held h)) a) × Continues at (length (now (file .entry))) a ⌝ }
 {
     let base = at + Head::LENGTH;
@@ -87,7 +88,7 @@ fn recording_body(
 
 // The recording at byte p of the file, with the serial i.
 pub fn recording_at(o: Order, file: &[u8], p: usize, i: u32, before: Before) -> Recorded
-    requires { ⌜ (p ≤ length (now file)) × (length (now file) < 9223372036854775808) × Within (length (now file)) before ⌝ }
+    requires { ⌜ (p ≤ length (now file)) × Addressable (length (now file)) × Within (length (now file)) before ⌝ }
     ensures { λ a. ⌜ ((held : Option R.Held) → HeldAs o (now (file .entry)) before held → recorded o (now (file .entry)) p before (see o 0 (now (file .entry)) p (R.recording held (length (now (file .entry)) - p) i)) a) × Continues p (length (now (file .entry))) a ⌝ }
 {
     let found = records::head_at(o, file, 0, p);
@@ -120,7 +121,7 @@ pub fn recording_at(o: Order, file: &[u8], p: usize, i: u32, before: Before) -> 
 
 // The body of a recording that the judge accepted.
 fn body_again(o: Order, s: &[u8], at: usize, before: Before) -> Recorded
-    requires { ⌜ at + 16 + length (now s) < 9223372036854775808 ⌝ }
+    requires { ⌜ Addressable (at + 16 + length (now s)) ⌝ }
     ensures { λ a. ⌜ ((file : List ℕ) (held : Option R.Held) (h : R.Head) (x : R.Placed) (e : ℕ) → now (s .entry) ≡ take (length (now (s .entry))) (drop (at + 16) file) → HeldAs o file before held → R.span h ≡ 16 + length (now (s .entry)) → see o (at + 16) (now (s .entry)) (at + 16) (R.recordingBody held h) ≡ goes x e → recorded o file at before (see o (at + 16) (now (s .entry)) (at + 16) (R.recordingBody held h)) a) × ((n : ℕ) → at + 16 + length (now (s .entry)) ≤ n → Within n before → Continues at n a) ⌝ }
 {
     let tabled = read_tables(o, s, at + Head::LENGTH, before);
@@ -139,7 +140,7 @@ fn body_again(o: Order, s: &[u8], at: usize, before: Before) -> Recorded
 
 // Where a recording stands that the judge accepted: its tables are read again, its frames are not.
 pub fn recording_again(o: Order, file: &[u8], p: usize, before: Before) -> Recorded
-    requires { ⌜ (p ≤ length (now file)) × (length (now file) < 9223372036854775808) × Within (length (now file)) before ⌝ }
+    requires { ⌜ (p ≤ length (now file)) × Addressable (length (now file)) × Within (length (now file)) before ⌝ }
     ensures { λ a. ⌜ ((held : Option R.Held) (i : ℕ) (x : R.Placed) (e : ℕ) → HeldAs o (now (file .entry)) before held → see o 0 (now (file .entry)) p (R.recording held (length (now (file .entry)) - p) i) ≡ goes x e → recorded o (now (file .entry)) p before (see o 0 (now (file .entry)) p (R.recording held (length (now (file .entry)) - p) i)) a) × Continues p (length (now (file .entry))) a ⌝ }
 {
     let found = records::head_at(o, file, 0, p);

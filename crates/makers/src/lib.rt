@@ -5,6 +5,7 @@ ghost use mathlib.Core.List.{List};
 ghost use mathlib.Core.Option.{Option, none};
 ghost use Prim.Native.Nat.{ℕ, _+_, _-_, _≤_, _<_};
 ghost use lib.ListN.{length};
+ghost use Rattle.words.specs.Sizes.{Addressable};
 ghost use Rattle.walk.specs.See.{see, goes};
 ghost use Rattle.walk.specs.Tell.{tell};
 ghost use Rattle.rules.specs.Rules as R;
@@ -44,7 +45,7 @@ pub fn of_found(a: Found) -> Refusal
 
 // The first maker's record in a recording's body, which stands at `base`.
 fn in_body(o: Order, s: &[u8], base: usize) -> Found
-    requires { ⌜ base + length (now s) < 9223372036854775808 ⌝ }
+    requires { ⌜ Addressable (base + length (now s)) ⌝ }
     ensures { λ r. ⌜ ((held : Option R.Held) (h : R.Head) (x : R.Placed) (e : ℕ) → R.span h ≡ 16 + length (now (s .entry)) → see o base (now (s .entry)) base (R.recordingBody held h) ≡ goes x e → found r ≡ firstMaker (tell o base (now (s .entry)) base (R.recordingBody held h))) ⌝ }
 {
     let mut p: usize = 0;
@@ -62,7 +63,7 @@ fn in_body(o: Order, s: &[u8], base: usize) -> Found
 
 // The first maker's record in the recording at byte p of the file.
 fn in_recording(o: Order, file: &[u8], p: usize) -> Searched
-    requires { ⌜ (p ≤ length (now file)) × (length (now file) < 9223372036854775808) ⌝ }
+    requires { ⌜ (p ≤ length (now file)) × Addressable (length (now file)) ⌝ }
     ensures { λ r. ⌜ (p ≤ r .end) × (r .end ≤ length (now (file .entry))) × ((held : Option R.Held) (i : ℕ) (x : R.Placed) (e : ℕ) → see o 0 (now (file .entry)) p (R.recording held (length (now (file .entry)) - p) i) ≡ goes x e → (e ≡ r .end) × (found (r .found) ≡ firstMaker (tell o 0 (now (file .entry)) p (R.recording held (length (now (file .entry)) - p) i)))) ⌝ }
 {
     let head = records::head_at(o, file, 0, p);
@@ -93,7 +94,7 @@ fn in_recording(o: Order, file: &[u8], p: usize) -> Searched
 
 // The first maker's record of a file with so many recordings.
 pub fn first_maker(o: Order, file: &[u8], count: u32) -> Found
-    requires { ⌜ (32 ≤ length (now file)) × (length (now file) < 9223372036854775808) ⌝ }
+    requires { ⌜ (32 ≤ length (now file)) × Addressable (length (now file)) ⌝ }
     ensures { λ r. ⌜ ((ps : List R.Placed) (e : ℕ) → see o 0 (now (file .entry)) 32 (R.recordings count none (length (now (file .entry)) - 32) 1) ≡ goes ps e → found r ≡ firstMaker (tell o 0 (now (file .entry)) 32 (R.recordings count none (length (now (file .entry)) - 32) 1))) ⌝ }
 {
     let mut p = FileHeader::LENGTH;

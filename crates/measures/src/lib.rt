@@ -3,6 +3,7 @@ ghost use mathlib.Core.Path.{_≡_};
 ghost use mathlib.Core.Option.{Option};
 ghost use Prim.Native.Nat.{ℕ, _+_, _*_, _≤_, _<_};
 ghost use lib.ListN.{length};
+ghost use Rattle.words.specs.Sizes.{Addressable};
 ghost use Rattle.walk.specs.See.{see, goes};
 ghost use Rattle.rules.specs.Rules as R;
 ghost use Rattle.rules.specs.Canonical as C;
@@ -93,7 +94,7 @@ fn measured(
     filled: usize,
     count: u32,
 ) -> Shaped
-    requires { ⌜ (at ≤ end) × (end ≤ last) × (last < 9223372036854775808) × (filled < 4294967296) ⌝ }
+    requires { ⌜ (at ≤ end) × (end ≤ last) × Addressable last × (filled < 4294967296) ⌝ }
     ensures { λ a. ⌜ a ≡ measure at end last seconds size filled count ⌝ }
 {
     let n = Frames::FIRST + filled * count as usize;
@@ -121,7 +122,7 @@ fn measured(
 
 // The shape of the recording whose body is s, with the 140 at byte `at` of it and the records 125 that hold for it in the file.
 pub fn read_shape(o: Order, file: &[u8], cs: Channels, at: usize, s: &[u8], base: usize) -> Shaped
-    requires { ⌜ (cs .subs + 256 * cs .count ≤ length (now file)) × (cs .count ≤ 128) × (at ≤ length (now s)) × (base + length (now s) < 9223372036854775808) ⌝ }
+    requires { ⌜ (cs .subs + 256 * cs .count ≤ length (now file)) × (cs .count ≤ 128) × (at ≤ length (now s)) × Addressable (base + length (now s)) ⌝ }
     ensures { λ a. ⌜ Each a (Bounds (length (now (s .entry)))) × Each a (ShapeIn o base (now (s .entry))) × ((held : Option R.Held) (h : R.Head) (x : R.Placed) (e : ℕ) → R.span h ≡ 16 + length (now (s .entry)) → length (x .recording .channels) ≡ cs .count → Kept o (now (file .entry)) (cs .subs) (x .recording .channels) → 16 + at ≡ x .layout .at140 → see o base (now (s .entry)) base (R.recordingBody held h) ≡ goes x e → Given a (λ f. ShapeOf f x)) ⌝ }
 {
     let found = records::head_at(o, s, base, at);
@@ -147,7 +148,7 @@ pub fn read_shape(o: Order, file: &[u8], cs: Channels, at: usize, s: &[u8], base
     let t = records::field(o, body, Frames::SECONDS);
     let size = records::field(o, body, Frames::FRAME_LENGTH) as usize;
     let count = records::field(o, body, Frames::COUNT);
-    if 3600 < t {
+    if Frames::MOST_SECONDS < t {
         return Shaped::Nothing;
     }
     let bytes = records::sample_bytes(o, file, cs.subs, cs.count, t);

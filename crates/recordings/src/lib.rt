@@ -2,6 +2,7 @@
 ghost use mathlib.Core.Path.{_≡_};
 ghost use Prim.Native.Nat.{_≤_, _<_};
 ghost use lib.ListN.{length};
+ghost use Rattle.words.specs.Sizes.{Addressable};
 ghost use Rattle.rules.specs.Rules as R;
 ghost use Rattle.rules.specs.declared.FileHeader.{FileHeader};
 ghost use Rattle.judge.specs.Judged.{AcceptedAs};
@@ -63,7 +64,7 @@ pub fn within(n: usize, count: u32) -> bool
 
 // The first n recordings of an accepted file, one after the other: where the last of them stands.
 fn recordings_to(o: Order, file: &[u8], n: u32) -> Before
-    requires { ⌜ (32 ≤ length (now file)) × (length (now file) < 9223372036854775808) ⌝ }
+    requires { ⌜ (32 ≤ length (now file)) × Addressable (length (now file)) ⌝ }
     ensures { λ a. ⌜ ((h : FileHeader) (x : AcceptedAs (now (file .entry)) h) → o ≡ h .order → n ≤ h .count → Reached o (now (file .entry)) (x .file .recordings) n a) ⌝ }
 {
     let mut p: usize = FileHeader::LENGTH;

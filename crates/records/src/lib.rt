@@ -5,6 +5,7 @@ ghost use mathlib.Core.List.{List};
 ghost use Prim.Native.Nat.{ℕ, _+_, _-_, _*_, _≤_, _<_};
 ghost use lib.ListN.{length};
 ghost use lib.Dec.{leb, eqb};
+ghost use Rattle.words.specs.Sizes.{Addressable};
 ghost use Rattle.words.specs.declared.Order.{Order};
 ghost use Rattle.words.specs.Numbers.{numberAt};
 ghost use Rattle.walk.specs.See.{Verdict, gate, see, over, ends};
@@ -98,7 +99,7 @@ pub fn between(low: u32, high: u32, n: u32) -> bool
 
 // The head of the record at byte p of the part s, which stands at `base` in the file and ends where the record's parent ends.
 pub fn head_at(o: Order, s: &[u8], base: usize, p: usize) -> Headed
-    requires { ⌜ (p ≤ length (now s)) × (base + length (now s) < 9223372036854775808) ⌝ }
+    requires { ⌜ (p ≤ length (now s)) × Addressable (base + length (now s)) ⌝ }
     ensures { λ a. ⌜ (see o base (now (s .entry)) (base + p) (R.head (length (now (s .entry)) - p)) ≡ headed base a) × Placed p (length (now (s .entry))) a ⌝ }
 {
     if s.len() < p + Head::LENGTH {
@@ -187,13 +188,13 @@ pub fn serial_ok(i: Serial, n: u32) -> bool
 
 // The multiplier, the length and the serial of a record in a part of n bytes that stands at `base`: where the record stops.
 pub fn admit(h: Head, base: usize, n: usize, most: u32, f: Fits, i: Serial) -> Step
-    requires { ⌜ (most ≤ 128) × (h .at ≤ n) × (base + h .at < 9223372036854775808) ⌝ }
+    requires { ⌜ (most ≤ 128) × (h .at ≤ n) × Addressable (base + h .at) ⌝ }
     ensures { λ a. ⌜ ((o : Order) (b : ℕ) (s : List ℕ) → see o b s (base + (h .at + 16)) (R.admit (n - h .at) most (fitsOf f) (serialOf i) (headOf h)) ≡ admitted a (base + (h .at + 16))) × Admits h f n a ⌝ }
 {
     if most < h.multiplier {
         return Step::Stop(Refusal(11, base + h.at + Head::MULTIPLIER));
     }
-    if 2147483648 <= h.size {
+    if Head::LIMIT <= h.size {
         return Step::Stop(Refusal(10, base + h.at));
     }
     let length = span(h);
@@ -280,23 +281,23 @@ pub fn short_field(o: Order, s: &[u8], offset: usize) -> u32
 
 // The tests of the fields of the record 100 at `at`, whose body is the part s.
 pub fn counts_ok(o: Order, s: &[u8], at: usize) -> Tested
-    requires { ⌜ (112 ≤ length (now s)) × (at < 9223372036854775808) ⌝ }
+    requires { ⌜ (112 ≤ length (now s)) × Addressable at ⌝ }
     ensures { λ a. ⌜ ((K : Verdict R.Basic) → gate (eqb 1 (numberAt o 4 (now (s .entry)) 0)) (gate (R.between 1 128 (numberAt o 4 (now (s .entry)) 4)) (gate (R.between 1 1000000 (numberAt o 4 (now (s .entry)) 8)) K 13 (at + 24)) 13 (at + 20)) 13 (at + 16) ≡ resumed a K) ⌝ }
 {
     if 1 != field(o, s, Basic::FORM) {
         return Tested::Stop(Refusal(13, at + Basic::FORM));
     }
-    if !between(1, 128, field(o, s, Basic::CHANNELS)) {
+    if !between(1, Channels::MOST, field(o, s, Basic::CHANNELS)) {
         return Tested::Stop(Refusal(13, at + Basic::CHANNELS));
     }
-    if !between(1, 1000000, field(o, s, Basic::FRAMES)) {
+    if !between(1, Basic::MOST_FRAMES, field(o, s, Basic::FRAMES)) {
         return Tested::Stop(Refusal(13, at + Basic::FRAMES));
     }
     Tested::Fine
 }
 
 pub fn date_ok(o: Order, s: &[u8], at: usize) -> Tested
-    requires { ⌜ (112 ≤ length (now s)) × (at < 9223372036854775808) ⌝ }
+    requires { ⌜ (112 ≤ length (now s)) × Addressable at ⌝ }
     ensures { λ a. ⌜ ((K : Verdict R.Basic) → gate (leb (numberAt o 4 (now (s .entry)) 16) 9999) (gate (R.dated (numberAt o 4 (now (s .entry)) 16) 12 (numberAt o 4 (now (s .entry)) 20)) (gate (R.dated (numberAt o 4 (now (s .entry)) 16) (R.daysIn (numberAt o 4 (now (s .entry)) 16) (numberAt o 4 (now (s .entry)) 20)) (numberAt o 4 (now (s .entry)) 24)) K 13 (at + 40)) 13 (at + 36)) 13 (at + 32) ≡ resumed a K) ⌝ }
 {
     let year = field(o, s, Basic::YEAR);
@@ -314,7 +315,7 @@ pub fn date_ok(o: Order, s: &[u8], at: usize) -> Tested
 }
 
 pub fn time_ok(o: Order, s: &[u8], at: usize) -> Tested
-    requires { ⌜ (112 ≤ length (now s)) × (at < 9223372036854775808) ⌝ }
+    requires { ⌜ (112 ≤ length (now s)) × Addressable at ⌝ }
     ensures { λ a. ⌜ ((K : Verdict R.Basic) → gate (leb (numberAt o 4 (now (s .entry)) 28) 23) (gate (leb (numberAt o 4 (now (s .entry)) 32) 59) (gate (leb (numberAt o 4 (now (s .entry)) 36) 59) K 13 (at + 52)) 13 (at + 48)) 13 (at + 44) ≡ resumed a K) ⌝ }
 {
     if 23 < field(o, s, Basic::HOUR) {
@@ -331,7 +332,7 @@ pub fn time_ok(o: Order, s: &[u8], at: usize) -> Tested
 
 // The body of the record 100 at `at`: the part of the file that starts 16 bytes into it.
 pub fn basic_body(o: Order, s: &[u8], at: usize) -> Basiced
-    requires { ⌜ (112 ≤ length (now s)) × (at < 9223372036854775808) ⌝ }
+    requires { ⌜ (112 ≤ length (now s)) × Addressable at ⌝ }
     ensures { λ a. ⌜ over basicOf (see o (at + 16) (now (s .entry)) (at + 16) R.basicBody) ≡ basiced at a ⌝ }
 {
     let counts = counts_ok(o, s, at);
@@ -357,7 +358,7 @@ pub fn basic_body(o: Order, s: &[u8], at: usize) -> Basiced
 
 // The record 100 at byte p of the part s.
 pub fn basic_at(o: Order, s: &[u8], base: usize, p: usize) -> Basiced
-    requires { ⌜ (p ≤ length (now s)) × (base + length (now s) < 9223372036854775808) ⌝ }
+    requires { ⌜ (p ≤ length (now s)) × Addressable (base + length (now s)) ⌝ }
     ensures { λ a. ⌜ over basicOf (see o base (now (s .entry)) (base + p) (R.basic (length (now (s .entry)) - p))) ≡ basiced (base + p) a ⌝ }
 {
     let found = head_at(o, s, base, p);
@@ -436,7 +437,7 @@ pub fn code_ok(k: Kind, x: u32) -> bool
 
 // The item at byte p of the part s: where the next one starts.
 pub fn item_at(o: Order, k: Kind, s: &[u8], base: usize, p: usize) -> Step
-    requires { ⌜ (p ≤ length (now s)) × (base + length (now s) < 9223372036854775808) ⌝ }
+    requires { ⌜ (p ≤ length (now s)) × Addressable (base + length (now s)) ⌝ }
     ensures { λ a. ⌜ (ends (see o base (now (s .entry)) (base + p) (R.item (okOf k) (length (now (s .entry)) - p))) ≡ stepped base a) × Beyond p (length (now (s .entry))) a ⌝ }
 {
     let n = s.len();
@@ -447,7 +448,7 @@ pub fn item_at(o: Order, k: Kind, s: &[u8], base: usize, p: usize) -> Step
     if size < Item::LEAST {
         return Step::Stop(Refusal(10, base + p));
     }
-    if 2147483648 <= size {
+    if Item::LIMIT <= size {
         return Step::Stop(Refusal(10, base + p));
     }
     if n < p + size {
@@ -462,7 +463,7 @@ pub fn item_at(o: Order, k: Kind, s: &[u8], base: usize, p: usize) -> Step
 
 // So many items from byte `from` of the part s on: where they end.
 pub fn items_from(o: Order, k: Kind, s: &[u8], base: usize, from: usize, count: u32) -> Step
-    requires { ⌜ (from ≤ length (now s)) × (base + length (now s) < 9223372036854775808) ⌝ }
+    requires { ⌜ (from ≤ length (now s)) × Addressable (base + length (now s)) ⌝ }
     ensures { λ a. ⌜ (ends (see o base (now (s .entry)) (base + from) (R.itemList (okOf k) count (length (now (s .entry)) - from))) ≡ stepped base a) × Beyond from (length (now (s .entry))) a ⌝ }
 {
     let mut p = from;
@@ -480,7 +481,7 @@ pub fn items_from(o: Order, k: Kind, s: &[u8], base: usize, from: usize, count: 
 
 // The body of the record 130 or 200 at `at`.
 pub fn items_body(o: Order, k: Kind, s: &[u8], at: usize) -> Tested
-    requires { ⌜ (8 ≤ length (now s)) × (at + 16 + length (now s) < 9223372036854775808) ⌝ }
+    requires { ⌜ (8 ≤ length (now s)) × Addressable (at + 16 + length (now s)) ⌝ }
     ensures { λ a. ⌜ ends (see o (at + 16) (now (s .entry)) (at + 16) (itemsBody (okOf k) (16 + length (now (s .entry))))) ≡ tested a (at + (16 + length (now (s .entry)))) ⌝ }
 {
     let count = field(o, s, Items::COUNT);
@@ -499,7 +500,7 @@ pub fn items_body(o: Order, k: Kind, s: &[u8], at: usize) -> Tested
 
 // The rest of the record 130 or 200 whose head is h: where it stops.
 pub fn items_at(o: Order, k: Kind, s: &[u8], base: usize, h: Head) -> Step
-    requires { ⌜ (h .at + 16 ≤ length (now s)) × (base + length (now s) < 9223372036854775808) ⌝ }
+    requires { ⌜ (h .at + 16 ≤ length (now s)) × Addressable (base + length (now s)) ⌝ }
     ensures { λ a. ⌜ (ends (see o base (now (s .entry)) (base + (h .at + 16)) (R.items (okOf k) (length (now (s .entry)) - h .at) (headOf h))) ≡ stepped base a) × Beyond (h .at + 24) (length (now (s .entry))) a ⌝ }
 {
     let room = admit(
@@ -524,7 +525,7 @@ pub fn items_at(o: Order, k: Kind, s: &[u8], base: usize, h: Head) -> Step
 
 // The bytes of s from `from` up to `to` are zero.
 pub fn padding(s: &[u8], base: usize, from: usize, to: usize) -> Tested
-    requires { ⌜ (from ≤ to) × (to ≤ length (now s)) × (base + length (now s) < 9223372036854775808) ⌝ }
+    requires { ⌜ (from ≤ to) × (to ≤ length (now s)) × Addressable (base + length (now s)) ⌝ }
     ensures { λ a. ⌜ ((o : Order) → see o base (now (s .entry)) (base + from) (R.padding (to - from)) ≡ tested a (base + to)) ⌝ }
 {
     let mut p = from;
@@ -543,12 +544,12 @@ pub fn maker_code(n: u32) -> bool
     if n < Maker::FIRST_CODE {
         return false;
     }
-    n < 2147483648
+    n < Head::LIMIT
 }
 
 // The head of the first record from byte `from` on that is no maker's own.
 pub fn next_head(o: Order, s: &[u8], base: usize, from: usize) -> Headed
-    requires { ⌜ (from ≤ length (now s)) × (base + length (now s) < 9223372036854775808) ⌝ }
+    requires { ⌜ (from ≤ length (now s)) × Addressable (base + length (now s)) ⌝ }
     ensures { λ a. ⌜ ((fuel : ℕ) → length (now (s .entry)) < from + fuel → over headroom (see o base (now (s .entry)) (base + from) (R.next fuel (length (now (s .entry)) - from))) ≡ nexted base (length (now (s .entry))) a) × Found from (length (now (s .entry))) a ⌝ }
 {
     let mut p = from;
@@ -591,14 +592,14 @@ pub fn rate_ok(flags: u32, kind: u32, rate: u32) -> bool
         return kind == 0;
     }
     if flags % 2 == 0 {
-        return rate <= 1000000;
+        return rate <= Channel::MOST_RATE;
     }
-    rate < 2147483648
+    rate < Channel::PERIOD_LIMIT
 }
 
 // The body of the record 125 at `at`.
 pub fn channel_body(o: Order, s: &[u8], at: usize) -> Tested
-    requires { ⌜ (240 ≤ length (now s)) × (at < 9223372036854775808) ⌝ }
+    requires { ⌜ (240 ≤ length (now s)) × Addressable at ⌝ }
     ensures { λ a. ⌜ ends (see o (at + 16) (now (s .entry)) (at + 16) R.channelBody) ≡ tested a (at + 256) ⌝ }
 {
     let kind = field(o, s, Channel::TYPE);
@@ -617,7 +618,7 @@ pub fn channel_body(o: Order, s: &[u8], at: usize) -> Tested
 
 // The record 125 at byte p of the part s, with the serial i: where it stops.
 pub fn channel_at(o: Order, s: &[u8], base: usize, p: usize, i: u32) -> Step
-    requires { ⌜ (p ≤ length (now s)) × (base + length (now s) < 9223372036854775808) ⌝ }
+    requires { ⌜ (p ≤ length (now s)) × Addressable (base + length (now s)) ⌝ }
     ensures { λ a. ⌜ (ends (see o base (now (s .entry)) (base + p) (R.channel (length (now (s .entry)) - p) i)) ≡ stepped base a) × Advances p 256 (length (now (s .entry))) a ⌝ }
 {
     let found = head_at(o, s, base, p);
@@ -648,7 +649,7 @@ pub fn channel_at(o: Order, s: &[u8], base: usize, p: usize, i: u32) -> Step
 
 // So many records 125 from byte `from` of the part s on: where they end.
 pub fn channels_from(o: Order, s: &[u8], base: usize, from: usize, count: u32) -> Step
-    requires { ⌜ (from ≤ length (now s)) × (base + length (now s) < 9223372036854775808) ⌝ }
+    requires { ⌜ (from ≤ length (now s)) × Addressable (base + length (now s)) ⌝ }
     ensures { λ a. ⌜ (ends (see o base (now (s .entry)) (base + from) (R.series count 1 256 (length (now (s .entry)) - from) R.channel)) ≡ stepped base a) × Advances from (256 * count) (length (now (s .entry))) a ⌝ }
 {
     let mut p = from;
@@ -666,11 +667,11 @@ pub fn channels_from(o: Order, s: &[u8], base: usize, from: usize, count: u32) -
 
 // The body of the record 120 at `at`, of as many channels as record 100 has.
 pub fn channels_body(o: Order, s: &[u8], at: usize, channels: u32) -> Tested
-    requires { ⌜ (16 ≤ length (now s)) × (at + 16 + length (now s) < 9223372036854775808) ⌝ }
+    requires { ⌜ (16 ≤ length (now s)) × Addressable (at + 16 + length (now s)) ⌝ }
     ensures { λ a. ⌜ ((b : R.Basic) → b .channels ≡ channels → ends (see o (at + 16) (now (s .entry)) (at + 16) (channelsBody b (16 + length (now (s .entry))))) ≡ tested a (at + (16 + length (now (s .entry))))) ⌝ }
 {
     let m = field(o, s, Channels::COUNT);
-    if !between(1, 128, m) {
+    if !between(1, Channels::MOST, m) {
         return Tested::Stop(Refusal(13, at + Channels::COUNT));
     }
     if m != channels {
@@ -713,7 +714,7 @@ pub fn samples_in(t: u32, flags: u32, rate: u32) -> usize
     if flags % 2 == 0 {
         return rate as usize * t as usize;
     }
-    t as usize * 1000000 / rate as usize
+    t as usize * Channel::MICROSECONDS as usize / rate as usize
 }
 
 // The sample bytes of t seconds, over the m channels whose records 125 stand from byte `subs` of s on.
@@ -754,7 +755,7 @@ pub fn same(a: &[u8], b: &[u8]) -> bool
 
 // The body of the record 145 at `at`, whose samples end at byte `filled` of the record.
 pub fn frame_body(o: Order, s: &[u8], at: usize, filled: usize) -> Tested
-    requires { ⌜ (24 ≤ filled) × (filled ≤ 16 + length (now s)) × (at + 16 + length (now s) < 9223372036854775808) ⌝ }
+    requires { ⌜ (24 ≤ filled) × (filled ≤ 16 + length (now s)) × Addressable (at + 16 + length (now s)) ⌝ }
     ensures { λ a. ⌜ ((t : ℕ) (cs : List R.Channel) → filled ≡ 24 + R.sampleBytes t cs → ends (see o (at + 16) (now (s .entry)) (at + 16) (frameBody (16 + length (now (s .entry))) t cs)) ≡ tested a (at + (16 + length (now (s .entry))))) ⌝ }
 {
     if 23 < short_field(o, s, Frame::HOUR) {
@@ -779,7 +780,7 @@ pub fn frame_at(
     size: usize,
     filled: usize,
 ) -> Step
-    requires { ⌜ (p ≤ length (now s)) × (base + length (now s) < 9223372036854775808) × (24 ≤ filled) × (filled ≤ size) ⌝ }
+    requires { ⌜ (p ≤ length (now s)) × Addressable (base + length (now s)) × (24 ≤ filled) × (filled ≤ size) ⌝ }
     ensures { λ a. ⌜ ((t : ℕ) (cs : List R.Channel) → filled ≡ 24 + R.sampleBytes t cs → ends (see o base (now (s .entry)) (base + p) (R.frame size t cs (length (now (s .entry)) - p) i)) ≡ stepped base a) × Advances p size (length (now (s .entry))) a ⌝ }
 {
     let found = head_at(o, s, base, p);
@@ -812,7 +813,7 @@ pub fn frames_from(
     size: usize,
     filled: usize,
 ) -> Step
-    requires { ⌜ (from ≤ length (now s)) × (base + length (now s) < 9223372036854775808) × (24 ≤ filled) × (filled ≤ size) ⌝ }
+    requires { ⌜ (from ≤ length (now s)) × Addressable (base + length (now s)) × (24 ≤ filled) × (filled ≤ size) ⌝ }
     ensures { λ a. ⌜ ((t : ℕ) (cs : List R.Channel) → filled ≡ 24 + R.sampleBytes t cs → ends (see o base (now (s .entry)) (base + from) (R.series count 1 size (length (now (s .entry)) - from) (R.frame size t cs))) ≡ stepped base a) × Advances from (size * count) (length (now (s .entry))) a ⌝ }
 {
     let mut p = from;
@@ -830,7 +831,7 @@ pub fn frames_from(
 
 // The rest of the record 120 whose head is h, of as many channels as record 100 has: where it stops.
 pub fn channels_at(o: Order, s: &[u8], base: usize, h: Head, channels: u32) -> Step
-    requires { ⌜ (h .at + 16 ≤ length (now s)) × (base + length (now s) < 9223372036854775808) ⌝ }
+    requires { ⌜ (h .at + 16 ≤ length (now s)) × Addressable (base + length (now s)) ⌝ }
     ensures { λ a. ⌜ ((b : R.Basic) → b .channels ≡ channels → ends (see o base (now (s .entry)) (base + (h .at + 16)) (R.channels b (length (now (s .entry)) - h .at) (headOf h))) ≡ stepped base a) × Beyond (h .at + 32) (length (now (s .entry))) a ⌝ }
 {
     let room = admit(
@@ -855,7 +856,7 @@ pub fn channels_at(o: Order, s: &[u8], base: usize, h: Head, channels: u32) -> S
 
 // The delimiter whose head is h.
 pub fn delimiter(h: Head, base: usize) -> Tested
-    requires { ⌜ base + (h .at + 16) < 9223372036854775808 ⌝ }
+    requires { ⌜ Addressable (base + (h .at + 16)) ⌝ }
     ensures { λ a. ⌜ ((o : Order) (b : ℕ) (s : List ℕ) → see o b s (base + (h .at + 16)) (R.delimiter (headOf h)) ≡ tested a (base + (h .at + 16))) ⌝ }
 {
     if h.code != Delimiter::CODE {

@@ -6,6 +6,7 @@ ghost use mathlib.Core.List.{List};
 ghost use mathlib.Core.Option.{none};
 ghost use Prim.Native.Nat.{ℕ, _-_, _≤_, _<_};
 ghost use lib.ListN.{length};
+ghost use Rattle.words.specs.Sizes.{Addressable};
 ghost use Rattle.walk.specs.See.{see, goes};
 ghost use Rattle.walk.specs.Tell.{tell};
 ghost use Rattle.rules.specs.Rules as R;
@@ -21,7 +22,7 @@ use words::Order;
 
 // The first maker's record, where the order asked for is not the file's.
 fn in_the_way(o: Order, to: Order, file: &[u8], count: u32) -> Found
-    requires { ⌜ (32 ≤ length (now file)) × (length (now file) < 9223372036854775808) ⌝ }
+    requires { ⌜ (32 ≤ length (now file)) × Addressable (length (now file)) ⌝ }
     ensures { λ a. ⌜ ((ps : List R.Placed) (e : ℕ) → see o 0 (now (file .entry)) 32 (R.recordings count none (length (now (file .entry)) - 32) 1) ≡ goes ps e → found a ≡ barrier o to (firstMaker (tell o 0 (now (file .entry)) 32 (R.recordings count none (length (now (file .entry)) - 32) 1)))) ⌝ }
 {
     let made = makers::first_maker(o, file, count);

@@ -5,6 +5,7 @@ ghost use mathlib.Core.List.{List, [], _∷_, _++_, map};
 ghost use mathlib.Core.Option.{Option, none};
 ghost use Prim.Native.Nat.{ℕ, _+_, _*_, _-_, _≤_, _<_};
 ghost use lib.ListN.{length, take, drop};
+ghost use Rattle.words.specs.Sizes.{Addressable};
 ghost use Rattle.words.specs.Runs.{pasted};
 ghost use Rattle.walk.specs.Walk.{render, size};
 ghost use Rattle.walk.specs.See.{see, goes};
@@ -36,7 +37,7 @@ use words::Order;
 
 // The shape of the recording from byte p on, which has these places.
 fn shape_at(o: Order, file: &[u8], p: usize, q: Places) -> Shaped
-    requires { ⌜ (p ≤ q .end) × (q .end ≤ length (now file)) × (length (now file) < 9223372036854775808) × Room (length (now file)) (q .channels) (q .count) ⌝ }
+    requires { ⌜ (p ≤ q .end) × (q .end ≤ length (now file)) × Addressable (length (now file)) × Room (length (now file)) (q .channels) (q .count) ⌝ }
     ensures { λ a. ⌜ Each a (Bounds (q .end - (p + 16))) × Each a (ShapeIn o (p + 16) (take (q .end - (p + 16)) (drop (p + 16) (now (file .entry))))) × ((held : Option R.Held) (i : ℕ) (x : R.Placed) → see o 0 (now (file .entry)) p (R.recording held (length (now (file .entry)) - p) i) ≡ goes x (q .end) → Stand o (now (file .entry)) (q .channels) (q .count) (x .recording .channels) → q .frames ≡ p + x .layout .at140 → Given a (λ f. ShapeOf f x)) ⌝ }
 {
     let base = p + Head::LENGTH;
@@ -97,7 +98,7 @@ fn header(to: Order, script: u32, count: u32, d: &mut [u8])
 
 // The body of a recording of this shape: d has room for its canonical form and no more.
 fn body(w: Way, file: &[u8], cs: Channels, f: Shape, s: &[u8], base: usize, d: &mut [u8])
-    requires { ⌜ (cs .subs + 256 * cs .count ≤ length (now file)) × (cs .count ≤ 128) × (base + length (now s) < 9223372036854775808) × Bounds (length (now s)) f × (16 + length (now d) ≡ f .whole .length) ⌝ }
+    requires { ⌜ (cs .subs + 256 * cs .count ≤ length (now file)) × (cs .count ≤ 128) × Addressable (base + length (now s)) × Bounds (length (now s)) f × (16 + length (now d) ≡ f .whole .length) ⌝ }
     ensures { λ _. ⌜ (w .keep ≡ false → (held : Option R.Held) (h : R.Head) (x : R.Placed) (e : ℕ) → R.span h ≡ 16 + length (now (s .entry)) → length (x .recording .channels) ≡ cs .count → Kept (w .from) (now (file .entry)) (cs .subs) (x .recording .channels) → ShapeIn (w .from) base (now (s .entry)) f → ShapeOf f x → see (w .from) base (now (s .entry)) base (R.recordingBody held h) ≡ goes x e → now (d .exit) ≡ render (w .to) (behindHead (x .recording))) ⌝ }
 {
     let to = w.to;
@@ -133,7 +134,7 @@ fn body(w: Way, file: &[u8], cs: Channels, f: Shape, s: &[u8], base: usize, d: &
 
 // The recording from byte p on, with the serial i, which has these places: where the next bytes go.
 fn recording(w: Way, file: &[u8], p: usize, i: u32, q: Places, out: &mut [u8], k: usize) -> usize
-    requires { ⌜ (p ≤ q .end) × (q .end ≤ length (now file)) × (length (now file) < 9223372036854775808) × Room (length (now file)) (q .channels) (q .count) × (k ≤ length (now out)) ⌝ }
+    requires { ⌜ (p ≤ q .end) × (q .end ≤ length (now file)) × Addressable (length (now file)) × Room (length (now file)) (q .channels) (q .count) × (k ≤ length (now out)) ⌝ }
     ensures { λ r. ⌜ (r ≤ length (now (out .entry))) × (w .keep ≡ false → (held : Option R.Held) (x : R.Placed) → see (w .from) 0 (now (file .entry)) p (R.recording held (length (now (file .entry)) - p) i) ≡ goes x (q .end) → Stand (w .from) (now (file .entry)) (q .channels) (q .count) (x .recording .channels) → q .frames ≡ p + x .layout .at140 → Pastes (now (out .entry)) (now (out .exit)) k r (render (w .to) (C.recordingEvents i (x .recording ∷ [])))) ⌝ }
 {
     let o = w.from;
@@ -168,7 +169,7 @@ fn recording(w: Way, file: &[u8], p: usize, i: u32, q: Places, out: &mut [u8], k
 
 // The length of the canonical form of a file with so many recordings.
 pub fn file_length(o: Order, file: &[u8], count: u32) -> usize
-    requires { ⌜ (32 ≤ length (now file)) × (length (now file) < 9223372036854775808) × (count ≤ 64) ⌝ }
+    requires { ⌜ (32 ≤ length (now file)) × Addressable (length (now file)) × (count ≤ 64) ⌝ }
     ensures { λ r. ⌜ ((ps : List R.Placed) (e : ℕ) → see o 0 (now (file .entry)) 32 (R.recordings count none (length (now (file .entry)) - 32) 1) ≡ goes ps e → r ≡ 32 + size (C.recordingEvents 1 (map (λ p. p .recording) ps))) ⌝ }
 {
     let mut p = FileHeader::LENGTH;
@@ -190,7 +191,7 @@ pub fn file_length(o: Order, file: &[u8], count: u32) -> usize
 
 // The canonical form of a file with so many recordings.
 pub fn file_anew(o: Order, into: Order, script: u32, file: &[u8], count: u32, out: &mut [u8])
-    requires { ⌜ (32 ≤ length (now file)) × (length (now file) < 9223372036854775808) × (script < 256) × (count ≤ 64) × (32 ≤ length (now out)) ⌝ }
+    requires { ⌜ (32 ≤ length (now file)) × Addressable (length (now file)) × (script < 256) × (count ≤ 64) × (32 ≤ length (now out)) ⌝ }
     ensures { λ _. ⌜ ((ps : List R.Placed) (e : ℕ) → see o 0 (now (file .entry)) 32 (R.recordings count none (length (now (file .entry)) - 32) 1) ≡ goes ps e → 32 + size (C.recordingEvents 1 (map (λ p. p .recording) ps)) ≤ length (now (out .entry)) → now (out .exit) ≡ pasted (now (out .entry)) 0 (render into (C.headerEvents script count) ++ render into (C.recordingEvents 1 (map (λ p. p .recording) ps)))) ⌝ }
 {
     let w = Way {

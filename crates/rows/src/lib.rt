@@ -7,6 +7,7 @@ ghost use mathlib.Core.Option.{Option, none};
 ghost use Prim.Native.Nat.{ℕ, _+_, _-_, _*_, _≤_, _<_};
 ghost use lib.Dec.{leb};
 ghost use lib.ListN.{length};
+ghost use Rattle.words.specs.Sizes.{Addressable};
 ghost use Rattle.words.specs.Numbers.{numberAt};
 ghost use Rattle.walk.specs.See.{see, goes};
 ghost use Rattle.walk.specs.Tell.{tell};
@@ -45,7 +46,7 @@ fn put(
     code: u32,
     serial: u32,
 ) -> usize
-    requires { ⌜ (k ≤ start) × (start < 9223372036854775808) × (size < 9223372036854775808) ⌝ }
+    requires { ⌜ (k ≤ start) × Addressable start × Addressable size ⌝ }
     ensures { λ r. ⌜ Wrote write (now (out .entry)) (now (out .exit)) k r (record { start = start; size = size; code = code; serial = serial } ∷ []) ⌝ }
 {
     let end = k + 4;
@@ -72,7 +73,7 @@ fn series_rows(
     code: u32,
     count: u32,
 ) -> usize
-    requires { ⌜ (k ≤ start) × (4 ≤ step) × (start + step * count < 9223372036854775808) × (step < 9223372036854775808) ⌝ }
+    requires { ⌜ (k ≤ start) × (4 ≤ step) × Addressable (start + step * count) × Addressable step ⌝ }
     ensures { λ r. ⌜ Wrote write (now (out .entry)) (now (out .exit)) k r (seriesRows count 1 start step code) × (r ≤ start + step * count) ⌝ }
 {
     let mut at = start;
@@ -97,7 +98,7 @@ fn channels_rows(
     k: usize,
     write: bool,
 ) -> usize
-    requires { ⌜ (p + 16 ≤ end) × (end ≤ length (now s)) × (base + length (now s) < 9223372036854775808) × (k ≤ base + p + 16) ⌝ }
+    requires { ⌜ (p + 16 ≤ end) × (end ≤ length (now s)) × Addressable (base + length (now s)) × (k ≤ base + p + 16) ⌝ }
     ensures { λ r. ⌜ (r ≤ base + end) × (end - p ≡ 32 + 256 * numberAt o 4 (now (s .entry)) (p + 16) → Wrote write (now (out .entry)) (now (out .exit)) k r (seriesRows (numberAt o 4 (now (s .entry)) (p + 16)) 1 (base + p + 32) 256 125)) ⌝ }
 {
     if end - p < Channels::SUBS {
@@ -122,7 +123,7 @@ fn frames_rows(
     k: usize,
     write: bool,
 ) -> usize
-    requires { ⌜ (p + 16 ≤ end) × (end ≤ length (now s)) × (base + length (now s) < 9223372036854775808) × (k ≤ base + p + 16) ⌝ }
+    requires { ⌜ (p + 16 ≤ end) × (end ≤ length (now s)) × Addressable (base + length (now s)) × (k ≤ base + p + 16) ⌝ }
     ensures { λ r. ⌜ (r ≤ base + end) × (24 ≤ numberAt o 4 (now (s .entry)) (p + 20) → 32 + numberAt o 4 (now (s .entry)) (p + 20) * numberAt o 4 (now (s .entry)) (p + 24) ≤ end - p → Wrote write (now (out .entry)) (now (out .exit)) k r (seriesRows (numberAt o 4 (now (s .entry)) (p + 24)) 1 (base + p + 32) (numberAt o 4 (now (s .entry)) (p + 20)) 145)) ⌝ }
 {
     if end - p < Frames::FIRST {
@@ -148,7 +149,7 @@ fn record_rows(
     k: usize,
     write: bool,
 ) -> usize
-    requires { ⌜ (h .at + 16 ≤ end) × (end ≤ length (now s)) × (base + length (now s) < 9223372036854775808) × (k ≤ base + h .at) ⌝ }
+    requires { ⌜ (h .at + 16 ≤ end) × (end ≤ length (now s)) × Addressable (base + length (now s)) × (k ≤ base + h .at) ⌝ }
     ensures { λ r. ⌜ (r ≤ base + end) × (Holds o (now (s .entry)) (h .at) end (h .code) → Wrote write (now (out .entry)) (now (out .exit)) k r (record { start = base + h .at; size = end - h .at; code = h .code; serial = h .serial } ∷ heldRows o base (now (s .entry)) (h .at) (h .code))) ⌝ }
 {
     let p = h.at;
@@ -176,7 +177,7 @@ fn fits(size: usize, count: u32, length: usize) -> bool
 
 // The rows of a recording's body, which stands at `base`.
 fn body_rows(o: Order, s: &[u8], base: usize, out: &mut [i64], k: usize, write: bool) -> usize
-    requires { ⌜ (base + length (now s) < 9223372036854775808) × (k ≤ base) ⌝ }
+    requires { ⌜ Addressable (base + length (now s)) × (k ≤ base) ⌝ }
     ensures { λ r. ⌜ (r ≤ base + length (now (s .entry))) × ((held : Option R.Held) (h : R.Head) (x : R.Placed) (e : ℕ) → R.span h ≡ 16 + length (now (s .entry)) → see o base (now (s .entry)) base (R.recordingBody held h) ≡ goes x e → Wrote write (now (out .entry)) (now (out .exit)) k r (tell o base (now (s .entry)) base (R.recordingBody held h))) ⌝ }
 {
     let mut p: usize = 0;
@@ -204,7 +205,7 @@ fn body_rows(o: Order, s: &[u8], base: usize, out: &mut [i64], k: usize, write: 
 
 // The rows of the recording at byte p of the file.
 fn recording_rows(o: Order, file: &[u8], p: usize, out: &mut [i64], k: usize, write: bool) -> Ended
-    requires { ⌜ (p ≤ length (now file)) × (length (now file) < 9223372036854775808) × (k ≤ p) ⌝ }
+    requires { ⌜ (p ≤ length (now file)) × Addressable (length (now file)) × (k ≤ p) ⌝ }
     ensures { λ r. ⌜ (p ≤ r .at) × (r .at ≤ length (now (file .entry))) × (r .k ≤ r .at) × ((held : Option R.Held) (i : ℕ) (x : R.Placed) (e : ℕ) → see o 0 (now (file .entry)) p (R.recording held (length (now (file .entry)) - p) i) ≡ goes x e → (e ≡ r .at) × Wrote write (now (out .entry)) (now (out .exit)) k (r .k) (tell o 0 (now (file .entry)) p (R.recording held (length (now (file .entry)) - p) i))) ⌝ }
 {
     let found = records::head_at(o, file, 0, p);
@@ -230,7 +231,7 @@ fn recording_rows(o: Order, file: &[u8], p: usize, out: &mut [i64], k: usize, wr
 
 // The rows of all recordings: how many numbers they take.
 pub fn file_rows(o: Order, file: &[u8], count: u32, out: &mut [i64], write: bool) -> usize
-    requires { ⌜ (32 ≤ length (now file)) × (length (now file) < 9223372036854775808) ⌝ }
+    requires { ⌜ (32 ≤ length (now file)) × Addressable (length (now file)) ⌝ }
     ensures { λ r. ⌜ (r ≤ length (now (file .entry))) × ((ps : List R.Placed) (e : ℕ) → see o 0 (now (file .entry)) 32 (R.recordings count none (length (now (file .entry)) - 32) 1) ≡ goes ps e → Wrote write (now (out .entry)) (now (out .exit)) 0 r (tell o 0 (now (file .entry)) 32 (R.recordings count none (length (now (file .entry)) - 32) 1))) ⌝ }
 {
     let mut at = FileHeader::LENGTH;

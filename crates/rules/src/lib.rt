@@ -48,6 +48,9 @@ impl Head {
     pub const MULTIPLIER: usize = 12;
 
     pub const MOST: u32 = 128;
+
+    // A number below this is not negative as a signed one.
+    pub const LIMIT: u32 = 2147483648;
 }
 
 // Record 10: a recording.
@@ -69,6 +72,8 @@ pub struct Basic {
 
 impl Basic {
     pub const CODE: u32 = 100;
+
+    pub const MOST_FRAMES: u32 = 1000000;
 
     pub const LENGTH: usize = 128;
 
@@ -114,6 +119,8 @@ pub struct Channels {
 impl Channels {
     pub const CODE: u32 = 120;
 
+    pub const MOST: u32 = 128;
+
     pub const LEAST: usize = 32;
 
     pub const COUNT: usize = 16;
@@ -139,7 +146,7 @@ impl Channel {
     pub const LENGTH: usize = 256;
 
     // The length, as record 120's field has it.
-    pub const SIZE: u32 = 256;
+    pub const SIZE: u32 = Channel::LENGTH as u32;
 
     pub const NUMBER: usize = 16;
 
@@ -182,6 +189,13 @@ impl Channel {
     pub const COMMENT: usize = 196;
 
     pub const COMMENT_LENGTH: usize = 60;
+
+    // In Hz; and where the rate is a period, microseconds below this, of which a second has so many.
+    pub const MOST_RATE: u32 = 1000000;
+
+    pub const PERIOD_LIMIT: u32 = Head::LIMIT;
+
+    pub const MICROSECONDS: u64 = 1000000;
 
     // The format of 32-bit floats.
     pub const FLOATS: u32 = 4;
@@ -227,6 +241,8 @@ pub struct Item;
 impl Item {
     pub const LEAST: usize = 8;
 
+    pub const LIMIT: usize = Head::LIMIT as usize;
+
     pub const CODE: usize = 4;
 
     pub const TEXT: usize = 8;
@@ -241,6 +257,8 @@ pub struct Frames {
 
 impl Frames {
     pub const CODE: u32 = 140;
+
+    pub const MOST_SECONDS: u32 = 3600;
 
     pub const LEAST: usize = 32;
 
@@ -275,6 +293,11 @@ impl Frame {
     pub const RESERVE: usize = 22;
 
     pub const SAMPLES: usize = 24;
+
+    // Padding is shorter than the largest multiplier.
+    pub const MOST_PADDING: usize = Head::MOST as usize - 1;
+
+    pub const LIMIT: usize = Head::LIMIT as usize;
 
     // In the record's body.
     pub const BODY_RESERVE: usize = Frame::RESERVE - Head::LENGTH;

@@ -5,6 +5,7 @@ ghost use mathlib.Core.List.{List};
 ghost use Prim.Native.Nat.{_+_, _-_, _*_, _≤_, _<_};
 ghost use lib.ListN.{length};
 ghost use lib.Dec.{leb, ltb, eqb};
+ghost use Rattle.words.specs.Sizes.{Addressable};
 ghost use Rattle.walk.specs.See.{see, over};
 ghost use Rattle.rules.specs.Rules as R;
 ghost use Rattle.records.specs.Says.{Kept, headOf};
@@ -53,7 +54,7 @@ fn divides(t: u32, flags: u32, rate: u32) -> bool
     if flags % 2 == 0 {
         return true;
     }
-    t as u64 * 1000000 % rate as u64 == 0
+    t as u64 * Channel::MICROSECONDS % rate as u64 == 0
 }
 
 // Each of the m channels whose records 125 stand from byte `subs` of s on has a whole number of samples in t seconds.
@@ -86,10 +87,10 @@ fn size_ok(bytes: usize, size: usize) -> bool
     if rest < bytes {
         return false;
     }
-    if 127 < rest - bytes {
+    if Frame::MOST_PADDING < rest - bytes {
         return false;
     }
-    size < 2147483648
+    size < Frame::LIMIT
 }
 
 // So many frames fit a 140 of n bytes, and the padding behind them its multiplier.
@@ -114,13 +115,13 @@ fn read_shape(
     total: u32,
     multiplier: u32,
 ) -> Shaped
-    requires { ⌜ (16 ≤ length (now s)) × (at + 16 + length (now s) < 9223372036854775808) × (total ≤ 1000000) × (cs .count ≤ 128) × (cs .subs + 256 * cs .count ≤ length (now file)) ⌝ }
+    requires { ⌜ (16 ≤ length (now s)) × Addressable (at + 16 + length (now s)) × (total ≤ 1000000) × (cs .count ≤ 128) × (cs .subs + 256 * cs .count ≤ length (now file)) ⌝ }
     ensures { λ a. ⌜ ((ch : List R.Channel) → length ch ≡ cs .count → Kept o (now (file .entry)) (cs .subs) ch → Shapes o at (now (s .entry)) total multiplier ch a) × Sizes a ⌝ }
 {
     let t = field(o, s, Frames::SECONDS);
     let size = field(o, s, Frames::FRAME_LENGTH) as usize;
     let n = field(o, s, Frames::COUNT);
-    if !records::between(1, 3600, t) {
+    if !records::between(1, Frames::MOST_SECONDS, t) {
         return Shaped::Stop(Refusal(13, at + Frames::SECONDS));
     }
     if !all_divide(o, file, cs.subs, cs.count, t) {
@@ -145,7 +146,7 @@ fn read_shape(
 
 // The frames of the record 140 at `at`, and the padding behind them.
 fn frames_rest(o: Order, s: &[u8], at: usize, total: u32, f: Shape) -> Framed
-    requires { ⌜ (16 ≤ length (now s)) × (at + 16 + length (now s) < 9223372036854775808) × (total ≤ 1000000) × Sized f ⌝ }
+    requires { ⌜ (16 ≤ length (now s)) × Addressable (at + 16 + length (now s)) × (total ≤ 1000000) × Sized f ⌝ }
     ensures { λ a. ⌜ ((ch : List R.Channel) → f .filled ≡ 24 + R.sampleBytes (f .seconds) ch → over framesOf (see o (at + 16) (now (s .entry)) (at + 32) (behindFields (f .seconds) (f .size) total (16 + length (now (s .entry))) ch)) ≡ framed at a) × Fills (16 + length (now (s .entry))) a ⌝ }
 {
     let size = f.size;
@@ -180,7 +181,7 @@ fn frames_body(
     total: u32,
     multiplier: u32,
 ) -> Framed
-    requires { ⌜ (16 ≤ length (now s)) × (at + 16 + length (now s) < 9223372036854775808) × (total ≤ 1000000) × (cs .count ≤ 128) × (cs .subs + 256 * cs .count ≤ length (now file)) ⌝ }
+    requires { ⌜ (16 ≤ length (now s)) × Addressable (at + 16 + length (now s)) × (total ≤ 1000000) × (cs .count ≤ 128) × (cs .subs + 256 * cs .count ≤ length (now file)) ⌝ }
     ensures { λ a. ⌜ ((rb : R.Basic) (ch : List R.Channel) (hd : R.Head) → rb .frames ≡ total → length ch ≡ cs .count → Kept o (now (file .entry)) (cs .subs) ch → R.span hd ≡ 16 + length (now (s .entry)) → hd .multiplier ≡ multiplier → over framesOf (see o (at + 16) (now (s .entry)) (at + 16) (R.framesBody rb ch hd)) ≡ framed at a) × Fills (16 + length (now (s .entry))) a ⌝ }
 {
     let shaped = read_shape(o, file, cs, s, at, total, multiplier);
@@ -211,7 +212,7 @@ pub fn frames_at(
     base: usize,
     h: Head,
 ) -> Framed
-    requires { ⌜ (128 ≤ h .at) × (h .at + 16 ≤ length (now s)) × (base + length (now s) < 9223372036854775808) × (b .frames ≤ 1000000) × (cs .count ≤ 128) × (cs .subs + 256 * cs .count ≤ length (now file)) ⌝ }
+    requires { ⌜ (128 ≤ h .at) × (h .at + 16 ≤ length (now s)) × Addressable (base + length (now s)) × (b .frames ≤ 1000000) × (cs .count ≤ 128) × (cs .subs + 256 * cs .count ≤ length (now file)) ⌝ }
     ensures { λ a. ⌜ ((rb : R.Basic) (ch : List R.Channel) → rb .channels ≡ b .channels → rb .frames ≡ b .frames → length ch ≡ cs .count → Kept o (now (file .entry)) (cs .subs) ch → over framesOf (see o base (now (s .entry)) (base + (h .at + 16)) (R.frames rb own ch (h .at - 4) (length (now (s .entry)) - h .at) (headOf h))) ≡ framed base a) × Reaches (h .at + 32) (length (now (s .entry))) a ⌝ }
 {
     let room = records::admit(

@@ -5,6 +5,7 @@ ghost use mathlib.Core.Path.{_≡_};
 ghost use Prim.Native.Nat.{_+_, _-_, _*_, _≤_, _<_};
 ghost use lib.Dec.{leb};
 ghost use lib.ListN.{length};
+ghost use Rattle.words.specs.Sizes.{Addressable};
 ghost use Rattle.words.specs.declared.Order.{Order};
 ghost use Rattle.walk.specs.See.{gate, see};
 ghost use Rattle.rules.specs.Rules as R;
@@ -33,7 +34,7 @@ pub fn of_frames(a: Framed) -> Refusal
 
 // What follows the delimiter, which stops at byte `end`: the content's limit, and the padding.
 fn closed(s: &[u8], base: usize, end: usize, padded: usize, multiplier: u32) -> Tested
-    requires { ⌜ (end ≤ length (now s)) × (16 ≤ base) × (base + length (now s) < 9223372036854775808) ⌝ }
+    requires { ⌜ (end ≤ length (now s)) × (16 ≤ base) × Addressable (base + length (now s)) ⌝ }
     ensures { λ a. ⌜ ((o : Order) → gate (leb (16 + end - padded) R.contentLimit) (gate (R.padded multiplier (length (now (s .entry)) - end)) (see o base (now (s .entry)) (base + end) (R.padding (length (now (s .entry)) - end))) 10 (base + end)) 14 (base - 16) ≡ tested a (base + length (now (s .entry)))) ⌝ }
 {
     if Recording::CONTENT_LIMIT < records::less(Head::LENGTH + end, padded) {
@@ -57,7 +58,7 @@ pub fn signals(
     base: usize,
     multiplier: u32,
 ) -> Framed
-    requires { ⌜ (128 ≤ h .at) × (h .at + 16 ≤ length (now s)) × (16 ≤ base) × (base + length (now s) < 9223372036854775808) × (b .frames ≤ 1000000) × (cs .count ≤ 128) × (cs .subs + 256 * cs .count ≤ length (now file)) ⌝ }
+    requires { ⌜ (128 ≤ h .at) × (h .at + 16 ≤ length (now s)) × (16 ≤ base) × Addressable (base + length (now s)) × (b .frames ≤ 1000000) × (cs .count ≤ 128) × (cs .subs + 256 * cs .count ≤ length (now file)) ⌝ }
     ensures { λ a. ⌜ ((t : Tables) (r : R.Head) → Known o (now (file .entry)) cs own b h (now (s .entry)) multiplier t r → Signaled (see o base (now (s .entry)) (base + (h .at + 16)) (signals t r)) (base + length (now (s .entry))) t r a) ⌝ }
 {
     if h.code != Frames::CODE {

@@ -5,6 +5,7 @@ ghost use mathlib.Core.Bool.{Bool};
 ghost use mathlib.Core.Option.{Option};
 ghost use Prim.Native.Nat.{ℕ, _+_, _-_, _≤_, _<_};
 ghost use lib.ListN.{length};
+ghost use Rattle.words.specs.Sizes.{Addressable};
 ghost use Rattle.walk.specs.See.{see, goes};
 ghost use Rattle.rules.specs.Rules as R;
 ghost use Rattle.descriptions.specs.Halves as Halves;
@@ -63,7 +64,7 @@ pub fn head(w: Way, s: &[u8], p: usize, out: &mut [u8], k: usize) -> usize
 
 // Makers' records from byte `from` of the part s on, and the head of another record behind them.
 pub fn next(w: Way, s: &[u8], base: usize, from: usize, out: &mut [u8], k: usize) -> Marked
-    requires { ⌜ (from ≤ length (now s)) × (base + length (now s) < 9223372036854775808) × (k ≤ length (now out)) ⌝ }
+    requires { ⌜ (from ≤ length (now s)) × Addressable (base + length (now s)) × (k ≤ length (now out)) ⌝ }
     ensures { λ r. ⌜ (from ≤ r .next .at) × (r .next .at ≤ length (now (s .entry))) × (r .k ≤ length (now (out .entry))) × ((fuel : ℕ) (n : R.Next) (e : ℕ) → length (now (s .entry)) < from + fuel → see (w .from) base (now (s .entry)) (base + from) (R.next fuel (length (now (s .entry)) - from)) ≡ goes n e → Marks (w .from) base (now (s .entry)) (r .next) n e × Pastes (now (out .entry)) (now (out .exit)) k (r .k) (copy w base (now (s .entry)) (base + from) (R.next fuel (length (now (s .entry)) - from)))) ⌝ }
 {
     let o = w.from;
@@ -102,7 +103,7 @@ pub fn next(w: Way, s: &[u8], base: usize, from: usize, out: &mut [u8], k: usize
 
 // The rest of a 130 or a 200, if the head is one's, and what `next` writes behind it.
 fn items(w: Way, s: &[u8], base: usize, h: Head, code: u32, out: &mut [u8], k: usize) -> Marked
-    requires { ⌜ (h .at ≤ length (now s)) × (base + length (now s) < 9223372036854775808) × (k ≤ length (now out)) ⌝ }
+    requires { ⌜ (h .at ≤ length (now s)) × Addressable (base + length (now s)) × (k ≤ length (now out)) ⌝ }
     ensures { λ r. ⌜ (h .at ≤ r .next .at) × (r .next .at ≤ length (now (s .entry))) × (r .k ≤ length (now (out .entry))) × ((ok : ℕ → Bool) → PartCopied w base (now (s .entry)) h code (R.items ok) (now (out .entry)) (now (out .exit)) k (r .k) (r .next)) ⌝ }
 {
     if h.code != code {
@@ -131,7 +132,7 @@ fn items(w: Way, s: &[u8], base: usize, h: Head, code: u32, out: &mut [u8], k: u
 
 // The rest of a 120, if the head is one's, and what `next` writes behind it.
 fn channels(w: Way, s: &[u8], base: usize, h: Head, out: &mut [u8], k: usize) -> Marked
-    requires { ⌜ (h .at ≤ length (now s)) × (base + length (now s) < 9223372036854775808) × (k ≤ length (now out)) ⌝ }
+    requires { ⌜ (h .at ≤ length (now s)) × Addressable (base + length (now s)) × (k ≤ length (now out)) ⌝ }
     ensures { λ r. ⌜ (h .at ≤ r .next .at) × (r .next .at ≤ length (now (s .entry))) × (r .k ≤ length (now (out .entry))) × ((c : R.Basic) → PartCopied w base (now (s .entry)) h 120 (R.channels c) (now (out .entry)) (now (out .exit)) k (r .k) (r .next)) ⌝ }
 {
     if h.code != Channels::CODE {
@@ -178,7 +179,7 @@ fn basic(w: Way, s: &[u8], out: &mut [u8], k: usize) -> usize
 
 // A recording's body up to the head of its 140, which is written too.
 pub fn tables(w: Way, s: &[u8], base: usize, out: &mut [u8], k: usize) -> Marked
-    requires { ⌜ (base + length (now s) < 9223372036854775808) × (k ≤ length (now out)) ⌝ }
+    requires { ⌜ Addressable (base + length (now s)) × (k ≤ length (now out)) ⌝ }
     ensures { λ r. ⌜ (r .next .at ≤ length (now (s .entry))) × (r .k ≤ length (now (out .entry))) × ((held : Option R.Held) (t : Halves.Tables) (e : ℕ) → see (w .from) base (now (s .entry)) base (Halves.tables held (16 + length (now (s .entry)))) ≡ goes t e → Marks (w .from) base (now (s .entry)) (r .next) (t .events .next) e × Pastes (now (out .entry)) (now (out .exit)) k (r .k) (copy w base (now (s .entry)) base (Halves.tables held (16 + length (now (s .entry)))))) ⌝ }
 {
     if s.len() < Basic::LENGTH {

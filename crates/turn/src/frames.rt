@@ -4,6 +4,7 @@ ghost use mathlib.Core.Bool.{Bool};
 ghost use mathlib.Core.List.{List};
 ghost use Prim.Native.Nat.{ℕ, _+_, _-_, _*_, _≤_, _<_};
 ghost use lib.ListN.{length};
+ghost use Rattle.words.specs.Sizes.{Addressable};
 ghost use Rattle.words.specs.Numbers.{numberAt};
 ghost use Rattle.walk.specs.See.{see, goes};
 ghost use Rattle.rules.specs.Rules as R;
@@ -106,7 +107,7 @@ fn body_if_room(w: Way, file: &[u8], cs: Channels, s: &[u8], out: &mut [u8], k: 
     let t = records::field(o, s, Frames::SECONDS);
     let size = records::field(o, s, Frames::FRAME_LENGTH) as usize;
     let count = records::field(o, s, Frames::COUNT);
-    if 3600 < t {
+    if Frames::MOST_SECONDS < t {
         return k;
     }
     let bytes = records::sample_bytes(o, file, cs.subs, cs.count, t);
@@ -133,7 +134,7 @@ pub fn frames(
     out: &mut [u8],
     k: usize,
 ) -> Marked
-    requires { ⌜ (cs .subs + 256 * cs .count ≤ length (now file)) × (cs .count ≤ 128) × (h .at ≤ length (now s)) × (base + length (now s) < 9223372036854775808) × (k ≤ length (now out)) ⌝ }
+    requires { ⌜ (cs .subs + 256 * cs .count ≤ length (now file)) × (cs .count ≤ 128) × (h .at ≤ length (now s)) × Addressable (base + length (now s)) × (k ≤ length (now out)) ⌝ }
     ensures { λ r. ⌜ (r .next .at ≤ length (now (s .entry))) × (r .k ≤ length (now (out .entry))) × ((c : R.Basic) (own : Bool) (ch : List R.Channel) (back : ℕ) → h .code ≡ 140 → length ch ≡ cs .count → Kept (w .from) (now (file .entry)) (cs .subs) ch → RecordCopied w base (now (s .entry)) h (R.frames c own ch back) (now (out .entry)) (now (out .exit)) k (r .k) (r .next)) ⌝ }
 {
     let room = records::admit(

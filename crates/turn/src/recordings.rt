@@ -4,6 +4,7 @@ ghost use mathlib.Core.List.{List, _++_};
 ghost use mathlib.Core.Option.{Option, none};
 ghost use Prim.Native.Nat.{ℕ, _+_, _-_, _*_, _≤_, _<_};
 ghost use lib.ListN.{length};
+ghost use Rattle.words.specs.Sizes.{Addressable};
 ghost use Rattle.words.specs.Numbers as N;
 ghost use Rattle.words.specs.Runs.{pasted};
 ghost use Rattle.walk.specs.See.{see, goes};
@@ -46,7 +47,7 @@ fn header(w: Way, s: &[u8], d: &mut [u8])
 
 // A recording's body, which stands at `base`, with the records 125 that hold for it.
 fn body(w: Way, file: &[u8], cs: Channels, s: &[u8], base: usize, out: &mut [u8], k: usize)
-    requires { ⌜ (cs .subs + 256 * cs .count ≤ length (now file)) × (cs .count ≤ 128) × (base + length (now s) < 9223372036854775808) × (k ≤ length (now out)) ⌝ }
+    requires { ⌜ (cs .subs + 256 * cs .count ≤ length (now file)) × (cs .count ≤ 128) × Addressable (base + length (now s)) × (k ≤ length (now out)) ⌝ }
     ensures { λ _. ⌜ ((held : Option R.Held) (h : R.Head) (x : R.Placed) (e : ℕ) → R.span h ≡ 16 + length (now (s .entry)) → length (x .recording .channels) ≡ cs .count → Kept (w .from) (now (file .entry)) (cs .subs) (x .recording .channels) → see (w .from) base (now (s .entry)) base (R.recordingBody held h) ≡ goes x e → Holds (now (out .entry)) (now (out .exit)) k (copy w base (now (s .entry)) base (R.recordingBody held h))) ⌝ }
 {
     let t = transcripts::tables(w, s, base, out, k);
@@ -60,7 +61,7 @@ fn body(w: Way, file: &[u8], cs: Channels, s: &[u8], base: usize, out: &mut [u8]
 
 // The recording from byte p of the file on, which has these places.
 fn recording(w: Way, file: &[u8], p: usize, q: Places, out: &mut [u8])
-    requires { ⌜ (p ≤ q .end) × (q .end ≤ length (now file)) × (length (now file) < 9223372036854775808) × (length (now file) ≤ length (now out)) × Room (length (now file)) (q .channels) (q .count) ⌝ }
+    requires { ⌜ (p ≤ q .end) × (q .end ≤ length (now file)) × Addressable (length (now file)) × (length (now file) ≤ length (now out)) × Room (length (now file)) (q .channels) (q .count) ⌝ }
     ensures { λ _. ⌜ ((held : Option R.Held) (i : ℕ) (x : R.Placed) → see (w .from) 0 (now (file .entry)) p (R.recording held (length (now (file .entry)) - p) i) ≡ goes x (q .end) → Stand (w .from) (now (file .entry)) (q .channels) (q .count) (x .recording .channels) → now (out .exit) ≡ pasted (now (out .entry)) p (copy w 0 (now (file .entry)) p (R.recording held (length (now (file .entry)) - p) i))) ⌝ }
 {
     let base = p + Head::LENGTH;
@@ -78,7 +79,7 @@ fn recording(w: Way, file: &[u8], p: usize, q: Places, out: &mut [u8])
 
 // A file with so many recordings.
 pub fn file_turned(o: Order, file: &[u8], count: u32, out: &mut [u8])
-    requires { ⌜ (32 ≤ length (now file)) × (length (now file) < 9223372036854775808) × (length (now file) ≤ length (now out)) ⌝ }
+    requires { ⌜ (32 ≤ length (now file)) × Addressable (length (now file)) × (length (now file) ≤ length (now out)) ⌝ }
     ensures { λ _. ⌜ ((f : R.FileHeader) (ps : List R.Placed) (e : ℕ) → see o 0 (now (file .entry)) 0 (R.fileHeader (length (now (file .entry)))) ≡ goes f 32 → see o 0 (now (file .entry)) 32 (R.recordings count none (length (now (file .entry)) - 32) 1) ≡ goes ps e → now (out .exit) ≡ pasted (now (out .entry)) 0 (copy (turning o) 0 (now (file .entry)) 0 (R.fileHeader (length (now (file .entry)))) ++ copy (turning o) 0 (now (file .entry)) 32 (R.recordings count none (length (now (file .entry)) - 32) 1))) ⌝ }
 {
     let w = Way {

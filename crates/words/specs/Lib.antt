@@ -3,3 +3,4 @@ pub mod Joins
 pub mod Values
 pub mod Floats
 pub mod Runs
+pub mod Sizes
