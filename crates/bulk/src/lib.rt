@@ -1,8 +1,11 @@
 // Runs of bytes in bulk: copied, cleared, and numbers of one width turned to the other byte order.
 ghost use mathlib.Core.Path.{_≡_};
+ghost use mathlib.Core.List.{_++_};
 ghost use Prim.Native.Nat.{_+_, _*_, _≤_, _<_};
-ghost use lib.ListN.{length, replicate};
+ghost use lib.ListN.{length, drop, replicate};
+ghost use Rattle.words.specs.Numbers.{word, bytesOf};
 ghost use Rattle.words.specs.Runs.{turned};
+ghost use Rattle.bulk.specs.Masks.{wovenWord};
 
 // One number of two bytes, turned.
 fn one_of_2(s: &[u8], d: &mut [u8])
@@ -65,6 +68,133 @@ fn one_of_3(s: &[u8], d: &mut [u8])
     d[0] = b2;
     d[1] = b1;
     d[2] = b0;
+}
+
+// A byte, as a number of 64 bits.
+fn wide(x: u8) -> u64
+    ensures { λ r. ⌜ (r ≡ x) × (r < 256) ⌝ }
+{
+    x as u64
+}
+
+// The number of eight bytes, the least byte first, in the form that the compiler makes one load.
+fn word_of_8(s: &[u8]) -> u64
+    requires { ⌜ length (now s) ≡ 8 ⌝ }
+    ensures { λ r. ⌜ r ≡ word (now (s .entry)) ⌝ }
+{
+    let b0 = wide(s[0]);
+    let b1 = wide(s[1]);
+    let b2 = wide(s[2]);
+    let b3 = wide(s[3]);
+    let b4 = wide(s[4]);
+    let b5 = wide(s[5]);
+    let b6 = wide(s[6]);
+    let b7 = wide(s[7]);
+    b0
+        + b1 * 0x100
+        + b2 * 0x1_0000
+        + b3 * 0x100_0000
+        + b4 * 0x1_0000_0000
+        + b5 * 0x100_0000_0000
+        + b6 * 0x1_0000_0000_0000
+        + b7 * 0x100_0000_0000_0000
+}
+
+// The bytes of a number, the least byte first, in the form that the compiler makes one store.
+fn put_8(d: &mut [u8], x: u64)
+    requires { ⌜ length (now d) ≡ 8 ⌝ }
+    ensures { λ _. ⌜ now (d .exit) ≡ bytesOf 8 x ⌝ }
+{
+    let x1 = x / 256;
+    let x2 = x1 / 256;
+    let x3 = x2 / 256;
+    let x4 = x3 / 256;
+    let x5 = x4 / 256;
+    let x6 = x5 / 256;
+    let x7 = x6 / 256;
+    d[0] = (x % 256) as u8;
+    d[1] = (x1 % 256) as u8;
+    d[2] = (x2 % 256) as u8;
+    d[3] = (x3 % 256) as u8;
+    d[4] = (x4 % 256) as u8;
+    d[5] = (x5 % 256) as u8;
+    d[6] = (x6 % 256) as u8;
+    d[7] = (x7 % 256) as u8;
+}
+
+// Eight bytes, each of them the byte that stands two places behind, the one that stands there or the one two places before, by three masks.
+fn woven(s: &[u8], a: u64, b: u64, c: u64) -> u64
+    requires { ⌜ length (now s) ≡ 12 ⌝ }
+    ensures { λ r. ⌜ r ≡ wovenWord (now (s .entry)) a b c ⌝ }
+{
+    let x = word_of_8(&s[4..12]);
+    let y = word_of_8(&s[2..10]);
+    let z = word_of_8(&s[0..8]);
+    (x & a) | (y & b) | (z & c)
+}
+
+// Three words of eight bytes.
+struct Words {
+    a: u64,
+    b: u64,
+    c: u64,
+}
+
+// Eight numbers of three bytes, turned, as words, from their bytes with two before and two behind.
+// What belongs into a word is loaded three times, two bytes apart, so that every byte stands where it belongs in one of the three.
+fn turned_words(s: &[u8]) -> Words
+    requires { ⌜ length (now s) ≡ 28 ⌝ }
+    ensures { λ r. ⌜ (bytesOf 8 (r .a) ++ bytesOf 8 (r .b)) ++ bytesOf 8 (r .c) ≡ turned 3 8 (drop 2 (now (s .entry))) ⌝ }
+{
+    let a = woven(
+        &s[0..12],
+        0x00ff_0000_ff00_00ff,
+        0xff00_00ff_0000_ff00,
+        0x0000_ff00_00ff_0000,
+    );
+    let b = woven(
+        &s[8..20],
+        0xff00_00ff_0000_ff00,
+        0x0000_ff00_00ff_0000,
+        0x00ff_0000_ff00_00ff,
+    );
+    let c = woven(
+        &s[16..28],
+        0x0000_ff00_00ff_0000,
+        0x00ff_0000_ff00_00ff,
+        0xff00_00ff_0000_ff00,
+    );
+    Words { a: a, b: b, c: c }
+}
+
+// The bytes of three words.
+fn put_words(d: &mut [u8], w: Words)
+    requires { ⌜ length (now d) ≡ 24 ⌝ }
+    ensures { λ _. ⌜ now (d .exit) ≡ (bytesOf 8 (w .a) ++ bytesOf 8 (w .b)) ++ bytesOf 8 (w .c) ⌝ }
+{
+    put_8(&mut d[0..8], w.a);
+    put_8(&mut d[8..16], w.b);
+    put_8(&mut d[16..24], w.c);
+}
+
+// Eight numbers of three bytes, turned, from their bytes with two before and two behind.
+fn eight_of_3(s: &[u8], d: &mut [u8])
+    requires { ⌜ (length (now s) ≡ 28) × (length (now d) ≡ 24) ⌝ }
+    ensures { λ _. ⌜ now (d .exit) ≡ turned 3 8 (drop 2 (now (s .entry))) ⌝ }
+{
+    let w = turned_words(s);
+    put_words(d, w);
+}
+
+// Sixteen numbers of three bytes: all loads, then all stores, which the compiler makes three times sixteen bytes.
+fn sixteen_of_3(s: &[u8], d: &mut [u8])
+    requires { ⌜ (length (now s) ≡ 52) × (length (now d) ≡ 48) ⌝ }
+    ensures { λ _. ⌜ now (d .exit) ≡ turned 3 16 (drop 2 (now (s .entry))) ⌝ }
+{
+    let v = turned_words(&s[0..28]);
+    let w = turned_words(&s[24..52]);
+    put_words(&mut d[0..24], v);
+    put_words(&mut d[24..48], w);
 }
 
 // One number of four bytes, turned.
@@ -136,6 +266,21 @@ fn rest_of_2(src: &[u8], dst: &mut [u8], n: usize)
     }
 }
 
+// The numbers of three bytes that are left after the blocks.
+fn rest_of_3(src: &[u8], dst: &mut [u8], n: usize)
+    requires { ⌜ (length (now src) ≡ n * 3) × (length (now dst) ≡ n * 3) ⌝ }
+    ensures { λ _. ⌜ now (dst .exit) ≡ turned 3 n (now (src .entry)) ⌝ }
+{
+    let mut i = 0;
+    let mut at = 0;
+    while i < n {
+        let end = at + 3;
+        one_of_3(&src[at..end], &mut dst[at..end]);
+        at = end;
+        i += 1;
+    }
+}
+
 // The numbers of four bytes that are left after the blocks of four.
 fn rest_of_4(src: &[u8], dst: &mut [u8], n: usize)
     requires { ⌜ (length (now src) ≡ n * 4) × (length (now dst) ≡ n * 4) ⌝ }
@@ -167,8 +312,7 @@ pub fn turn2(src: &[u8], dst: &mut [u8], n: usize)
     rest_of_2(&src[at..], &mut dst[at..], n - i);
 }
 
-// A run of n numbers of three bytes, turned. Between the first and the last, four bytes are turned at once, which the compiler makes one load
-// and one store: the byte before the number comes behind it, where the next number is then written.
+// A run of n numbers of three bytes, turned. The first and the last are turned by themselves, since a block reads two bytes before it and two behind it.
 pub fn turn3(src: &[u8], dst: &mut [u8], n: usize)
     requires { ⌜ (length (now src) ≡ n * 3) × (length (now dst) ≡ n * 3) ⌝ }
     ensures { λ _. ⌜ now (dst .exit) ≡ turned 3 n (now (src .entry)) ⌝ }
@@ -179,15 +323,19 @@ pub fn turn3(src: &[u8], dst: &mut [u8], n: usize)
     let mut i = 1;
     let mut at = 3;
     one_of_3(&src[..at], &mut dst[..at]);
-    while i + 1 < n {
-        let end = at + 3;
-        one_of_4(&src[at - 1..end], &mut dst[at..end + 1]);
+    while n - i > 16 {
+        let end = at + 48;
+        sixteen_of_3(&src[at - 2..end + 2], &mut dst[at..end]);
         at = end;
-        i += 1;
+        i += 16;
     }
-    if i < n {
-        one_of_3(&src[at..], &mut dst[at..]);
+    while n - i > 8 {
+        let end = at + 24;
+        eight_of_3(&src[at - 2..end + 2], &mut dst[at..end]);
+        at = end;
+        i += 8;
     }
+    rest_of_3(&src[at..], &mut dst[at..], n - i);
 }
 
 // A run of n numbers of four bytes, turned.

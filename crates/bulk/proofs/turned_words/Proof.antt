@@ -1,0 +1,41 @@
+-- `bulk::turned_words` meets its contract, by the law of masks.
+-- Assumes nothing.
+use mathlib.Core.Path.{_∙_}
+use mathlib.Core.List.{_++_}
+use lib.ListN.{take, drop}
+use denote.Ref.{now}
+use borrow.Author.Needs.{needs}
+use Rattle.words.specs.Numbers.{word}
+use Rattle.words.proofs.Words.{bytes, bytes-take, bytes-drop}
+use Rattle.bulk.proofs.Masks.{woven-bytes, first, second, third, eight-turned}
+use Rattle.bulk.proofs.turned_words.Statement.{statement}
+use Rattle.bulk.proofs.turned_words.Tie as tie
+
+returns : tie.Need-returns
+unfolding word
+returns c =
+    let start = c .before .before .before .before .before .before .before in
+    let s = now (start .args .s) in
+    let b = bytes s (λ i. c .before .before .before .before .before .before .shared-slice-known .given i .fits) in
+    let x = woven-bytes first (take 12 s) _ (bytes-take 12 s b) (c .before .before .before .before .woven .ensures) in
+    let y = woven-bytes second (take 12 (drop 8 s)) _ (bytes-take 12 (drop 8 s) (bytes-drop 8 s b)) (c .before .before .woven2 .ensures) in
+    let z = woven-bytes third (take 12 (drop 16 s)) _ (bytes-take 12 (drop 16 s) (bytes-drop 16 s b)) (c .woven3 .ensures) in
+    (λ i. (x i ++ y i) ++ z i) ∙ eight-turned s (start .pre)
+
+pub turned-words-spec : {M : Type 1} → statement M
+turned-words-spec =
+    tie.close
+    (tie.spec
+    (λ c. search needs)
+    (λ c. search needs)
+    (λ c. search needs)
+    (λ c κs. search needs)
+    (λ c. search needs)
+    (λ c. search needs)
+    (λ c. search needs)
+    (λ c κs. search needs)
+    (λ c. search needs)
+    (λ c. search needs)
+    (λ c. search needs)
+    (λ c κs. search needs)
+    returns)
