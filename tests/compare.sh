@@ -11,21 +11,16 @@ seed=${SEED:-$(date +%s)}
 count=${COUNT:-5000}
 rounds=${ROUNDS:-20000}
 
-for crate in tests/second tests/ask tests/agree bench; do
-    (cd "$crate" && cargo build --release --offline --quiet)
-done
-second=tests/second/target/release/second
-ask=tests/ask/target/release/ask
-agree=tests/agree/target/release/agree
-load=bench/target/release/load
+(cd rust && cargo build --release --offline --quiet)
+built=rust/target/release
 files=$(mktemp -d)
 trap 'rm -rf "$files"' EXIT
 tar xzf "$corpus" -C "$files"
-"$second" corpus "$files/corpus"
-"$ask" "$files/corpus" <"$files/corpus/questions.ask" | diff - "$files/corpus/questions.ans"
+"$built/second" corpus "$files/corpus"
+"$built/ask" "$files/corpus" <"$files/corpus/questions.ask" | diff - "$files/corpus/questions.ans"
 echo "$(wc -l <"$files/corpus/questions.ask") lines of the corpus through the library, 0 differences"
-"$agree" "$seed" "$rounds"
-"$load" --small
+"$built/agree" "$seed" "$rounds"
+"$built/load" --small
 differ=0 listed=0
 for f in "$files"/corpus/*.bin; do
     listed=$((listed + 1))
@@ -33,4 +28,4 @@ for f in "$files"/corpus/*.bin; do
 done
 echo "$listed files of the corpus listed, $differ differences"
 [ "$differ" -eq 0 ]
-"$second" compare "$listing" "$seed" "$count"
+"$built/second" compare "$listing" "$seed" "$count"

@@ -3,9 +3,9 @@
 
 For each file of at most MOST_BYTES bytes (default 1200, at most COUNT of them, default 400) it writes the theorem
 that the definitions give exactly the answer in NAME.out, each proved by computation alone, and has rt check them,
-in a copy of the repository under target/. The last line counts the files.
+in a copy of the definitions that goes with the run. The last line counts the files.
 """
-import os, re, shutil, subprocess, sys
+import os, re, shutil, subprocess, sys, tempfile
 
 HERE = os.path.dirname(os.path.dirname(os.path.abspath(__file__)))
 PER_MODULE = 20
@@ -39,20 +39,8 @@ def module(files, rules, walk, numbers):
     return '\n'.join(lines)
 
 
-def main():
-    corpus = sys.argv[1]
-    most = int(sys.argv[2]) if len(sys.argv) > 2 else 1200
-    count = int(sys.argv[3]) if len(sys.argv) > 3 else 400
-    files = []
-    for f in sorted(os.listdir(corpus)):
-        if f.endswith('.bin') and os.path.getsize(os.path.join(corpus, f)) <= most and len(files) < count:
-            data = open(os.path.join(corpus, f), 'rb').read()
-            files.append((f[:-4], data, open(os.path.join(corpus, f[:-4] + '.out')).read()))
-    rules = unfoldable('crates/rules/specs/Rules.antt')
-    walk = unfoldable('crates/walk/specs/Walk.antt', ('render', 'size', 'cleared', 'after'))
-    numbers = ['ordered', 'word', 'wordIn']
-    top = os.path.join(HERE, 'target', 'definitions')
-    shutil.rmtree(top, ignore_errors=True)
+def checked(top, files, rules, walk, numbers):
+    """Whether rt accepts the theorems, in a copy under `top`, and what it says."""
     for crate in ('words', 'walk', 'rules'):
         shutil.copytree(os.path.join(HERE, 'crates', crate), os.path.join(top, 'crates', crate))
     own = os.path.join(top, 'crates', 'corpus')
@@ -67,9 +55,24 @@ def main():
         open(os.path.join(own, 'proofs', mods[-1] + '.antt'), 'w').write(module(files[i:i + PER_MODULE], rules, walk, numbers))
     open(os.path.join(own, 'proofs', 'Lib.antt'), 'w').write(''.join('pub mod %s\n' % m for m in mods))
     run = subprocess.run(['rt', 'check', 'corpus'], cwd=top, capture_output=True, text=True)
-    text = run.stdout + run.stderr
+    return run.returncode == 0, run.stdout + run.stderr
+
+
+def main():
+    corpus = sys.argv[1]
+    most = int(sys.argv[2]) if len(sys.argv) > 2 else 1200
+    count = int(sys.argv[3]) if len(sys.argv) > 3 else 400
+    files = []
+    for f in sorted(os.listdir(corpus)):
+        if f.endswith('.bin') and os.path.getsize(os.path.join(corpus, f)) <= most and len(files) < count:
+            data = open(os.path.join(corpus, f), 'rb').read()
+            files.append((f[:-4], data, open(os.path.join(corpus, f[:-4] + '.out')).read()))
+    rules = unfoldable('crates/rules/specs/Rules.antt')
+    walk = unfoldable('crates/walk/specs/Walk.antt', ('render', 'size', 'cleared', 'after'))
+    numbers = ['ordered', 'word', 'wordIn']
+    with tempfile.TemporaryDirectory() as top:
+        ok, text = checked(top, files, rules, walk, numbers)
     bad = sorted(set(re.findall(r'error: `(\w+)`', text)))
-    ok = run.returncode == 0
     print('\n'.join(bad) if bad else text[-600:] if not ok else '', end='\n' if not ok else '')
     accepted = sum(not o.startswith('refused') for _, _, o in files)
     print('%d files (%d accepted) judged by the definitions, %s' % (len(files), accepted, 'all agree' if ok else 'NOT all agree'))

@@ -6,4 +6,4 @@ cd "$(dirname "$0")/.."
 rt staticlib psg > /dev/null
 path=$(mktemp)
 trap 'rm -f "$path"' EXIT
-(cd tests/large && cargo run --release --offline --quiet -- "$path")
+(cd rust && cargo run --release --offline --quiet --package psg-large -- "$path")

@@ -4,6 +4,7 @@
 
 use second::bytes::Order;
 use second::header::{self, Header};
+use second::random::Random;
 use second::record::{channel, channels, frame, frames, items, overview, Format, Kind, HEAD};
 use second::rewrite::grouping;
 use second::table::Row;
@@ -130,7 +131,7 @@ impl Night {
         page.head(Kind::Frames, 0, content);
         page.numbers(&[1, self.frame_length() as i32, self.frames as i32, 0]);
         let mut signals: Vec<Signal> = (0..self.rates.len() as u64)
-            .map(|number| Signal::new(self.seed ^ number << 32))
+            .map(|number| Signal::new(Random::new(self.seed, number)))
             .collect();
         for second in 0..self.frames {
             page.head(Kind::Frame, second as i32 + 1, self.frame_length());
@@ -221,26 +222,19 @@ impl Page {
 
 /// A channel's signal: noise that drifts back to zero, within 16 bits.
 struct Signal {
-    noise: u64,
+    noise: Random,
     level: i32,
 }
 
 impl Signal {
-    fn new(seed: u64) -> Signal {
-        Signal {
-            noise: seed,
-            level: 0,
-        }
+    fn new(noise: Random) -> Signal {
+        Signal { noise, level: 0 }
     }
 
     fn sample(&mut self, format: Format) -> i32 {
-        // Knuth's generator for MMIX; its high bits are the good ones.
-        self.noise = self
-            .noise
-            .wrapping_mul(6_364_136_223_846_793_005)
-            .wrapping_add(1_442_695_040_888_963_407);
-        self.level += (self.noise >> 52) as i32 - 2048 - self.level / 8;
-        let fine = (self.noise >> 36) as u16;
+        let drawn = self.noise.word();
+        self.level += (drawn >> 52) as i32 - 2048 - self.level / 8;
+        let fine = drawn as u16;
         match format {
             Format::Signed16 => self.level,
             Format::Signed24 => self.level << 8 | i32::from(fine >> 8),

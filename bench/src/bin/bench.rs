@@ -1,6 +1,6 @@
-//! `bench [MINUTES]`: the proved library against plain Rust, the fastest safe Rust and memcpy, on one recording of a night
-//! (of so many minutes; eight hours if not said), a table of ratios with the goals beside them. Median of several rounds,
-//! in each of which every call is made once, in turn, so that a busy machine slows them alike.
+//! `bench [MINUTES]`: the proved library against plain Rust, the fastest safe Rust and memcpy, on one recording of a
+//! night (of so many minutes; eight hours if not said), a table of ratios with the goals beside them. Median of several
+//! rounds, in each of which every call is made once, in turn, so that a busy machine slows them alike.
 //!
 //!     cargo run --release --offline
 //!
@@ -170,14 +170,16 @@ fn rewriting() -> [Race; 2] {
         Race {
             name: "rewrite, same order".to_string(),
             library: |file, out| {
-                black_box(psg::rewrite(file, b'L', &mut out.bytes)).expect("a night is rewritten");
+                black_box(psg::rewrite(file, psg::Order::Little, &mut out.bytes))
+                    .expect("a night is rewritten");
             },
             others: vec![("memcpy", memcpy, Some(0.5))],
         },
         Race {
             name: "rewrite, other order".to_string(),
             library: |file, out| {
-                black_box(psg::rewrite(file, b'B', &mut out.bytes)).expect("a night is rewritten");
+                black_box(psg::rewrite(file, psg::Order::Big, &mut out.bytes))
+                    .expect("a night is rewritten");
             },
             others: vec![("memcpy", memcpy, None)],
         },

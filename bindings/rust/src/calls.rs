@@ -1,4 +1,5 @@
-//! The calls of libpsg.a, as include/psg.h declares them. The one module with `unsafe`: a slice is passed as its pointer and length.
+//! The calls of libpsg.a, as include/psg.h declares them. The one module with `unsafe`: a slice is passed as its
+//! pointer and length.
 
 use crate::Refusal;
 

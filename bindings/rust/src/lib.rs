@@ -1,46 +1,64 @@
-//! Recordings in the JSSR PSG common format 3.00: a file's table, questions about it, turning it to the other byte order,
-//! and writing it anew in its canonical form, by a library whose every function is proved to meet its contract.
+//! Recordings in the JSSR PSG common format 3.00: a file's table, questions about it, turning it to the other byte
+//! order, and writing it anew in its canonical form, by a library whose every function is proved to meet its contract.
 //!
 //! Every call judges the file itself and answers every file and every argument. Recordings, channels, items and frames
 //! are asked for from 1, samples from 0.
 //!
 //! ```
+//! use psg::Order;
+//!
 //! let file = std::fs::read("../../crates/listing/stdin").unwrap();
 //! let facts = psg::facts(&file, 1)?;
 //! assert_eq!((facts.channels, facts.frames, facts.seconds), (1, 1, 1));
 //! let turned = psg::turned(&file)?;
 //! assert_eq!(psg::turned(&turned)?, file);
-//! assert_eq!(psg::rewritten(&turned, b'L')?, psg::rewritten(&file, b'L')?);
+//! assert_eq!((psg::order(&file)?, psg::order(&turned)?), (Order::Little, Order::Big));
+//! assert_eq!(psg::rewritten(&turned, Order::Little)?, psg::rewritten(&file, Order::Little)?);
 //! # Ok::<(), psg::Refusal>(())
 //! ```
 
+#![warn(missing_docs)]
+
 mod calls;
+mod float;
+mod order;
 mod refusal;
 
 use calls::Answer;
+pub use float::FloatBits;
+pub use order::Order;
 pub use refusal::Refusal;
 
 /// A record of the table.
 #[derive(Clone, Copy, Debug, PartialEq, Eq)]
 pub struct Row {
+    /// Where it begins in the file.
     pub position: i64,
+    /// Its length in bytes, multiplied already.
     pub length: i64,
+    /// What it is, as document 01 numbers them: 10 is a recording, 145 a frame, 1024 or more a maker's record.
     pub code: i64,
+    /// Recordings, channels and frames are numbered from 1, and makers' records as they like; others have 0.
     pub serial: i64,
 }
 
 /// M, F and T: how many channels and frames a recording has, and the seconds of a frame.
 #[derive(Clone, Copy, Debug, PartialEq, Eq)]
 pub struct Facts {
+    /// M, the channels.
     pub channels: u32,
+    /// F, the frames.
     pub frames: u32,
+    /// T, the seconds of a frame.
     pub seconds: u32,
 }
 
 /// A text, by where it stands in the file.
 #[derive(Clone, Copy, Debug, PartialEq, Eq)]
 pub struct Text {
+    /// Where it begins.
     pub position: usize,
+    /// How many bytes it has.
     pub length: usize,
 }
 
@@ -51,51 +69,73 @@ impl Text {
     }
 }
 
-/// CAL, CAL AD, Offset AD and Offset CAL: floats, by their 32 bits, when the channel's format is 4.
+/// CAL, CAL AD, Offset AD and Offset CAL.
 #[derive(Clone, Copy, Debug, PartialEq, Eq)]
 pub enum Calibration {
-    Floats([u32; 4]),
+    /// Where the channel's format is 4.
+    Floats([FloatBits; 4]),
+    /// Where it is another.
     Numbers([i32; 4]),
 }
 
-/// A channel's descriptor.
+/// A channel's descriptor, record 125.
 #[derive(Clone, Copy, Debug, PartialEq, Eq)]
 pub struct Channel {
+    /// The channel number.
     pub number: i32,
+    /// The flags; bit 0 says what the rate is.
     pub flags: i32,
+    /// The type, 0 to 18 or 20; 0 is OFF.
     pub kind: i32,
+    /// A sample is a signed number of 16, 24 or 32 bits (1, 2 and 3), or a float (4).
     pub format: i32,
+    /// Samples a second, or microseconds a sample where bit 0 of the flags is 1; 0 means no samples.
     pub rate: i32,
+    /// The four calibration numbers.
     pub calibration: Calibration,
+    /// The calibration frequency.
     pub calibration_frequency: i32,
+    /// The first filter.
     pub low_cut: i32,
+    /// The second filter.
     pub high_cut: i32,
+    /// The sensitivity.
     pub sensitivity: i32,
+    /// The label.
     pub label: Text,
+    /// The unit.
     pub unit: Text,
+    /// The comment.
     pub comment: Text,
 }
 
 /// A patient's or an event's item.
 #[derive(Clone, Copy, Debug, PartialEq, Eq)]
 pub struct Item {
+    /// What the item is about.
     pub code: i32,
+    /// What it says.
     pub text: Text,
 }
 
 /// The clock time of a frame.
 #[derive(Clone, Copy, Debug, PartialEq, Eq)]
 pub struct Clock {
+    /// 0 to 23.
     pub hour: u32,
+    /// 0 to 59.
     pub minute: u32,
+    /// 0 to 59.
     pub second: u32,
 }
 
-/// A sample: a whole number, or a float by its 32 bits (`f32::from_bits` gives it, and keeps a NaN's pattern).
+/// A sample.
 #[derive(Clone, Copy, Debug, PartialEq, Eq)]
 pub enum Sample {
+    /// A signed number of 16, 24 or 32 bits.
     Whole(i32),
-    Float(u32),
+    /// A float.
+    Float(FloatBits),
 }
 
 /// Writes four numbers a record into `rows` (position, length, code, serial), by position: how many records.
@@ -128,13 +168,30 @@ pub fn turned(file: &[u8]) -> Result<Vec<u8>, Refusal> {
     Ok(out)
 }
 
-/// Writes the canonical file in the byte order asked for, `b'L'` or `b'B'`, into `out`: how many bytes.
-pub fn rewrite(file: &[u8], order: u8, out: &mut [u8]) -> Result<usize, Refusal> {
-    Ok(calls::rewrite(file, order, out).answer()?.count as usize)
+/// The byte order of a file. The library has no such question: `facts` judges the file, and what it accepts names its
+/// order in the header.
+pub fn order(file: &[u8]) -> Result<Order, Refusal> {
+    const LETTER: usize = 16;
+    facts(file, 1)?;
+    Order::from_letter(file[LETTER]).ok_or(Refusal {
+        number: 5,
+        position: LETTER,
+    })
+}
+
+/// Writes the canonical file in the byte order asked for into `out`: how many bytes.
+pub fn rewrite(file: &[u8], order: Order, out: &mut [u8]) -> Result<usize, Refusal> {
+    rewrite_by_letter(file, order.letter(), out)
+}
+
+/// The same by the letter, as the library takes it: 19 for one that names no order, which [`Order`] cannot ask for and
+/// tests have to.
+pub fn rewrite_by_letter(file: &[u8], letter: u8, out: &mut [u8]) -> Result<usize, Refusal> {
+    Ok(calls::rewrite(file, letter, out).answer()?.count as usize)
 }
 
 /// The canonical file in the byte order asked for.
-pub fn rewritten(file: &[u8], order: u8) -> Result<Vec<u8>, Refusal> {
+pub fn rewritten(file: &[u8], order: Order) -> Result<Vec<u8>, Refusal> {
     let mut out = vec![0; needed(rewrite(file, order, &mut []))?];
     rewrite(file, order, &mut out)?;
     Ok(out)
@@ -170,7 +227,7 @@ pub fn channel(file: &[u8], recording: usize, channel: usize) -> Result<Channel,
         rate: c.rate,
         calibration: match c.is_float {
             0 => Calibration::Numbers(calibration.map(|bits| bits as i32)),
-            _ => Calibration::Floats(calibration),
+            _ => Calibration::Floats(calibration.map(FloatBits)),
         },
         calibration_frequency: c.frequency,
         low_cut: c.low_cut,
@@ -239,7 +296,7 @@ pub fn sample(
     let sample = calls::sample(file, recording, frame, channel, sample).answer()?;
     Ok(match sample.is_float {
         0 => Sample::Whole(sample.value),
-        _ => Sample::Float(sample.bits),
+        _ => Sample::Float(FloatBits(sample.bits)),
     })
 }
 

@@ -1,10 +1,35 @@
 //! The smallest file with samples (562 bytes): every call, and refusals in words.
 
-use psg::{Calibration, Refusal, Sample};
+use psg::{Calibration, FloatBits, Order, Refusal, Sample};
 
 fn smallest() -> Vec<u8> {
     std::fs::read("../../crates/listing/stdin").expect("the sample file of `listing`")
 }
+
+/// The same with a channel of floats: its CAL, and its one sample, two bytes longer than it was.
+fn floating(cal: u32, sample: u32) -> Vec<u8> {
+    let mut file = smallest();
+    file.splice(544..546, sample.to_le_bytes());
+    // The sizes of the 10, the 140 and the 145, and the frame length.
+    let sizes = [(32, 532), (488, 60), (520, 28), (508, 28)];
+    let (format, cal) = ((236, 4), (244, cal));
+    for (at, number) in sizes.into_iter().chain([format, cal]) {
+        file[at..at + 4].copy_from_slice(&u32::to_le_bytes(number));
+    }
+    file
+}
+
+/// Numbers, infinities, and NaNs: quiet and signalling, of either sign, with a payload.
+const FLOATS: [u32; 8] = [
+    0x3fc0_0000,
+    0x8000_0000,
+    0x7f80_0000,
+    0xff80_0000,
+    0x7fc0_0000,
+    0xffc0_beef,
+    0x7f80_0001,
+    0xffbf_ffff,
+];
 
 #[test]
 fn the_table_has_eight_rows() {
@@ -75,10 +100,50 @@ fn a_refusal_says_what_it_means() {
 }
 
 #[test]
+fn a_float_keeps_its_bits_as_f32() {
+    for bits in FLOATS {
+        assert_eq!(FloatBits(bits).as_f32().to_bits(), bits);
+        let file = floating(bits, bits);
+        for file in [psg::turned(&file).unwrap(), file] {
+            let Ok(Sample::Float(sample)) = psg::sample(&file, 1, 1, 1, 0) else {
+                panic!("the sample is a float");
+            };
+            assert_eq!((sample, sample.as_f32().to_bits()), (FloatBits(bits), bits));
+            let expected = [bits, 0, 0, 0].map(FloatBits);
+            let channel = psg::channel(&file, 1, 1).unwrap();
+            assert_eq!(channel.calibration, Calibration::Floats(expected));
+        }
+    }
+    assert_eq!(FloatBits(FLOATS[0]).as_f32(), 1.5);
+}
+
+#[test]
+fn an_order_has_a_letter_and_a_letter_has_an_order() {
+    for order in [Order::Little, Order::Big] {
+        assert_eq!(Order::from_letter(order.letter()), Some(order));
+        assert_eq!(order.other().other(), order);
+        assert_ne!(order.other(), order);
+    }
+    let named = (0..=u8::MAX).filter(|&letter| Order::from_letter(letter).is_some());
+    assert_eq!(named.collect::<Vec<u8>>(), b"BL");
+}
+
+#[test]
+fn a_refused_file_has_no_order() {
+    let mut file = smallest();
+    assert_eq!(psg::order(&file), Ok(Order::Little));
+    file[16] = b'l';
+    let refused = psg::order(&file).unwrap_err();
+    assert_eq!((refused.number, refused.position), (5, 16));
+    assert_eq!(psg::order(&[]).unwrap_err().number, 1);
+}
+
+#[test]
 fn turning_twice_gives_the_file() {
     let file = smallest();
     let turned = psg::turned(&file).unwrap();
-    assert_eq!((file[16], turned[16]), (b'L', b'B'));
+    assert_eq!(psg::order(&file), Ok(Order::Little));
+    assert_eq!(psg::order(&turned), Ok(Order::Big));
     assert_eq!(
         psg::sample(&turned, 1, 1, 1, 0),
         psg::sample(&file, 1, 1, 1, 0)
@@ -89,15 +154,16 @@ fn turning_twice_gives_the_file() {
 #[test]
 fn rewriting_gives_the_canonical_file_in_either_order() {
     let file = smallest();
-    let little = psg::rewritten(&file, b'L').unwrap();
-    let big = psg::rewritten(&file, b'B').unwrap();
-    assert_eq!(psg::rewritten(&big, b'L'), Ok(little.clone()));
+    let little = psg::rewritten(&file, Order::Little).unwrap();
+    let big = psg::rewritten(&file, Order::Big).unwrap();
+    assert_eq!(psg::rewritten(&big, Order::Little), Ok(little.clone()));
     assert_eq!(psg::turned(&little), Ok(big));
-    assert_eq!(psg::rewrite(&file, b'l', &mut []).unwrap_err().number, 19);
+    let refused = psg::rewrite_by_letter(&file, b'l', &mut []).unwrap_err();
+    assert_eq!((refused.number, refused.position), (19, 0));
     let mut out = [7; 570];
-    let refused = psg::rewrite(&file, b'L', &mut out[..561]).unwrap_err();
+    let refused = psg::rewrite(&file, Order::Little, &mut out[..561]).unwrap_err();
     assert_eq!((refused.number, refused.position), (17, 562));
     assert_eq!(out, [7; 570]);
-    assert_eq!(psg::rewrite(&file, b'L', &mut out), Ok(562));
+    assert_eq!(psg::rewrite(&file, Order::Little, &mut out), Ok(562));
     assert_eq!(out[562..], [7; 8]);
 }

@@ -40,17 +40,18 @@ fn turn_differs(file: &[u8]) -> Option<String> {
 
 /// In both orders, and in one that is none.
 fn rewrite_differs(file: &[u8]) -> Option<String> {
-    [b'L', b'B', b'b'].into_iter().find_map(|order| {
+    [b'L', b'B', b'b'].into_iter().find_map(|letter| {
         call_differs(
-            &format!("rewrite in {}", char::from(order)),
+            &format!("rewrite in {}", char::from(letter)),
             file,
-            |out| psg::rewrite(file, order, out),
-            |room| second::rewrite::rewrite(file, order.into(), room),
+            |out| psg::rewrite_by_letter(file, letter, out),
+            |room| second::rewrite::rewrite(file, letter.into(), room),
         )
     })
 }
 
-/// A call's first difference: with room to spare, just enough, one too little and none. A refused one gets room as well.
+/// A call's first difference: with room to spare, just enough, one too little and none. A refused one gets room as
+/// well.
 fn call_differs<T: Copy + Debug + From<u8> + PartialEq>(
     call: &str,
     file: &[u8],

@@ -2,38 +2,34 @@
 
 use second::judge::judge;
 use second::model::Recording;
+use second::random::Random;
 
 pub struct Question {
     pub op: &'static str,
     pub args: Vec<u64>,
 }
 
-/// A question's arguments, each with the first number of its range and how many there are.
-type Ranges = Vec<(u64, u64)>;
+/// The first number of a range, and how many there are.
+type Range = (u64, u64);
+
+/// A range for each of a question's arguments.
+type Ranges = Vec<Range>;
 
 const AFRESH: usize = 4;
 
-/// Numbers drawn from a seed (SplitMix64).
-pub struct Random(pub u64);
+/// A number of the range, or its first where it is empty.
+fn inside(random: &mut Random, (first, count): Range) -> u64 {
+    first + random.word() % count.max(1)
+}
 
-impl Random {
-    fn next(&mut self) -> u64 {
-        self.0 = self.0.wrapping_add(0x9e37_79b9_7f4a_7c15);
-        let mixed = (self.0 ^ (self.0 >> 30)).wrapping_mul(0xbf58_476d_1ce4_e5b9);
-        let mixed = (mixed ^ (mixed >> 27)).wrapping_mul(0x94d0_49bb_1331_11eb);
-        mixed ^ (mixed >> 31)
-    }
+fn all_inside(random: &mut Random, ranges: &[Range]) -> Vec<u64> {
+    ranges.iter().map(|&range| inside(random, range)).collect()
+}
 
-    /// A number of the range, or its first where it is empty.
-    fn inside(&mut self, (first, count): (u64, u64)) -> u64 {
-        first + self.next() % count.max(1)
-    }
-
-    /// A number of any size.
-    fn any(&mut self) -> u64 {
-        let size = self.next() % 64;
-        self.next() >> size
-    }
+/// A number of any size.
+fn any(random: &mut Random) -> u64 {
+    let size = random.below(64);
+    random.word() >> size
 }
 
 /// What is asked about a file. A refused file has one recording with one of each.
@@ -42,13 +38,13 @@ pub fn questions(file: &[u8], random: &mut Random) -> Vec<Question> {
     match judge(file) {
         Err(_) => {
             for (op, ranges) in ranges(1, None, random) {
-                let args = ranges.iter().map(|&range| random.inside(range)).collect();
+                let args = all_inside(random, &ranges);
                 drawn.push(Question { op, args });
             }
         }
         Ok(model) => {
             let count = model.recordings.len() as u64;
-            let which = random.inside((0, count)) as usize;
+            let which = inside(random, (0, count)) as usize;
             for (op, mut ranges) in ranges(count, model.recordings.get(which), random) {
                 about(op, &ranges, random, &mut drawn);
                 ranges[0] = (which as u64 + 1, 1);
@@ -68,7 +64,7 @@ fn ranges(
     let many = |count: fn(&Recording) -> usize| (1, recording.map_or(1, |r| count(r) as u64));
     let channels = many(|r| r.channels.len());
     let frames = many(|r| r.block.frames.len());
-    let channel = random.inside((0, channels.1)) as usize;
+    let channel = inside(random, (0, channels.1)) as usize;
     let samples = recording.and_then(|r| r.block.slots.get(channel));
     let samples = (0, samples.map_or(1, |slot| slot.count));
     let recordings = (1, recordings);
@@ -90,23 +86,19 @@ fn about(op: &'static str, ranges: &Ranges, random: &mut Random, drawn: &mut Vec
     for (place, &(first, count)) in ranges.iter().enumerate() {
         let last = (first + count).saturating_sub(1);
         for bound in [0, 1, last, last + 1, 1 << 32, 1 << 63, u64::MAX] {
-            let mut args = inside(ranges, random);
+            let mut args = all_inside(random, ranges);
             args[place] = bound;
             drawn.push(Question { op, args });
         }
     }
     for _ in 0..AFRESH {
-        let mut args = inside(ranges, random);
+        let mut args = all_inside(random, ranges);
         drawn.push(Question {
             op,
             args: args.clone(),
         });
-        let place = random.inside((0, args.len() as u64)) as usize;
-        args[place] = random.any();
+        let place = random.below(args.len());
+        args[place] = any(random);
         drawn.push(Question { op, args });
     }
-}
-
-fn inside(ranges: &Ranges, random: &mut Random) -> Vec<u64> {
-    ranges.iter().map(|&range| random.inside(range)).collect()
 }

@@ -1,7 +1,8 @@
 //! Files made afresh, valid and damaged, through the library and the second program.
 
 use crate::buffers::written_differs;
-use crate::draw::{questions, Question, Random};
+use crate::draw::{questions, Question};
+use second::random::Random;
 use second::{generate, judge};
 use std::num::NonZero;
 use std::thread;
@@ -59,7 +60,8 @@ fn share(seed: u64, indices: impl Iterator<Item = u64>, until: Until) -> Compare
     let mut compared = Compared::default();
     for index in indices.take_while(|&index| until.takes(index)) {
         let file = generate::file(seed, index).bytes;
-        let asked = questions(&file, &mut Random(seed ^ index.rotate_left(32)));
+        // Not the sequence that the file itself was drawn from.
+        let asked = questions(&file, &mut Random::new(!seed, index));
         compared.files += 1;
         compared.accepted += u64::from(judge::judge(&file).is_ok());
         compared.questions += asked.len() as u64;

@@ -1,11 +1,11 @@
-//! The questions of a corpus put to the proved library, and its answers in the corpus' form. A call that writes is lent a
-//! buffer with marks, so that a write beyond its answer shows.
+//! The questions of a corpus put to the proved library, and its answers in the corpus' form. A call that writes is lent
+//! a buffer with marks, so that a write beyond its answer shows.
 
 mod lent;
 
 pub use lent::{marked, Answer, Lent};
 
-use psg::{Calibration, Channel, Item, Text};
+use psg::{Calibration, Channel, FloatBits, Item, Text};
 use second::lines::joined;
 use second::refusal::Refusal;
 
@@ -14,9 +14,10 @@ pub fn answer(file: &[u8], op: &str, args: &[u64]) -> Option<Answer> {
     match (op, args) {
         ("table", &[room]) => return Some(table(file, room)),
         ("turn", &[room]) => return Some(bytes(file, room, |out| psg::turn(file, out))),
-        ("rewrite", &[order, room]) => {
-            let order = u8::try_from(order).ok()?;
-            return Some(bytes(file, room, |out| psg::rewrite(file, order, out)));
+        ("rewrite", &[letter, room]) => {
+            let letter = u8::try_from(letter).ok()?;
+            let rewrite = |out: &mut [u8]| psg::rewrite_by_letter(file, letter, out);
+            return Some(bytes(file, room, rewrite));
         }
         _ => {}
     }
@@ -81,7 +82,7 @@ fn item(item: Item) -> String {
 fn sample(sample: psg::Sample) -> String {
     match sample {
         psg::Sample::Whole(value) => format!("0 {value}"),
-        psg::Sample::Float(bits) => format!("1 {bits}"),
+        psg::Sample::Float(FloatBits(bits)) => format!("1 {bits}"),
     }
 }
 
@@ -89,7 +90,7 @@ fn channel(c: Channel) -> String {
     let first = joined(&[c.number, c.flags, c.kind, c.format, c.rate]);
     let calibration = match c.calibration {
         Calibration::Numbers(numbers) => format!("0 {}", joined(&numbers)),
-        Calibration::Floats(bits) => format!("1 {}", joined(&bits)),
+        Calibration::Floats(floats) => format!("1 {}", joined(&floats.map(|float| float.0))),
     };
     let last = joined(&[
         c.calibration_frequency,

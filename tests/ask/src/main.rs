@@ -1,6 +1,6 @@
-//! `ask FOLDER < QUESTIONS`: the proved library's answer to each question line about the files of a corpus, a line each,
-//! in the corpus' form. Status 1, and a line on standard error, where a call wrote into its lent buffer what its answer does
-//! not say; status 2 where a line is no question.
+//! `ask FOLDER < QUESTIONS`: the proved library's answer to each question line about the files of a corpus, a line
+//! each, in the corpus' form. Status 1, and a line on standard error, where a call wrote into its lent buffer what its
+//! answer does not say; status 2 where a line is no question.
 //!
 //!     cargo run --release --offline -- CORPUS < CORPUS/questions.ask | diff - CORPUS/questions.ans
 

@@ -1,6 +1,6 @@
-//! The file: the smallest one with samples, its one channel at a million samples a second, and its 140 with twenty frames
-//! of a minute. It is not canonical: frames are padded, the multipliers are one larger than the smallest, and the reserve
-//! of the 140 is not zero.
+//! The file: the smallest one with samples, its one channel at a million samples a second, and its 140 with twenty
+//! frames of a minute. It is not canonical: frames are padded, the multipliers are one larger than the smallest, and
+//! the reserve of the 140 is not zero.
 
 use std::fs::File;
 use std::io::{self, Seek, SeekFrom, Write};

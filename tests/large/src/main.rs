@@ -1,8 +1,9 @@
-//! A sparse file of more than 2 GiB: listed, turned there and back, and rewritten through the library, and the canonical
-//! form compared with the second program's. `large PATH` makes the file at PATH, and leaves it there.
+//! A sparse file of more than 2 GiB: listed, turned there and back, and rewritten through the library, and the
+//! canonical form compared with the second program's. `large PATH` makes the file at PATH, and leaves it there.
 
 mod file;
 
+use psg::Order;
 use std::process::ExitCode;
 
 /// What a step did not come to.
@@ -52,7 +53,8 @@ fn listed(file: &[u8]) -> Result<(), Failed> {
 }
 
 fn turned_back(file: &[u8], turned: &[u8]) -> Result<(), Failed> {
-    same("the turned letter", turned[16], b'B')?;
+    let order = psg::order(turned).map_err(|refusal| refusal.to_string())?;
+    same("the turned order", order, Order::Big)?;
     let back = psg::turned(turned).map_err(|refusal| refusal.to_string())?;
     same("turned twice", back == file, true)?;
     println!("turned: {} bytes, and back", turned.len());
@@ -61,18 +63,17 @@ fn turned_back(file: &[u8], turned: &[u8]) -> Result<(), Failed> {
 
 /// In both orders, from the file and from its turned copy.
 fn rewritten(file: &[u8], turned: &[u8]) -> Result<(), Failed> {
-    for order in [b'L', b'B'] {
+    for order in [Order::Little, Order::Big] {
         let anew = psg::rewritten(file, order).map_err(|refusal| refusal.to_string())?;
         let other = psg::rewritten(turned, order).map_err(|refusal| refusal.to_string())?;
         same("of the turned copy", anew == other, true)?;
         drop(other);
-        let second = second::rewrite::rewrite(file, order.into(), u64::MAX);
+        let second = second::rewrite::rewrite(file, order.letter().into(), u64::MAX);
         let second = second.map_err(|refusal| format!("the second program: {refusal:?}"))?;
         same("of the second program", anew == second, true)?;
         let (size, multiplier) = file::canonical_signals(&anew);
         println!(
-            "rewritten, {}: {} bytes; its 140 is {size} times {multiplier}",
-            order as char,
+            "rewritten, {order:?}: {} bytes; its 140 is {size} times {multiplier}",
             anew.len()
         );
     }

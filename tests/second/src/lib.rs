@@ -14,6 +14,7 @@ pub mod lines;
 pub mod listing;
 pub mod model;
 pub mod questions;
+pub mod random;
 pub mod record;
 pub mod refusal;
 pub mod rewrite;

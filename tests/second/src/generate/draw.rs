@@ -4,10 +4,10 @@ use super::plan::{
     ChannelPlan, ChannelsPlan, FilePlan, FramePlan, FramesPlan, ItemPlan, ItemsPlan, MakerPlan,
     OverviewPlan, PartPlan, RecordingPlan,
 };
-use super::random::Random;
 use crate::bytes::Order;
 use crate::header;
 use crate::listing;
+use crate::random::Random;
 use crate::record::{self, frames, items};
 use crate::record::{Format, Kind, HEAD};
 

@@ -1,13 +1,13 @@
 //! The values on both sides of each rule's edges.
 
-use super::random::Random;
 use super::sheet::{Field, Place, Sheet};
+use crate::random::Random;
 use crate::record::{self, Extent, Kind};
 
 /// Values any field may be set to, beside its own edges.
 fn common(random: &mut Random, now: i32) -> i32 {
     let one_bit = now ^ (1 << random.below(32));
-    let any = random.next() as i32;
+    let any = random.word() as i32;
     random.pick(&[
         now.wrapping_add(1),
         now.wrapping_sub(1),

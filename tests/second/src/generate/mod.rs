@@ -4,12 +4,11 @@ mod damage;
 mod draw;
 mod edges;
 mod plan;
-mod random;
 mod sheet;
 
 pub use sheet::{Field, Sheet};
 
-use random::Random;
+use crate::random::Random;
 
 const VALID_PERCENT: usize = 30;
 

@@ -5,9 +5,9 @@ use super::plan::{
     ChannelPlan, ChannelsPlan, FilePlan, FramePlan, FramesPlan, ItemsPlan, MakerPlan, OverviewPlan,
     PartPlan, RecordingPlan,
 };
-use super::random::Random;
 use crate::bytes::Order;
 use crate::header;
+use crate::random::Random;
 use crate::record::{self, channel, Format, Kind, HEAD};
 
 /// What a place holds.

@@ -4,8 +4,8 @@ use super::padding::resize_frames;
 use super::{any_recording, small_plan};
 use crate::generate::draw::{self, Shape, SMALL};
 use crate::generate::plan::{FilePlan, RecordingPlan};
-use crate::generate::random::Random;
 use crate::generate::sheet::{write, Sheet};
+use crate::random::Random;
 use crate::record::{frame, frames, items, Kind};
 
 /// Most later recordings have no 120 of their own.

@@ -3,9 +3,9 @@
 use super::{any_recording, small_plan, valid};
 use crate::generate::draw::{self, Shape, SMALL};
 use crate::generate::edges;
-use crate::generate::random::Random;
 use crate::generate::sheet::{write, Field, Place, Sheet};
 use crate::judge::judge;
+use crate::random::Random;
 use crate::record::{self, Extent, HEAD};
 
 /// Most files have a maker's record to damage.

@@ -2,9 +2,9 @@
 
 use super::{small_plan, valid};
 use crate::generate::draw;
-use crate::generate::random::Random;
 use crate::generate::sheet::{write, Sheet};
 use crate::header;
+use crate::random::Random;
 
 pub fn wrong_header(random: &mut Random) -> Sheet {
     const FIELDS: usize = 7;
@@ -70,6 +70,6 @@ fn spoil_digits(random: &mut Random, bytes: &mut [u8]) {
     if random.chance(80) {
         field.copy_from_slice(random.pick(&FIELDS));
     } else {
-        field[random.below(header::RECORDINGS_LENGTH)] = random.next() as u8;
+        field[random.below(header::RECORDINGS_LENGTH)] = random.word() as u8;
     }
 }

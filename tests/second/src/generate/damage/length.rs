@@ -3,10 +3,10 @@
 use super::{small_plan, valid};
 use crate::generate::draw::{self, SMALL};
 use crate::generate::plan::{MakerPlan, PartPlan};
-use crate::generate::random::Random;
 use crate::generate::sheet::{write, RecordPlace, Sheet};
 use crate::header;
 use crate::listing;
+use crate::random::Random;
 use crate::record::{self, Kind, HEAD};
 
 pub fn bytes_appended(random: &mut Random) -> Sheet {

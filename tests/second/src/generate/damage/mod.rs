@@ -11,9 +11,9 @@ mod parts;
 
 use super::draw::{self, Shape, SMALL};
 use super::plan::{FilePlan, RecordingPlan};
-use super::random::Random;
 use super::sheet::{write, Sheet};
 use crate::judge::judge;
+use crate::random::Random;
 
 type Damage = fn(&mut Random) -> Sheet;
 

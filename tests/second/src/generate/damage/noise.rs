@@ -1,9 +1,9 @@
 //! Damages without regard to structure.
 
 use super::valid;
-use crate::generate::random::Random;
 use crate::generate::sheet::Sheet;
 use crate::header;
+use crate::random::Random;
 
 pub fn bytes_disturbed(random: &mut Random) -> Sheet {
     let mut sheet = valid(random);

@@ -3,8 +3,8 @@
 use super::{any_recording, small_plan};
 use crate::generate::draw::{self, Shape, SMALL};
 use crate::generate::plan::{FilePlan, FramesPlan};
-use crate::generate::random::Random;
 use crate::generate::sheet::{write, Sheet};
+use crate::random::Random;
 use crate::record;
 
 pub fn padding_not_zero(random: &mut Random) -> Sheet {

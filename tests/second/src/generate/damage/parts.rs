@@ -3,8 +3,8 @@
 use super::{any_recording, small_plan};
 use crate::generate::draw;
 use crate::generate::plan::PartPlan;
-use crate::generate::random::Random;
 use crate::generate::sheet::{write, Sheet};
+use crate::random::Random;
 
 pub fn parts_in_disorder(random: &mut Random) -> Sheet {
     let mut plan = small_plan(random);

@@ -1,5 +1,5 @@
-//! A small source of chance (splitmix64), so that a seed gives the same files
-//! everywhere.
+//! The one source of chance of the tests and of bench (splitmix64), so that a
+//! seed gives the same files, questions and nights everywhere.
 
 pub struct Random {
     state: u64,
@@ -8,28 +8,30 @@ pub struct Random {
 const STEP: u64 = 0x9e37_79b9_7f4a_7c15;
 
 impl Random {
-    /// Each file of a seed has its own sequence. The index is mixed before it
-    /// is joined: a mere sum would give neighbours the same sequence, shifted.
+    /// Each file (or channel) of a seed has its own sequence. The index is mixed
+    /// before it is joined: a mere sum would give neighbours the same sequence,
+    /// shifted.
     pub fn new(seed: u64, index: u64) -> Random {
         Random {
             state: mix(seed.wrapping_add(STEP)) ^ mix(index),
         }
     }
 
-    pub fn next(&mut self) -> u64 {
+    /// Any 64 bits.
+    pub fn word(&mut self) -> u64 {
         self.state = self.state.wrapping_add(STEP);
         mix(self.state)
     }
 
     /// A number under `end`, which is not 0.
     pub fn below(&mut self, end: usize) -> usize {
-        (self.next() % end as u64) as usize
+        (self.word() % end as u64) as usize
     }
 
     /// A number from `low` to `high`, both included.
     pub fn between(&mut self, low: i32, high: i32) -> i32 {
         let values = i64::from(high) - i64::from(low) + 1;
-        (i64::from(low) + (self.next() % values as u64) as i64) as i32
+        (i64::from(low) + (self.word() % values as u64) as i64) as i32
     }
 
     pub fn chance(&mut self, percent: usize) -> bool {
@@ -54,7 +56,7 @@ impl Random {
     }
 
     pub fn bytes(&mut self, count: usize) -> Vec<u8> {
-        (0..count).map(|_| self.next() as u8).collect()
+        (0..count).map(|_| self.word() as u8).collect()
     }
 
     /// Any 32 bits; the edges and the patterns of NaNs are frequent.
@@ -80,7 +82,7 @@ impl Random {
         if self.chance(40) {
             self.pick(&EDGES) as i32
         } else {
-            self.next() as i32
+            self.word() as i32
         }
     }
 }
@@ -98,8 +100,8 @@ mod tests {
     #[test]
     fn published_values_of_splitmix64() {
         let mut random = Random { state: 0 };
-        assert_eq!(random.next(), 0xe220_a839_7b1d_cdaf);
-        assert_eq!(random.next(), 0x6e78_9e6a_a1b9_65f4);
+        assert_eq!(random.word(), 0xe220_a839_7b1d_cdaf);
+        assert_eq!(random.word(), 0x6e78_9e6a_a1b9_65f4);
     }
 
     #[test]
