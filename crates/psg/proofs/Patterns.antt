@@ -6,7 +6,7 @@ use Prim.Native.Nat.{ℕ, zero, suc, _-_, _≤_}
 use native.Mathlib.Omega.{arith}
 use borrow.Author.Tests.{le-leb, le-ltb}
 use lib.Dec.{T}
-use lib.Ieee.{Float, nan, inf, fin, binary32, toBits, isNan, ne}
+use lib.Ieee.{Float, nan, inf, fin, toBits, isNan, ne}
 use lib.Ieee.Compare.{differs-from-itself, nan-differs}
 use lib.IntN.{ℤ, pos, negsuc, natAbs, _-ℤ_}
 use lib.Signed.{leZ, nonNeg}
@@ -15,21 +15,12 @@ use mir.Val.{Fits, SFits, toZ, ofZ}
 use mir.Facts.{toZ-ofZ}
 use Rattle.words.specs.Floats.{bitsOf}
 use Rattle.words.specs.Values.{unsigned}
-use Rattle.words.specs.declared.Float.the-variants.{Number, Pattern}
 
 -- A float
 
-pub pattern-bits : (n : ℕ) → n ≡ bitsOf (Pattern n)
-unfolding bitsOf
-pattern-bits n = refl
-
-pub number-bits : (v : Float) → toBits binary32 v ≡ bitsOf (Number v)
-unfolding bitsOf
-number-bits v = refl
-
 -- only a NaN differs from itself
-pub nan-bits : (v : Float) → ne v v ≡ true → 2143289344 ≡ bitsOf (Number v)
-unfolding bitsOf toBits
+pub nan-bits : (v : Float) → ne v v ≡ true → 2143289344 ≡ bitsOf v
+unfolding toBits
 nan-bits v e = rw (differs-from-itself v (rw e tt))
 
 true-false : true ≡ false → ⊥

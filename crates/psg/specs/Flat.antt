@@ -3,7 +3,6 @@
 use Prim.Native.Nat.{ℕ}
 use lib.IntN.{pos}
 use Rattle.words.specs.Floats.{bitsOf}
-use Rattle.words.specs.Values.{unsigned}
 use Rattle.table.specs.Table as Table
 use Rattle.permit.specs.Permit as Permit
 use Rattle.recordings.specs.Answers.{Answer, value, refusal}
@@ -11,6 +10,7 @@ use Rattle.recordings.specs.declared.Counts.{Counts}
 use Rattle.samples.specs.declared.Number.{Number}
 use Rattle.samples.specs.declared.Number.the-variants as Number
 use Rattle.samples.specs.declared.Time.{Time}
+use Rattle.questions.specs.Values.{wordsOf}
 use Rattle.questions.specs.declared.channels.Calibration.{Calibration}
 use Rattle.questions.specs.declared.channels.Calibration.the-variants as Calibration
 use Rattle.questions.specs.declared.channels.Descriptor.{Descriptor}
@@ -43,10 +43,14 @@ abbrev pub flatFacts : Answer Counts → Facts
 flatFacts (value x) = record { refusal = 0; position = 0; channels = x .channels; frames = x .frames; seconds = x .seconds }
 flatFacts (refusal n p) = record { refusal = n; position = p; channels = 0; frames = 0; seconds = 0 }
 
--- four calibration numbers, 32 bits each
+-- four calibration numbers, 32 bits each, and whether they are floats
+abbrev pub areFloats : Calibration → ℕ
+areFloats (Calibration.Floats a b c d) = 1
+areFloats (Calibration.Numbers a b c d) = 0
+areFloats (Calibration.Patterns a b c d) = 1
+
 abbrev pub patternsOf : Calibration → Patterns
-patternsOf (Calibration.Floats a b c d) = record { «is_float» = 1; cal = bitsOf a; «cal_ad» = bitsOf b; «offset_ad» = bitsOf c; «offset_cal» = bitsOf d }
-patternsOf (Calibration.Numbers a b c d) = record { «is_float» = 0; cal = unsigned 4 a; «cal_ad» = unsigned 4 b; «offset_ad» = unsigned 4 c; «offset_cal» = unsigned 4 d }
+patternsOf x = record { «is_float» = areFloats x; cal = wordsOf x .cal; «cal_ad» = wordsOf x .calAD; «offset_ad» = wordsOf x .offsetAD; «offset_cal» = wordsOf x .offsetCal }
 
 abbrev pub flatChannel : Answer Descriptor → Channel
 flatChannel (value x) = record {
@@ -113,6 +117,7 @@ flatCount (refusal n p) = stopped n p
 abbrev pub flatSample : Answer Number → Sample
 flatSample (value (Number.Whole z)) = record { refusal = 0; position = 0; «is_float» = 0; value = z; bits = 0 }
 flatSample (value (Number.Float v)) = record { refusal = 0; position = 0; «is_float» = 1; value = pos 0; bits = bitsOf v }
+flatSample (value (Number.Pattern n)) = record { refusal = 0; position = 0; «is_float» = 1; value = pos 0; bits = n }
 flatSample (refusal n p) = record { refusal = n; position = p; «is_float» = 0; value = pos 0; bits = 0 }
 
 abbrev pub flatView : Text → View

@@ -16,7 +16,6 @@ use rules::Refusal;
 use samples::Number;
 use samples::Sampled;
 use samples::Timed;
-use words::Float;
 
 // How many rows, bytes or samples.
 #[repr(C)]
@@ -130,19 +129,14 @@ pub fn refused(r: Refusal) -> Counted
     }
 }
 
-// The bits of a float. `to_bits` is not defined at a NaN, which a file's float never is: its pattern is kept apart.
-fn bits(x: Float) -> u32
-    ensures { λ r. ⌜ r ≡ bitsOf x ⌝ }
+// The bits of a float. `to_bits` is not defined at a NaN, which a file's float never is: its pattern is answered apart.
+fn bits(v: f32) -> u32
+    ensures { λ r. ⌜ r ≡ bitsOf v ⌝ }
 {
-    match x {
-        Float::Pattern(n) => n,
-        Float::Number(v) => {
-            if v != v {
-                return NAN;
-            }
-            f32::to_bits(v)
-        }
+    if v != v {
+        return NAN;
     }
+    f32::to_bits(v)
 }
 
 // The two's complement of a whole number.
@@ -193,6 +187,13 @@ fn patterns_of(c: Calibration) -> Patterns
             cal_ad: word(cal_ad),
             offset_ad: word(offset_ad),
             offset_cal: word(offset_cal),
+        },
+        Calibration::Patterns(cal, cal_ad, offset_ad, offset_cal) => Patterns {
+            is_float: 1,
+            cal,
+            cal_ad,
+            offset_ad,
+            offset_cal,
         },
     }
 }
@@ -343,6 +344,13 @@ fn sample_told(x: Number) -> Sample
             is_float: 1,
             value: 0,
             bits: bits(v),
+        },
+        Number::Pattern(n) => Sample {
+            refusal: 0,
+            position: 0,
+            is_float: 1,
+            value: 0,
+            bits: n,
         },
     }
 }

@@ -1,3 +1,4 @@
+pub mod Calibrated
 pub mod Fields
 pub mod Entries
 pub mod Owners

@@ -1,10 +1,14 @@
 -- The values of the answers, by what the walk of the rules gives and where it stands.
 -- Assumes nothing.
+use mathlib.Core.Bool.{Bool, cond, _||_}
+use mathlib.Core.List.{List}
 use Prim.Native.Nat.{ℕ, _+_}
 use lib.Dec.{eqb}
 use lib.ListN.{length}
-use Rattle.words.specs.Floats.{floatOf}
-use Rattle.words.specs.Values.{signed}
+use Rattle.words.specs.declared.Order.{Order}
+use Rattle.words.specs.Numbers.{numberAt}
+use Rattle.words.specs.Floats.{isNan, floatOf, bitsOf}
+use Rattle.words.specs.Values.{signed, unsigned}
 use Rattle.walk.specs.Walk.{pick}
 use Rattle.rules.specs.Rules as R
 use Rattle.rules.specs.Reading.{channelReading, itemReading}
@@ -14,10 +18,35 @@ use Rattle.questions.specs.declared.channels.Descriptor.{Descriptor}
 use Rattle.questions.specs.declared.channels.Text.{Text}
 use Rattle.questions.specs.declared.items.Entry.{Entry}
 
+-- Calibration: CAL, CAL AD, Offset AD and Offset CAL
+
+-- whether one of four words is a NaN's pattern
+unfoldable pub someNan : (cal calAD offsetAD offsetCal : ℕ) → Bool
+someNan a b c d = isNan a || (isNan b || (isNan c || isNan d))
+
+-- four floats; their patterns where one of them is a NaN's
+unfoldable pub floatsOf : (cal calAD offsetAD offsetCal : ℕ) → Calibration
+floatsOf a b c d = cond (someNan a b c d) (Calibration.Patterns a b c d) (Calibration.Floats (floatOf a) (floatOf b) (floatOf c) (floatOf d))
+
 -- four floats when the format is 4, else four whole numbers
 unfoldable pub calibrationOf : (format cal calAD offsetAD offsetCal : ℕ) → Calibration
-calibrationOf format a b c d =
-    pick (eqb format 4) (Calibration.Floats (floatOf a) (floatOf b) (floatOf c) (floatOf d)) (Calibration.Numbers (signed 4 a) (signed 4 b) (signed 4 c) (signed 4 d))
+calibrationOf format a b c d = pick (eqb format 4) (floatsOf a b c d) (Calibration.Numbers (signed 4 a) (signed 4 b) (signed 4 c) (signed 4 d))
+
+-- those of the record 125 at byte p of s
+abbrev pub calibrationAt : Order → List ℕ → ℕ → ℕ → Calibration
+calibrationAt o s p format = calibrationOf format (numberAt o 4 s (p + 36)) (numberAt o 4 s (p + 40)) (numberAt o 4 s (p + 44)) (numberAt o 4 s (p + 48))
+
+-- the 32 bits of each of the four
+pub record Words : Type 0 where
+  pub cal : ℕ
+  pub calAD : ℕ
+  pub offsetAD : ℕ
+  pub offsetCal : ℕ
+
+abbrev pub wordsOf : Calibration → Words
+wordsOf (Calibration.Floats a b c d) = record { cal = bitsOf a; calAD = bitsOf b; offsetAD = bitsOf c; offsetCal = bitsOf d }
+wordsOf (Calibration.Numbers a b c d) = record { cal = unsigned 4 a; calAD = unsigned 4 b; offsetAD = unsigned 4 c; offsetCal = unsigned 4 d }
+wordsOf (Calibration.Patterns a b c d) = record { cal = a; calAD = b; offsetAD = c; offsetCal = d }
 
 abbrev pub textAt : ℕ → ℕ → Text
 textAt at n = record { at = at; length = n }

@@ -2,16 +2,14 @@
 ghost use mathlib.Core.Path.{_≡_};
 ghost use Prim.Native.Nat.{ℕ, _+_, _≤_};
 ghost use lib.ListN.{length};
-ghost use Rattle.words.specs.Numbers.{numberAt};
 ghost use Rattle.walk.specs.See.{see, goes};
 ghost use Rattle.rules.specs.Rules as R;
-ghost use Rattle.questions.specs.Values.{calibrationOf, descriptorOf};
+ghost use Rattle.questions.specs.Values.{someNan, floatsOf, calibrationAt, descriptorOf};
 use rules::Channel;
 use rules::Refusal;
-use words::Float;
 use words::Order;
-use words::float4;
 use words::int4;
+use words::is_nan;
 use words::number4;
 
 // A text of the file: its first byte, and how many bytes it has.
@@ -20,10 +18,12 @@ pub struct Text {
     pub length: usize,
 }
 
-// CAL, CAL AD, Offset AD and Offset CAL.
+// CAL, CAL AD, Offset AD and Offset CAL, by the channel's format. A NaN's pattern cannot become an f32: where one of four floats is one, all are answered as
+// their 32 bits.
 pub enum Calibration {
-    Floats(Float, Float, Float, Float),
+    Floats(f32, f32, f32, f32),
     Numbers(i32, i32, i32, i32),
+    Patterns(u32, u32, u32, u32),
 }
 
 pub struct Descriptor {
@@ -47,17 +47,48 @@ pub enum Described {
     Refused(Refusal),
 }
 
+// Whether one of the four is a NaN's pattern.
+fn some_nan(cal: u32, cal_ad: u32, offset_ad: u32, offset_cal: u32) -> bool
+    ensures { λ r. ⌜ r ≡ someNan cal «cal_ad» «offset_ad» «offset_cal» ⌝ }
+{
+    if is_nan(cal) {
+        return true;
+    }
+    if is_nan(cal_ad) {
+        return true;
+    }
+    if is_nan(offset_ad) {
+        return true;
+    }
+    is_nan(offset_cal)
+}
+
+// Calibration numbers of 32 bits each, in a channel of floats.
+fn floats_of(cal: u32, cal_ad: u32, offset_ad: u32, offset_cal: u32) -> Calibration
+    ensures { λ r. ⌜ r ≡ floatsOf cal «cal_ad» «offset_ad» «offset_cal» ⌝ }
+{
+    if some_nan(cal, cal_ad, offset_ad, offset_cal) {
+        return Calibration::Patterns(cal, cal_ad, offset_ad, offset_cal);
+    }
+    Calibration::Floats(
+        f32::from_bits(cal),
+        f32::from_bits(cal_ad),
+        f32::from_bits(offset_ad),
+        f32::from_bits(offset_cal),
+    )
+}
+
 // The calibration numbers of the record 125 at byte p of s, in a channel of this format.
 fn calibration_at(o: Order, s: &[u8], p: usize, format: u32) -> Calibration
     requires { ⌜ p + 256 ≤ length (now s) ⌝ }
-    ensures { λ r. ⌜ r ≡ calibrationOf format (numberAt o 4 (now (s .entry)) (p + 36)) (numberAt o 4 (now (s .entry)) (p + 40)) (numberAt o 4 (now (s .entry)) (p + 44)) (numberAt o 4 (now (s .entry)) (p + 48)) ⌝ }
+    ensures { λ r. ⌜ r ≡ calibrationAt o (now (s .entry)) p format ⌝ }
 {
     if format == Channel::FLOATS {
-        return Calibration::Floats(
-            float4(o, s, p + Channel::CAL),
-            float4(o, s, p + Channel::CAL_AD),
-            float4(o, s, p + Channel::OFFSET_AD),
-            float4(o, s, p + Channel::OFFSET_CAL),
+        return floats_of(
+            number4(o, s, p + Channel::CAL),
+            number4(o, s, p + Channel::CAL_AD),
+            number4(o, s, p + Channel::OFFSET_AD),
+            number4(o, s, p + Channel::OFFSET_CAL),
         );
     }
     Calibration::Numbers(

@@ -1,3 +1,4 @@
+pub mod Bits
 pub mod Clocked
 pub mod Framing
 pub mod Stretch

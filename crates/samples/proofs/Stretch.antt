@@ -11,7 +11,6 @@ use lib.Seq.{length-take-le}
 use Rattle.words.specs.declared.Order.{Order}
 use Rattle.words.specs.Numbers.{numberAt}
 use Rattle.words.specs.Values.{signed}
-use Rattle.words.specs.Floats.{floatOf}
 use Rattle.rules.specs.Rules as R
 use Rattle.rules.specs.Reading.{valueOf}
 use Rattle.rules.specs.Rules.{sampleBytes, samplesIn, samplesOf, width}
@@ -19,7 +18,7 @@ use Rattle.records.specs.Says.{Kept}
 use Rattle.records.proofs.Steps.{KeptOne}
 use Rattle.recordings.specs.Answers.{value, indexed}
 use Rattle.samples.specs.Asked.{Inside, runOf}
-use Rattle.samples.specs.Frames.{numberIn}
+use Rattle.samples.specs.Frames.{floatIn, numberIn}
 use Rattle.samples.specs.declared.Number.{Number}
 use Rattle.samples.specs.declared.Number.the-variants as Number
 use Rattle.samples.specs.declared.Run.{Run}
@@ -45,7 +44,7 @@ module _ (o : Order) (s : List ℕ) (p format : ℕ) where
   unfolding valueOf
   whole-in w e h = rw (ne-eqb format 4 h, e)
 
-  pub float-in : format ≡ 4 → sampleAt ≡ Number.Float (floatOf (numberAt o 4 s p))
+  pub float-in : format ≡ 4 → sampleAt ≡ floatIn (numberAt o 4 s p)
   unfolding valueOf width
   float-in e = rw e
 

@@ -1,9 +1,10 @@
 -- The frame and the samples that a question asks about, their values and where they stand.
 -- Assumes nothing.
+use mathlib.Core.Bool.{cond}
 use mathlib.Core.List.{List}
 use Prim.Native.Nat.{ℕ, _+_, _-_, _*_}
 use lib.ListN.{take}
-use Rattle.words.specs.Floats.{floatOf}
+use Rattle.words.specs.Floats.{isNan, floatOf, bitsOf}
 use Rattle.rules.specs.Rules as R
 use Rattle.rules.specs.Reading.{Value, whole, float, frameReading}
 use Rattle.recordings.specs.Answers.{Answer, value, _>>=_, numbered}
@@ -43,7 +44,17 @@ samplesOf s i j k = do
   vs ← numbered (frameReading (f .of .this .recording .channels) (f .frame) .channels) k
   value (record { at = f .at + (24 + R.sampleBytes (f .of .this .recording .seconds) (take (k - 1) (f .of .this .recording .channels))); format = c .format; values = vs })
 
--- a number of the reading: a whole number, or the float of its bits
+-- the sample of 32 bits: a float, or a NaN's pattern
+unfoldable pub floatIn : ℕ → Number
+floatIn n = cond (isNan n) (Number.Pattern n) (Number.Float (floatOf n))
+
+-- a number of the reading: a whole number, or the sample of its bits
 abbrev pub numberIn : Value → Number
 numberIn (whole z) = Number.Whole z
-numberIn (float n) = Number.Float (floatOf n)
+numberIn (float n) = floatIn n
+
+-- the 32 bits of a sample; a whole number has none
+abbrev pub bitsIn : Number → ℕ
+bitsIn (Number.Whole z) = 0
+bitsIn (Number.Float v) = bitsOf v
+bitsIn (Number.Pattern n) = n

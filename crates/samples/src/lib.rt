@@ -9,7 +9,7 @@ ghost use Rattle.rules.specs.Rules as R;
 ghost use Rattle.rules.specs.Reading.{valueOf};
 ghost use Rattle.records.specs.Says.{Kept};
 ghost use Rattle.recordings.specs.Answers.{value, indexed};
-ghost use Rattle.samples.specs.Frames.{timeOf, numberIn};
+ghost use Rattle.samples.specs.Frames.{timeOf, floatIn, numberIn};
 ghost use Rattle.samples.specs.Asked.{runOf, refusalFramed, refusalRan, FramedAs, RanAs, Inside};
 use descriptions::Places;
 use recordings::Found;
@@ -18,12 +18,11 @@ use rules::Channels;
 use rules::Frame;
 use rules::Frames;
 use rules::Refusal;
-use words::Float;
 use words::Order;
-use words::float4;
 use words::int2;
 use words::int3;
 use words::int4;
+use words::is_nan;
 use words::number2;
 use words::number4;
 
@@ -46,10 +45,11 @@ pub enum Counted {
     Refused(Refusal),
 }
 
-// A sample, by the channel's format.
+// A sample, by the channel's format. A NaN's pattern cannot become an f32, and is answered as its 32 bits.
 pub enum Number {
     Whole(i32),
-    Float(Float),
+    Float(f32),
+    Pattern(u32),
 }
 
 pub enum Sampled {
@@ -172,6 +172,16 @@ pub fn samples_asked(file: &[u8], recording: usize, frame: usize, channel: usize
     Ran::At(order, run_at(order, file, subs, c, q.seconds, at))
 }
 
+// The sample of 32 bits, in a channel of floats.
+fn float_in(bits: u32) -> Number
+    ensures { λ r. ⌜ r ≡ floatIn bits ⌝ }
+{
+    if is_nan(bits) {
+        return Number::Pattern(bits);
+    }
+    Number::Float(f32::from_bits(bits))
+}
+
 // The sample at byte p of s, in a channel of this format.
 pub fn number_at(o: Order, s: &[u8], p: usize, format: u32) -> Number
     requires { ⌜ p + R.width format ≤ length (now s) ⌝ }
@@ -184,7 +194,7 @@ pub fn number_at(o: Order, s: &[u8], p: usize, format: u32) -> Number
         return Number::Whole(int3(o, s, p));
     }
     if format == Channel::FLOATS {
-        return Number::Float(float4(o, s, p));
+        return float_in(number4(o, s, p));
     }
     Number::Whole(int4(o, s, p))
 }

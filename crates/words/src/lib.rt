@@ -1,11 +1,11 @@
-// Numbers in the bytes of a file: words in either byte order, their signed values and floats, and the first byte that is not zero.
+// Numbers in the bytes of a file: words in either byte order, their signed values, whether they are a NaN's, and the first byte that is not zero.
 ghost use mathlib.Core.Path.{_≡_};
 ghost use Prim.Native.Nat.{ℕ, _+_, _*_, _≤_, _<_};
 ghost use lib.ListN.{length, getD};
 ghost use Rattle.words.specs.Numbers.{numberAt};
 ghost use Rattle.words.specs.Joins.{join};
 ghost use Rattle.words.specs.Values.{wordCount, signed};
-ghost use Rattle.words.specs.Floats.{isNan, floatOf};
+ghost use Rattle.words.specs.Floats.{isNan};
 ghost use Rattle.words.specs.Runs.{firstNonzero, Zeros};
 
 // The byte order of a file.
@@ -122,35 +122,11 @@ pub fn int4(o: Order, s: &[u8], at: usize) -> i32
     signed4(number4(o, s, at))
 }
 
-// The float of 32 bits. A NaN's pattern cannot become an f32, and is kept as its bits.
-pub enum Float {
-    Number(f32),
-    Pattern(u32),
-}
-
-// Whether 32 bits are a NaN's: below the sign's bit, more than an infinity has.
+// Whether 32 bits are a NaN's, which cannot become an f32: below the sign's bit, more than an infinity has.
 pub fn is_nan(bits: u32) -> bool
     ensures { λ r. ⌜ r ≡ isNan bits ⌝ }
 {
     bits % 2147483648 > 2139095040
-}
-
-// The float of 32 bits.
-pub fn float_of(bits: u32) -> Float
-    ensures { λ r. ⌜ r ≡ floatOf bits ⌝ }
-{
-    if is_nan(bits) {
-        return Float::Pattern(bits);
-    }
-    Float::Number(f32::from_bits(bits))
-}
-
-// The float of four bytes.
-pub fn float4(o: Order, s: &[u8], at: usize) -> Float
-    requires { ⌜ at + 4 ≤ length (now s) ⌝ }
-    ensures { λ r. ⌜ r ≡ floatOf (numberAt o 4 (now (s .entry)) at) ⌝ }
-{
-    float_of(number4(o, s, at))
 }
 
 // How many bytes of 0 stand at the front, by fours: the compiler tests four at once.

@@ -1,6 +1,10 @@
+-- `samples::number_at` meets its contract, format by format.
+-- Assumes nothing.
 use mathlib.Core.Path.{ap, sym, _∙_}
 use native.Mathlib.Omega.{arith}
-use Rattle.samples.specs.declared.Number.the-variants.{Whole, Float}
+use borrow.Author.Needs.{needs}
+use Rattle.samples.specs.Frames.{floatIn}
+use Rattle.samples.specs.declared.Number.the-variants.{Whole}
 use Rattle.samples.proofs.Clocked.{held}
 use Rattle.samples.proofs.Stretch.{width-2, width-3, width-4, whole-in, float-in}
 use Rattle.samples.proofs.number_at.Statement.{statement}
@@ -18,11 +22,11 @@ int3-requires c κs = omega (arith, width-3 _ (c .if2 .taken))
 returns-2 : tie.Need-returns-2
 returns-2 c = ap Whole (held (c .int3 .ok) (c .int3 .ensures)) ∙ sym (whole-in _ _ _ _ 3 (width-3 _ (c .before .if2 .taken)) (omega arith))
 
-float4-requires : tie.Need-float4-requires
-float4-requires c κs = omega (arith, width-4 _ (c .before .before .if1 .left) (c .before .if2 .left))
+number4-requires : tie.Need-number4-requires
+number4-requires c κs = omega (arith, width-4 _ (c .before .before .if1 .left) (c .before .if2 .left))
 
 returns-3 : tie.Need-returns-3
-returns-3 c = ap Float (c .float4 .ensures) ∙ sym (float-in _ _ _ _ (c .before .if3 .taken))
+returns-3 c = c .float-in .ensures ∙ ap floatIn (c .before .number4 .ensures .0) ∙ sym (float-in _ _ _ _ (c .before .before .if3 .taken))
 
 int4-requires : tie.Need-int4-requires
 int4-requires c κs = omega (arith, width-4 _ (c .before .before .if1 .left) (c .before .if2 .left))
@@ -39,7 +43,8 @@ number-at-spec =
     returns
     int3-requires
     returns-2
-    float4-requires
+    number4-requires
+    (λ c κs. search needs)
     returns-3
     int4-requires
     returns-4)

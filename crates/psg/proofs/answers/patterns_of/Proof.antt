@@ -6,7 +6,9 @@ use Rattle.psg.proofs.answers.patterns_of.Statement.{statement}
 use Rattle.psg.proofs.answers.patterns_of.Tie as tie
 
 returns : tie.Need-returns
-returns c = rw (c .bits4 .ensures, c .before .bits3 .ensures, c .before .before .bits2 .ensures, c .before .before .before .bits .ensures, c .before .before .before .before .before .c .given .1)
+returns c =
+    let b = c .before .before in
+    rw (c .bits4 .ensures, c .before .bits3 .ensures, b .bits2 .ensures, b .before .bits .ensures, b .before .before .before .c .given .1)
 
 returns-2 : tie.Need-returns-2
 returns-2 c =
@@ -25,5 +27,24 @@ returns-2 c =
       kept (v .1 .1 .1 .0) (f .1 .1 .1 .0 .1),
     )
 
+returns-3 : tie.Need-returns-3
+returns-3 c = rw (c .before .c3 .given .1)
+
 pub patterns-of-spec : {M : Type 1} → statement M
-patterns-of-spec = tie.close (tie.spec (λ c. search needs) (λ c κs. search needs) (λ c κs. search needs) (λ c κs. search needs) (λ c κs. search needs) (λ c. search needs) (λ c κs. search needs) (λ c κs. search needs) (λ c κs. search needs) (λ c κs. search needs) returns returns-2)
+patterns-of-spec =
+    tie.close
+    (tie.spec
+    (λ c. search needs)
+    (λ c κs. search needs)
+    (λ c κs. search needs)
+    (λ c κs. search needs)
+    (λ c κs. search needs)
+    (λ c. search needs)
+    (λ c κs. search needs)
+    (λ c κs. search needs)
+    (λ c κs. search needs)
+    (λ c κs. search needs)
+    (λ c. search needs)
+    returns
+    returns-2
+    returns-3)

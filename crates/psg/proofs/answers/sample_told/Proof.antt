@@ -11,5 +11,8 @@ returns c = rw (c .before .x .given .1, kept (c .before .x .given .0 .0) (c .kno
 returns-2 : tie.Need-returns-2
 returns-2 c = rw (c .bits .ensures, c .before .before .x2 .given .1)
 
+returns-3 : tie.Need-returns-3
+returns-3 c = rw (c .before .x3 .given .1)
+
 pub sample-told-spec : {M : Type 1} → statement M
-sample-told-spec = tie.close (tie.spec (λ c. search needs) (λ c. search needs) (λ c κs. search needs) returns returns-2)
+sample-told-spec = tie.close (tie.spec (λ c. search needs) (λ c. search needs) (λ c κs. search needs) (λ c. search needs) returns returns-2 returns-3)
