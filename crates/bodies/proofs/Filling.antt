@@ -13,6 +13,7 @@ use lib.Seq.{length-take-le}
 use Rattle.words.specs.Numbers.{bytesAt, numberAt}
 use Rattle.words.specs.Runs.{pasted}
 use Rattle.words.specs.declared.Order.{Order}
+use Rattle.words.proofs.Fronts.{put}
 use Rattle.words.proofs.Runs.{pasted-pasted, part-pasted, take-pasted, length-pasted}
 use Rattle.walk.specs.See.{goes, see, Goes}
 use Rattle.walk.specs.Trace.{trace, written}
@@ -27,7 +28,7 @@ use Rattle.bodies.specs.Copy.{copy, filling, allWide, widthsIn}
 use Rattle.bodies.specs.declared.Way.{Way}
 use Rattle.bodies.specs.declared.Widths.the-variants as Widths
 use Rattle.bodies.proofs.Copying.{copy-bind, copy-give, length-copy}
-use Rattle.bodies.proofs.Pieces.{Takes, put, Left, left-whole, left-numbers, left-reserve, left-nothing, copy-within, length-within, copy-next, copy-follows, takes-numbers, takes-text, text-whole}
+use Rattle.bodies.proofs.Pieces.{Takes, Left, left-whole, left-numbers, left-reserve, left-nothing, copy-within, length-within, copy-next, copy-follows, takes-numbers, takes-text, text-whole}
 
 -- a piece of m bytes that a call wrote, which was lent k
 piece-pasted : {A : Type 0} (w : Way) (b : ℕ) (s d ys : List ℕ) (v : Walk A) (n m k : ℕ) → Takes m v → k ≡ m → n + m ≤ length s → ((c : ℕ) → ys ≡ copy w c (take k (drop n s)) c v) → put n k d ys ≡ pasted d n (copy w b s (b + n) v)
@@ -363,7 +364,7 @@ module _ {w : Way} {file : List ℕ} {t b : ℕ} {s : List ℕ} {cs : List Chann
       let r : length s ≡ 8 + m * v = sym (x .room) ∙ ap (λ (y : ℕ). 8 + y) (wide-bytes t v (x .rest) k) in
       let l : length ys ≡ m * v = length-within w b s (m * v) (numberList v m) (takes-numbers v m) (b + 8) (omega arith) (omega arith) in
       left-nothing w b s d′ (filling t cs) {B = List ℕ} (length s) [] refl
-      (left-pasted w b s d d′ ys (filling t cs) (samples t (x .rest)) (give []) 8 (length s) (wide-run t v w b s (x .rest) (b + 8) k ∙ rw written-none (sym (append-nil ys))) (says m r) (omega arith) (omega arith) (x .left))
+      (left-pasted {D = List ℕ} w b s d d′ ys (filling t cs) (samples t (x .rest)) (give []) 8 (length s) (wide-run t v w b s (x .rest) (b + 8) k ∙ rw written-none (sym (append-nil ys))) (says m r) (omega arith) (omega arith) (x .left))
 
 -- the code has written the clock, ys, the reserve area, zs, and the samples in one run
 pub body-once : (w : Way) (file : List ℕ) (t : ℕ) (s : List ℕ) (q n v : ℕ) (d ys zs d′ : List ℕ) → length d ≡ length s →

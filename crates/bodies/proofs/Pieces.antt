@@ -13,6 +13,7 @@ use Rattle.words.specs.Numbers.{other, Bytes, bytesIn, wordIn, bytesAt, numberA
 use Rattle.words.specs.Runs.{turned}
 use Rattle.words.specs.declared.Order.{Order}
 use Rattle.words.specs.declared.Order.the-variants.{Little, Big}
+use Rattle.words.proofs.Fronts.{put, Begun, begun-more}
 use Rattle.words.proofs.Words.{bytes-take, bytes-drop, bytesIn-wordIn}
 use Rattle.words.proofs.Runs.{bytesIn-other}
 use Rattle.walk.specs.Trace.{trace, written}
@@ -128,14 +129,9 @@ module _ {A : Type 0} (w : Way) (b : ℕ) (s : List ℕ) (n : ℕ) (v : Walk A) 
   unfolding _>>_
   copy-next at u = copy-follows at (λ _. u) u (λ _. refl)
 
--- a buffer with ys in the place of its m bytes from n on
-abbrev pub put : ℕ → ℕ → List ℕ → List ℕ → List ℕ
-put n m d ys = take n d ++ (ys ++ drop m (drop n d))
-
 -- piece by piece: the first n bytes of d are those of the walk u, but for what is left of it, v
-pub record Left {A B : Type 0} (w : Way) (b : ℕ) (s d : List ℕ) (n : ℕ) (u : Walk A) (v : Walk B) : Type 0 where
-  pub long : length d ≡ length s
-  pub is : copy w b s b u ≡ take n d ++ copy w b s (b + n) v
+abbrev pub Left : {A B : Type 0} → Way → ℕ → List ℕ → List ℕ → ℕ → Walk A → Walk B → Type 0
+Left w b s d n u v = Begun (length s) (copy w b s b u) d n (copy w b s (b + n) v)
 
 module _ {A : Type 0} (w : Way) (b : ℕ) (s d : List ℕ) (u : Walk A) where
   -- nothing is written, and the walk is written as another is
@@ -148,13 +144,8 @@ module _ {A : Type 0} (w : Way) (b : ℕ) (s d : List ℕ) (u : Walk A) where
       ((c : ℕ) → ys ≡ copy w c (take m (drop n s)) c v) → Left w b s d n u x → Left w b s (put n m d ys) (n + m) u y
   left-more n m ys x v y takes f e h l =
       let g : ys ≡ copy w b s (b + n) v = h (b + n) ∙ copy-within w b s m v takes n in
-      let i : length ys ≡ m = ap length g ∙ length-within w b s m v takes (b + n) (omega arith) (omega arith) in
-      let j : length (take n d) ≡ n = length-take-le n d (omega (arith, l .long)) in
-      let r : take (n + m) (put n m d ys) ≡ take n d ++ ys = rw (← append-assoc) (take-at (take n d ++ ys) (drop m (drop n d)) (n + m) (length-append (take n d) ys ∙ omega arith)) in
-      record {
-        long = length-append (take n d) (ys ++ drop m (drop n d)) ∙ omega (arith, length-append ys (drop m (drop n d)), length-drop m (drop n d), length-drop n d, l .long);
-        is = l .is ∙ rw (r, append-assoc, e, g, add-assoc);
-      }
+      let i : length (copy w b s (b + n) v) ≡ m = length-within w b s m v takes (b + n) (omega arith) (omega arith) in
+      rw (← add-assoc) (begun-more d n m (copy w b s (b + n) v) ys (copy w b s (b + n + m) y) g i f (rw e at l))
 
   pub left-next : {C D : Type 0} (n m : ℕ) (ys : List ℕ) (v : Walk C) (y : Walk D) →
       Takes m v → n + m ≤ length s → ((c : ℕ) → ys ≡ copy w c (take m (drop n s)) c v) → Left w b s d n u (v >> y) → Left w b s (put n m d ys) (n + m) u y

@@ -1,13 +1,14 @@
 -- A block of bytes, loaded whole and stored whole in another order.
 -- Assumes nothing.
 use mathlib.Core.Path.{_≡_, refl, sym, ap, _∙_, subst}
-use mathlib.Core.List.{List, [], _∷_, _++_, append-nil}
+use mathlib.Core.List.{List, [], _∷_, _++_}
 use Prim.Native.Nat.{ℕ, zero, suc, _+_, _<_}
-use native.Mathlib.Nat.{suc-inj, zero-add}
+use native.Mathlib.Nat.{suc-inj}
 use native.Mathlib.Omega.{arith}
-use lib.ListN.{length, getD, take, drop, length-append, drop-of-length-le}
-use lib.Seq.{sets, sets-eq, length-sets}
+use lib.ListN.{length, getD, take, drop, length-append}
+use lib.Seq.{sets, length-sets}
 use Rattle.words.specs.Runs.{turned, pasted}
+use Rattle.words.proofs.Fronts.{stored}
 use Rattle.words.proofs.Runs.{part-pasted, more-written, all-written}
 
 -- the bytes of s at some places, and its first n bytes, written out
@@ -32,10 +33,6 @@ written-out n s P h p = subst P (sym (is-listed n s h)) p
 -- the place of a store is within the block after the stores vs before it
 pub next-store : (n : ℕ) (d vs : List ℕ) → length d ≡ n → length vs < n → length vs < length (sets d 0 vs)
 next-store n d vs e h = omega (arith, length-sets d 0 vs)
-
--- stores of a whole block leave nothing of what was there
-pub stored : (d vs : List ℕ) → length d ≡ length vs → sets d 0 vs ≡ vs
-stored d vs h = sets-eq vs d 0 (omega arith) ∙ rw (zero-add, drop-of-length-le d {i = length vs} (omega arith)) (append-nil vs)
 
 length-picked : (ks s : List ℕ) → length (picked ks s) ≡ length ks
 length-picked [] s = refl

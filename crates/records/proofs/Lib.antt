@@ -1,3 +1,4 @@
 pub mod Facts
 pub mod Steps
 pub mod Laws
+pub mod Heads

@@ -1,4 +1,6 @@
 // Judges a file by the rules of crate `rules`. Each answer is that of the rules' walk, by the contracts.
+pub mod writing;
+
 ghost use mathlib.Core.Path.{_≡_};
 ghost use mathlib.Core.Bool.{true, false};
 ghost use mathlib.Core.List.{List};

@@ -13,6 +13,7 @@ use lib.Seq.{take-at, length-take-le}
 use Rattle.words.specs.Numbers.{Bytes, numberAt}
 use Rattle.words.specs.Runs.{pasted}
 use Rattle.words.specs.declared.Order.{Order}
+use Rattle.words.proofs.Fronts.{put, front-more, front-all}
 use Rattle.words.proofs.Runs.{length-pasted, take-pasted}
 use Rattle.walk.specs.See.{goes, see}
 use Rattle.walk.specs.Walk.{Event, row, render, size, Walk, require, _>>_}
@@ -28,7 +29,6 @@ use Rattle.descriptions.specs.Halves.{Tables, tables}
 use Rattle.rows.proofs.Lists.{admit-went}
 use Rattle.bodies.specs.Copy.{copy, Pastes}
 use Rattle.bodies.specs.declared.Way.{Way}
-use Rattle.bodies.proofs.Pieces.{put}
 use Rattle.measures.specs.Shapes.{ShapeOf, ShapeIn, signalsIn, behindHead}
 use Rattle.measures.specs.declared.Shape.{Shape}
 use Rattle.measures.specs.declared.Sized.{Sized}
@@ -36,7 +36,7 @@ use Rattle.measures.proofs.Canonic.{bare}
 use Rattle.measures.proofs.Chained.{tablesEvents, tables-bare, next-bare}
 use Rattle.measures.proofs.Lengths.{Accepted, accepted}
 use Rattle.measures.proofs.Measures.{stands, in-body}
-use Rattle.anew.proofs.Framing.{begun, ended, render-record, padded-events}
+use Rattle.rewrite.proofs.Framing.{render-record, padded-events}
 
 -- the first of the bytes that are written first
 take-written : (d₀ d₁ t h : List ℕ) (at : ℕ) → length t ≡ at → d₁ ≡ pasted d₀ 0 (t ++ h) → take at d₁ ≡ t
@@ -60,13 +60,13 @@ module _ (d₀ d₁ t h y₁ y₂ d₄ n zs : List ℕ) (at m₁ from m₂ end k
       let c : length (t ++ h) ≡ length t + length h = length-append t h in
       let q₁ = p₁ (omega arith) in
       let l₁ : length d₁ ≡ length d₀ = ap length (q₁ .1) ∙ length-pasted d₀ 0 (t ++ h) (omega arith) in
-      let x₂ : take from second ≡ t ++ y₁ = ap (λ (i : ℕ). take i second) i₁ ∙ begun d₁ y₁ t at m₁ (omega arith) l₂ (take-written d₀ d₁ t h at i₀ (q₁ .1)) in
-      let x₃ : take end third ≡ (t ++ y₁) ++ y₂ = ap (λ (i : ℕ). take i third) i₂ ∙ begun second y₂ (t ++ y₁) from m₂ (omega arith) l₃ x₂ in
+      let x₂ : take from second ≡ t ++ y₁ = ap (λ (i : ℕ). take i second) i₁ ∙ front-more d₁ y₁ t at m₁ (omega arith) l₂ (take-written d₀ d₁ t h at i₀ (q₁ .1)) in
+      let x₃ : take end third ≡ (t ++ y₁) ++ y₂ = ap (λ (i : ℕ). take i third) i₂ ∙ front-more second y₂ (t ++ y₁) from m₂ (omega arith) l₃ x₂ in
       let q₄ = p₄ (omega arith) in
       let l₄ : length d₄ ≡ length third = ap length (q₄ .1) ∙ length-pasted third end n (omega arith) in
       let x₄ : take k d₄ ≡ ((t ++ y₁) ++ y₂) ++ n = ap (λ (i : ℕ). take i d₄) (q₄ .0) ∙ (ap (take (end + length n)) (q₄ .1) ∙ (take-pasted third end n (omega arith) ∙ ap (λ (l : List ℕ). l ++ n) x₃)) in
       let u : length (take (length d₄ - k) (drop k d₄)) ≡ length d₀ - (end + length n) = length-take-le (length d₄ - k) (drop k d₄) (rw length-drop (omega arith)) ∙ omega (arith, q₄ .0) in
-      ended d₄ zs (((t ++ y₁) ++ y₂) ++ n) k (length d₄ - k) (omega (arith, q₄ .0)) l₅ x₄ ∙ ap (λ (l : List ℕ). (((t ++ y₁) ++ y₂) ++ n) ++ l) (z ∙ ap (λ (i : ℕ). replicate i 0) u)
+      front-all d₄ zs (((t ++ y₁) ++ y₂) ++ n) k (length d₄ - k) (omega (arith, q₄ .0)) l₅ x₄ ∙ ap (λ (l : List ℕ). (((t ++ y₁) ++ y₂) ++ n) ++ l) (z ∙ ap (λ (i : ℕ). replicate i 0) u)
 
 -- the bytes of a canonical recording, piece by piece
 module _ (o : Order) where

@@ -2,20 +2,23 @@
 -- Assumes nothing.
 use mathlib.Core.Path.{_≡_, refl, sym, ap, _∙_}
 use mathlib.Core.Bool.{Bool, true, false}
-use mathlib.Core.List.{List, [], _∷_}
-use Prim.Native.Nat.{ℕ, _-_}
+use mathlib.Core.List.{List, [], _∷_, _++_}
+use Prim.Native.Nat.{ℕ, _+_, _-_, _≤_}
 use native.Mathlib.Omega.{arith}
 use borrow.Author.Tests.{ltb-true, ltb-false}
 use lib.Dec.{ltb}
 use lib.ListN.{length, set, replicate}
 use Rattle.words.specs.declared.Order.{Order}
+use Rattle.words.proofs.Fronts.{put, Begun, begun, begun-more, begun-byte, begun-end}
 use Rattle.walk.specs.Walk.{Letter, Text, laid, render}
 use Rattle.walk.proofs.Laid.{laid-text, length-laid}
 use Rattle.rules.specs.Rules as R
 use Rattle.rules.specs.Canonical as C
 use Rattle.rules.proofs.Canon.{one-digit, two-digits}
-use Rattle.bodies.proofs.Pieces.{put}
-use Rattle.anew.proofs.Begun.{begun, begun-byte, begun-text, begun-end}
+
+-- a text comes next
+begun-text : {m : ℕ} {all : List ℕ} (o : Order) (d : List ℕ) (n k : ℕ) (xs ys rest : List ℕ) → ys ≡ xs → length xs ≡ k → n + k ≤ m → Begun m all d n (laid o Text xs ++ rest) → Begun m all (put n k d ys) (n + k) rest
+begun-text o d n k xs ys rest e h f b = begun-more d n k (laid o Text xs) ys rest (e ∙ sym (laid-text o xs)) (length-laid o Text xs ∙ h) f b
 
 -- the digits of a number
 

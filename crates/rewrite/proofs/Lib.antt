@@ -1,3 +1,4 @@
+pub mod Framing
 pub mod Headed
 pub mod Bodied
 pub mod Placed

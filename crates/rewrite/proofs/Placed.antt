@@ -9,6 +9,7 @@ use native.Mathlib.Omega.{arith}
 use lib.ListN.{length, take, drop, length-append}
 use Rattle.words.specs.declared.Order.{Order}
 use Rattle.words.specs.Runs.{pasted}
+use Rattle.words.proofs.Fronts.{put}
 use Rattle.words.proofs.Runs.{part-pasted, pasted-pasted}
 use Rattle.walk.specs.Walk.{render, size}
 use Rattle.walk.specs.See.{goes, see}
@@ -24,11 +25,10 @@ use Rattle.descriptions.specs.declared.Places.{Places}
 use Rattle.rows.proofs.Recorded.{within}
 use Rattle.bodies.specs.Copy.{Pastes}
 use Rattle.bodies.specs.declared.Way.{Way}
-use Rattle.bodies.proofs.Pieces.{put}
 use Rattle.measures.specs.Shapes.{sizedFor, ShapeOf, ShapeIn, behindHead}
 use Rattle.measures.specs.declared.Sized.{Sized}
 use Rattle.measures.specs.declared.Shape.{Shape}
-use Rattle.anew.proofs.Framing.{render-record}
+use Rattle.rewrite.proofs.Framing.{render-record}
 
 -- a head is 16 bytes long
 head-length : (o : Order) (h : R.Head) → length (render o (C.numerals h)) ≡ 16

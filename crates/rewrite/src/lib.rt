@@ -1,4 +1,5 @@
 // Writes a file anew, in its one canonical form.
+pub mod frames;
 pub mod recordings;
 
 ghost use mathlib.Core.Path.{_≡_};

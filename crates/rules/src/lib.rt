@@ -273,6 +273,10 @@ impl Frames {
     pub const FIRST: usize = 32;
 
     // In the record's body.
+    pub const BODY_FRAME_LENGTH: usize = Frames::FRAME_LENGTH - Head::LENGTH;
+
+    pub const BODY_COUNT: usize = Frames::COUNT - Head::LENGTH;
+
     pub const BODY_RESERVE: usize = Frames::RESERVE - Head::LENGTH;
 
     pub const BODY_FIRST: usize = Frames::FIRST - Head::LENGTH;

@@ -5,3 +5,4 @@ pub mod Ints
 pub mod Floats
 pub mod Runs
 pub mod Zeros
+pub mod Fronts

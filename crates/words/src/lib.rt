@@ -1,8 +1,9 @@
 // Numbers in the bytes of a file: words in either byte order, their signed values, whether they are a NaN's, and the first byte that is not zero.
 ghost use mathlib.Core.Path.{_≡_};
+ghost use mathlib.Core.List.{[], _∷_};
 ghost use Prim.Native.Nat.{ℕ, _+_, _*_, _≤_, _<_};
 ghost use lib.ListN.{length, getD};
-ghost use Rattle.words.specs.Numbers.{numberAt};
+ghost use Rattle.words.specs.Numbers.{numberAt, bytesIn, ordered};
 ghost use Rattle.words.specs.Joins.{join};
 ghost use Rattle.words.specs.Values.{wordCount, signed};
 ghost use Rattle.words.specs.Floats.{isNan};
@@ -61,6 +62,39 @@ pub fn number4(o: Order, s: &[u8], at: usize) -> u32
     let first = byte(s, at);
     let rest = number3(o, s, at + 1);
     joined(o, 16777216, first, rest)
+}
+
+// A number in four bytes, of which the least is b0.
+fn put_bytes(to: Order, b0: u8, b1: u8, b2: u8, b3: u8, d: &mut [u8])
+    requires { ⌜ length (now d) ≡ 4 ⌝ }
+    ensures { λ _. ⌜ now (d .exit) ≡ ordered to (b0 ∷ b1 ∷ b2 ∷ b3 ∷ []) ⌝ }
+{
+    match to {
+        Order::Little => {
+            d[0] = b0;
+            d[1] = b1;
+            d[2] = b2;
+            d[3] = b3;
+        }
+        Order::Big => {
+            d[0] = b3;
+            d[1] = b2;
+            d[2] = b1;
+            d[3] = b0;
+        }
+    }
+}
+
+// The number of four bytes, written.
+pub fn put4(to: Order, n: u32, d: &mut [u8])
+    requires { ⌜ length (now d) ≡ 4 ⌝ }
+    ensures { λ _. ⌜ now (d .exit) ≡ bytesIn to 4 n ⌝ }
+{
+    let b0 = (n % 256) as u8;
+    let b1 = (n / 256 % 256) as u8;
+    let b2 = (n / 256 / 256 % 256) as u8;
+    let b3 = (n / 256 / 256 / 256 % 256) as u8;
+    put_bytes(to, b0, b1, b2, b3, d);
 }
 
 // The signed value of a word, at the width whose negative words begin at `half`.

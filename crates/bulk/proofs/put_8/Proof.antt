@@ -7,7 +7,8 @@ use lib.ListN.{length}
 use lib.Seq.{sets}
 use borrow.Author.Needs.{needs}
 use Rattle.words.specs.Numbers.{bytesOf}
-use Rattle.bulk.proofs.Blocks.{next-store, stored}
+use Rattle.words.proofs.Fronts.{stored}
+use Rattle.bulk.proofs.Blocks.{next-store}
 use Rattle.bulk.proofs.put_8.Statement.{statement}
 use Rattle.bulk.proofs.put_8.Tie as tie
 

@@ -12,17 +12,17 @@ ghost use Rattle.rules.specs.Canonical as C;
 ghost use Rattle.records.specs.Says.{Kept};
 ghost use Rattle.bodies.specs.Copy.{widthsIn};
 ghost use Rattle.measures.specs.Shapes.{FrameIn};
-use crate::heads::put_head;
-use crate::heads::put4;
 use bodies::Way;
 use bodies::Widths;
 use bodies::frame_body;
 use bodies::widths_of;
 use bulk::clear_run;
+use records::writing::put_head;
 use rules::Channels;
 use rules::Frame;
 use rules::Frames;
 use rules::Head;
+use words::put4;
 
 // A record 145 with the serial i: the frame s up to its padding, under a head of its own.
 fn frame(w: Way, file: &[u8], cs: Channels, widths: Widths, t: u32, i: u32, s: &[u8], d: &mut [u8])
@@ -67,9 +67,13 @@ pub fn frames_body(
     let o = w.from;
     let widths = widths_of(o, file, cs);
     let to = w.to;
-    put4(to, t, &mut d[..4]);
-    put4(to, filled as u32, &mut d[4..8]);
-    put4(to, count, &mut d[8..Frames::BODY_RESERVE]);
+    put4(to, t, &mut d[..Frames::BODY_FRAME_LENGTH]);
+    put4(
+        to,
+        filled as u32,
+        &mut d[Frames::BODY_FRAME_LENGTH..Frames::BODY_COUNT],
+    );
+    put4(to, count, &mut d[Frames::BODY_COUNT..Frames::BODY_RESERVE]);
     clear_run(&mut d[Frames::BODY_RESERVE..Frames::BODY_FIRST]);
     let mut from = Frames::BODY_FIRST;
     let mut k = Frames::BODY_FIRST;

@@ -14,6 +14,7 @@ use lib.Seq.{take-all, take-at, length-take-le}
 use Rattle.words.specs.Numbers.{bytesIn, numberAt}
 use Rattle.words.specs.declared.Order.{Order}
 use Rattle.words.specs.declared.Order.the-variants.{Little, Big}
+use Rattle.words.proofs.Fronts.{put, front-more, front-all}
 use Rattle.walk.specs.See.{goes, see}
 use Rattle.walk.specs.Walk.{laid, Event, numeral, render, Walk, give, _>>=_, _>>_}
 use Rattle.walk.proofs.Seen.{part-bytes, stays-goes, and-left}
@@ -28,24 +29,8 @@ use Rattle.descriptions.proofs.Parts.{bind-goes}
 use Rattle.rows.proofs.Lists.{admit-went, require-went, head-went}
 use Rattle.bodies.specs.Copy.{copy, filling}
 use Rattle.bodies.specs.declared.Way.{Way}
-use Rattle.bodies.proofs.Pieces.{put}
 use Rattle.measures.specs.Shapes.{FrameIn}
 use Rattle.measures.proofs.Canonic.{frame-bare}
-
--- a buffer whose parts are written front to back: its first bytes, and all of it
-
-put-length : (d ys : List ℕ) (n m : ℕ) → n + m ≤ length d → length (put n m d ys) ≡ length d → length ys ≡ m
-put-length d ys n m f l =
-    let i : length (put n m d ys) ≡ length (take n d) + length (ys ++ drop m (drop n d)) = length-append (take n d) (ys ++ drop m (drop n d)) in
-    omega (arith, i, length-append ys (drop m (drop n d)), length-drop m (drop n d), length-drop n d, length-take-le n d (omega arith))
-
-pub begun : (d ys xs : List ℕ) (n m : ℕ) → n + m ≤ length d → length (put n m d ys) ≡ length d → take n d ≡ xs → take (n + m) (put n m d ys) ≡ xs ++ ys
-begun d ys xs n m f l e =
-    let i : length (take n d ++ ys) ≡ n + m = length-append (take n d) ys ∙ omega (arith, put-length d ys n m f l, length-take-le n d (omega arith)) in
-    rw (← append-assoc, ← e) (take-at (take n d ++ ys) (drop m (drop n d)) (n + m) i)
-
-pub ended : (d ys xs : List ℕ) (n m : ℕ) → n + m ≡ length d → length (put n m d ys) ≡ length d → take n d ≡ xs → put n m d ys ≡ xs ++ ys
-ended d ys xs n m f l e = sym (take-all (n + m) (put n m d ys) (omega arith)) ∙ begun d ys xs n m (omega arith) l e
 
 -- numbers of a width one after the other, and channels' samples, as they stand in the bytes s from byte k on
 module _ (o : Order) where
@@ -133,7 +118,7 @@ module _ (w : Way) (t : ℕ) (ch : List Channel) (s : List ℕ) (f : Frame) (cle
       ys ≡ render (w .to) (numerals (plainHead (length s) 145 i)) → ((b : ℕ) → zs ≡ copy w b (take (length s - 16) (drop 16 s)) b (filling t ch)) →
       d₂ ≡ render (w .to) (recordOf (plainHead (length s) 145 i) (frameWritten ch f))
   frame-written d ys zs i k l₁ l₂ e₁ e₂ =
-      ended (put 0 16 d ys) zs ys 16 (length (put 0 16 d ys) - 16) (omega arith) l₂ (begun d ys [] 0 16 (omega arith) l₁ refl)
+      front-all (put 0 16 d ys) zs ys 16 (length (put 0 16 d ys) - 16) (omega arith) l₂ (front-more d ys [] 0 16 (omega arith) l₁ refl)
       ∙ rw (render-record (w .to) (plainHead (length s) 145 i) (frameWritten ch f), ← e₁, ← body-written, e₂ 16)
 
 -- The frames of a body of a 140
@@ -273,7 +258,7 @@ module _ (w : Way) (file : List ℕ) (cs : Channels) (t filled size count : ℕ)
       let d₂ = put 4 4 d₁ y₂ in
       let d₃ = put 8 4 d₂ y₃ in
       let z : length (take 4 (drop 12 d₃)) ≡ 4 = length-take-le 4 (drop 12 d₃) (rw length-drop (omega arith)) in
-      let x : take 16 (put 12 4 d₃ y₄) ≡ ((y₁ ++ y₂) ++ y₃) ++ y₄ = begun d₃ y₄ ((y₁ ++ y₂) ++ y₃) 12 4 (omega arith) l₄ (begun d₂ y₃ (y₁ ++ y₂) 8 4 (omega arith) l₃ (begun d₁ y₂ y₁ 4 4 (omega arith) l₂ (begun d y₁ [] 0 4 (omega arith) l₁ refl))) in
+      let x : take 16 (put 12 4 d₃ y₄) ≡ ((y₁ ++ y₂) ++ y₃) ++ y₄ = front-more d₃ y₄ ((y₁ ++ y₂) ++ y₃) 12 4 (omega arith) l₄ (front-more d₂ y₃ (y₁ ++ y₂) 8 4 (omega arith) l₃ (front-more d₁ y₂ y₁ 4 4 (omega arith) l₂ (front-more d y₁ [] 0 4 (omega arith) l₁ refl))) in
       record {
         source = rw sub-zero f;
         target = rw (sub-zero, l₄, l₃, l₂, l₁) g;
@@ -296,7 +281,7 @@ module _ (w : Way) (file : List ℕ) (cs : Channels) (t filled size count : ℕ)
         let a = room-more from size count i (length s) f (q .source) in
         let b = room-more k filled count i n f (q .target) in
         let z : length (take filled (drop from s)) ≡ filled = length-take-le filled (drop from s) (rw length-drop (omega (arith, a .0))) in
-        let p : take (k + filled) (put k m′ d ys) ≡ take k d ++ ys = rw e′ (begun d ys (take k d) k filled (omega (arith, b .0, q .long)) (rw e′ at l) refl) in
+        let p : take (k + filled) (put k m′ d ys) ≡ take k d ++ ys = rw e′ (front-more d ys (take k d) k filled (omega (arith, b .0, q .long)) (rw e′ at l) refl) in
         record {
           source = a .1;
           target = b .1;
@@ -330,5 +315,5 @@ module _ (w : Way) (file : List ℕ) (cs : Channels) (t filled size count : ℕ)
         let u = all-there ch (render (w .to) (opened t ch (f .frames))) (x .rest) (x .many) g (x .is) in
         let v : length (f .frames) * frameSize t ch ≡ filled * i = rw (y .0, ← is, u .0) (mul-comm count filled) in
         let j : length (take (length d - k) (drop k d)) ≡ span (framesHead t ch (f .frames)) - framesBytes t ch (f .frames) = length-take-le (length d - k) (drop k d) (rw length-drop (omega arith)) ∙ omega (arith, v, z, q .place, q .long) in
-        ended d zs (render (w .to) (opened t ch (f .frames))) k (length d - k) (omega (arith, q .target, q .long)) l (u .1)
+        front-all d zs (render (w .to) (opened t ch (f .frames))) k (length d - k) (omega (arith, q .target, q .long)) l (u .1)
         ∙ (rw (h, j) (sym (padded-events (w .to) (opened t ch (f .frames)) (span (framesHead t ch (f .frames)) - framesBytes t ch (f .frames)))))

@@ -1,4 +1,4 @@
--- `anew::frames::frames_body` meets its contract: after i turns i frames are written behind the 140's first numbers.
+-- `rewrite::frames::frames_body` meets its contract: after i turns i frames are written behind the 140's first numbers.
 -- Assumes nothing.
 use mathlib.Core.Path.{sym}
 use Prim.Native.Nat.{_+_, _-_}
@@ -6,9 +6,9 @@ use native.Mathlib.Omega.{arith}
 use lib.ListN.{length}
 use lib.Seq.{length-take-le}
 use borrow.Author.Needs.{needs}
-use Rattle.anew.proofs.Framing.{Framing, framing-start, framing-room, framing-more, framing-end}
-use Rattle.anew.proofs.frames.frames_body.Statement.{statement}
-use Rattle.anew.proofs.frames.frames_body.Tie as tie
+use Rattle.rewrite.proofs.Framing.{Framing, framing-start, framing-room, framing-more, framing-end}
+use Rattle.rewrite.proofs.frames.frames_body.Statement.{statement}
+use Rattle.rewrite.proofs.frames.frames_body.Tie as tie
 
 abbrev Inv-loop : tie.InvT-loop
 Inv-loop w file cs t filled size count s d₀ widths from₀ k₀ i₀ d from k i = Framing w file cs t filled size count s (length d₀) d from k i

@@ -1,12 +1,12 @@
--- `anew::frames::frame` meets its contract: the head, and behind it what fills the frame.
+-- `rewrite::frames::frame` meets its contract: the head, and behind it what fills the frame.
 -- Assumes nothing.
 use mathlib.Core.Path.{sym}
 use native.Mathlib.Omega.{arith}
 use lib.Seq.{length-take-le}
 use borrow.Author.Needs.{needs}
-use Rattle.anew.proofs.Framing.{frame-written}
-use Rattle.anew.proofs.frames.frame.Statement.{statement}
-use Rattle.anew.proofs.frames.frame.Tie as tie
+use Rattle.rewrite.proofs.Framing.{frame-written}
+use Rattle.rewrite.proofs.frames.frame.Statement.{statement}
+use Rattle.rewrite.proofs.frames.frame.Tie as tie
 
 slice-aggregate-put-head : tie.Need-slice-aggregate-put-head
 slice-aggregate-put-head c = sym (length-take-le 16 (c .before .before .before .before .args .d .now) (omega arith))

@@ -1,12 +1,12 @@
--- `anew::heads::put_head` meets its contract: what is written piece by piece is the head.
+-- `records::writing::put_head` meets its contract: what is written piece by piece is the head.
 -- Assumes nothing.
 use mathlib.Core.Path.{sym}
 use native.Mathlib.Omega.{arith}
 use lib.Seq.{length-take-le}
-use Rattle.anew.proofs.Begun.{head-written}
+use Rattle.records.proofs.Heads.{head-written}
 use borrow.Author.Needs.{needs}
-use Rattle.anew.proofs.heads.put_head.Statement.{statement}
-use Rattle.anew.proofs.heads.put_head.Tie as tie
+use Rattle.records.proofs.writing.put_head.Statement.{statement}
+use Rattle.records.proofs.writing.put_head.Tie as tie
 
 slice-aggregate-put4 : tie.Need-slice-aggregate-put4
 slice-aggregate-put4 c = sym (length-take-le 4 (c .before .before .args .d .now) (omega arith))

@@ -1,2 +1,0 @@
-pub mod Begun
-pub mod Framing
