@@ -115,7 +115,7 @@ letter-order s o h = go (eqb (getD s 16 0) 76) (eqb (getD s 16 0) 66) refl refl
 
 -- the walk of the file header: its tests, one after the other
 pub header-open : (s : List ℕ) → see (orderOf s) 0 s 0 (fileHeader (length s)) ≡
-    gate (leb 32 (length s)) (gate (sameBytes (bytesAt 8 s 0) identifier) (gate (sameBytes (bytesAt 6 s 8) version) (gate (sameBytes (bytesAt 2 s 14) form) (gate (names (lettered (getD s 16 0))) (gate (isScript (getD s 17 0)) (gate (between 1 64 (countIs (countOf (bytesAt 4 s 18)))) (gate (allSpaces (bytesAt 10 s 22)) (goes (record { script = getD s 17 0; count = countIs (countOf (bytesAt 4 s 18)) }) 32)
+    gate (leb 32 (length s)) (gate (sameBytes (bytesAt 8 s 0) identifier) (gate (sameBytes (bytesAt 6 s 8) version) (gate (sameBytes (bytesAt 2 s 14) form) (gate (names (lettered (getD s 16 0))) (gate (isScript (getD s 17 0)) (gate (between 1 64 (countIs (countOf (bytesAt 4 s 18)))) (gate (allSpaces (bytesAt 10 s 22)) (goes (record { heading = record { script = getD s 17 0 }; count = countIs (countOf (bytesAt 4 s 18)) }) 32)
     8 22)
     7 18)
     6 17)

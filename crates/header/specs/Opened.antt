@@ -7,6 +7,7 @@ use Rattle.words.specs.declared.Order.{Order}
 use Rattle.words.specs.declared.Order.the-variants.{Little, Big}
 use Rattle.walk.specs.See.{Verdict, goes}
 use Rattle.walk.specs.Walk.{pick}
+use Rattle.rules.specs.declared.Heading.{Heading}
 use Rattle.rules.specs.declared.Refusal.{Refusal}
 use Rattle.rules.specs.Rules as R
 use Rattle.records.specs.Says.{halts}
@@ -24,9 +25,13 @@ abbrev pub names : Lettered → Bool
 names (Lettered.Names o) = true
 names Lettered.Nothing = false
 
+-- the header's values that the code keeps, as the rules have them
+abbrev pub headingOf : Heading → R.Heading
+headingOf g = record { script = g .script }
+
 -- the header holds, and the walk goes on behind its 32 bytes; or it is refused
 abbrev pub opened : Opened → Verdict R.FileHeader
-opened (Opened.Holds h) = goes (record { script = h .script; count = h .count }) 32
+opened (Opened.Holds h) = goes (record { heading = headingOf (h .heading); count = h .count }) 32
 opened (Opened.Stop r) = halts r
 
 -- what else holds of a header in this order, in a file of n bytes

@@ -11,6 +11,7 @@ use records::Tested;
 use records::between;
 use records::same;
 use rules::FileHeader;
+use rules::Heading;
 use rules::Refusal;
 use words::Order;
 use words::byte;
@@ -140,9 +141,10 @@ pub fn file_header(s: &[u8]) -> Opened
     if !spaces(&s[FileHeader::SPACES..FileHeader::LENGTH], 0) {
         return Opened::Stop(Refusal(8, FileHeader::SPACES));
     }
+    let heading = Heading { script };
     Opened::Holds(FileHeader {
         order,
-        script,
+        heading,
         count,
     })
 }

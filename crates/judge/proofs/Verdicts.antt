@@ -19,6 +19,7 @@ use Rattle.rules.specs.Rules.{FileHeader, Placed, File, fileHeader, recordings,
 use Rattle.rules.specs.declared.FileHeader as Declared
 use Rattle.rules.proofs.Refusals.{Told, judge-told}
 use Rattle.rules.proofs.Room.{stays-fileHeader, stays-file}
+use Rattle.header.specs.Opened.{headingOf}
 use Rattle.judge.specs.Judged.{AcceptedAs, JudgedAs}
 use Rattle.judge.specs.declared.Judged.{Judged}
 use Rattle.judge.specs.declared.Judged.the-variants as Judged
@@ -26,7 +27,7 @@ use Rattle.judge.proofs.Recordings.{yields-recordings}
 
 -- the file with this header whose recordings end at q
 abbrev Filed : FileHeader → ℕ → File → ℕ → Type 0
-Filed f q v e = (e ≡ q) × (v .script ≡ f .script) × (length (v .recordings) ≡ f .count)
+Filed f q v e = (e ≡ q) × (v .heading ≡ f .heading) × (length (v .recordings) ≡ f .count)
 
 -- the walk over a file, by its header and its recordings
 module _ (o : Order) (s : List ℕ) where
@@ -46,7 +47,7 @@ module _ (o : Order) (s : List ℕ) where
         let w : Walk (List Placed) = recordings (f .count) none (length s - 32) 1 in
         let g : Goes (see o 0 s 32 w) (λ _ e. (tt ≡ tt) × (e ≡ q)) = went (λ _. tt) (see o 0 s 32 w) h in
         record {
-          value = record { script = f .script; recordings = g .value };
+          value = record { heading = f .heading; recordings = g .value };
           end = g .end;
           is = simp (walks, head, g .is);
           kept = (g .kept .1, refl, yields o 0 s w 32 _ (yields-recordings o 0 s (f .count) none (length s - 32) 1 32) (g .is));
@@ -66,20 +67,20 @@ module _ (s : List ℕ) (f : FileHeader) (head : see (orderOf s) 0 s 0 (fileHead
         let g : Goes (see (orderOf s) 0 s 0 (file (length s))) (Filed f q) = file-goes (orderOf s) s f head q on in
         (rw (g .is) at (judge-told s)) .1 (omega (arith, g .kept .0)) ∙ ap (λ (e : ℕ). refused 16 e) (g .kept .0)
 
-    pub judge-whole : (h : Declared.FileHeader) → q ≡ length s → h .order ≡ orderOf s → h .script ≡ f .script → h .count ≡ f .count → AcceptedAs s h
+    pub judge-whole : (h : Declared.FileHeader) → q ≡ length s → h .order ≡ orderOf s → headingOf (h .heading) ≡ f .heading → h .count ≡ f .count → AcceptedAs s h
     judge-whole h l x y z =
         let g : Goes (see (orderOf s) 0 s 0 (file (length s))) (Filed f q) = file-goes (orderOf s) s f head q on in
         let t : (t : List Event) × (judge s ≡ passed (g .value) [] t) = (rw (g .is) at (judge-told s)) .0 (g .kept .0 ∙ l) in
-        record { file = g .value; events = t .0; judged = t .1; order = x; script = y ∙ sym (g .kept .1); count = z ∙ sym (g .kept .2) }
+        record { file = g .value; events = t .0; judged = t .1; order = x; heading = y ∙ sym (g .kept .1); count = z ∙ sym (g .kept .2) }
 
 -- one answer for every file
 accepted-unique : (s : List ℕ) (h k : Declared.FileHeader) → AcceptedAs s h → AcceptedAs s k → h ≡ k
 accepted-unique s h k x y =
     let v : x .file ≡ y .file = cc in
     let i : h .order ≡ k .order = cc in
-    let j : h .script ≡ k .script = cc in
+    let j : headingOf (h .heading) ≡ headingOf (k .heading) = cc in
     let l : h .count ≡ k .count = cc in
-    λ n. record { order = i n; script = j n; count = l n }
+    λ n. record { order = i n; heading = record { script = j n .script }; count = l n }
 
 refused-not-accepted : (s : List ℕ) (h : Declared.FileHeader) {m p : ℕ} → AcceptedAs s h → judge s ≡ refused m p → ⊥
 refused-not-accepted s h x e = let z : _≡_ {A = ℕ} 0 1 = cc in omega arith
@@ -97,8 +98,8 @@ judge-unique s (Judged.Refused r) (Judged.Refused u) x y =
 pub judge-refused : (s : List ℕ) (a : Judged) {m p : ℕ} → JudgedAs s a → judge s ≡ refused m p → a ≡ Judged.Refused (record { 0 = m; 1 = p })
 judge-refused s a {m} {p} x e = judge-unique s a (Judged.Refused (record { 0 = m; 1 = p })) x e
 
-pub judge-accepted : (s : List ℕ) (a : Judged) {v : File} {t : List Event} → JudgedAs s a → judge s ≡ passed v [] t → a ≡ Judged.Accepted (record { order = orderOf s; script = v .script; count = length (v .recordings) })
-judge-accepted s a {v} {t} x e = judge-unique s a (Judged.Accepted (record { order = orderOf s; script = v .script; count = length (v .recordings) })) x (record { file = v; events = t; judged = e; order = refl; script = refl; count = refl })
+pub judge-accepted : (s : List ℕ) (a : Judged) {v : File} {t : List Event} → JudgedAs s a → judge s ≡ passed v [] t → a ≡ Judged.Accepted (record { order = orderOf s; heading = record { script = v .heading .script }; count = length (v .recordings) })
+judge-accepted s a {v} {t} x e = judge-unique s a (Judged.Accepted (record { order = orderOf s; heading = record { script = v .heading .script }; count = length (v .recordings) })) x (record { file = v; events = t; judged = e; order = refl; heading = refl; count = refl })
 
 -- what the walk comes to over a file that is accepted
 went-whole : (n : ℕ) (x : Outcome File) {v : File} {t : List Event} → x ≡ passed v [] t → (y : Verdict File) → Told n x y → Holds (λ _ e. e ≤ n) y → y ≡ goes v n
@@ -121,7 +122,7 @@ judge-went s h = went-whole (length s) (judge s) h (see (orderOf s) 0 s 0 (file 
 -- its header, and its recordings up to the last byte
 pub record Accepted-seen (s : List ℕ) (h : Declared.FileHeader) (x : AcceptedAs s h) : Type 0 where
   pub long : 32 ≤ length s
-  pub header : see (orderOf s) 0 s 0 (fileHeader (length s)) ≡ goes (record { script = h .script; count = h .count }) 32
+  pub header : see (orderOf s) 0 s 0 (fileHeader (length s)) ≡ goes (record { heading = headingOf (h .heading); count = h .count }) 32
   pub recordings : see (orderOf s) 0 s 32 (recordings (h .count) none (length s - 32) 1) ≡ goes (x .file .recordings) (length s)
 
 pub accepted-seen : (s : List ℕ) (h : Declared.FileHeader) (x : AcceptedAs s h) → Accepted-seen s h x
@@ -134,12 +135,12 @@ accepted-seen s h x =
     let r = went-first o 0 s (g .end) w _ (g .kept) in
     let q = stays-goes o 0 s (0 + length s) (omega arith) (fileHeader (length s)) 0 _ (omega arith) (stays-fileHeader (length s) 0) (g .is) in
     let d : g .end ≡ 32 = omega (arith, q .0) in
-    let k : goes (record { script = f .script; recordings = r .value }) (r .end) ≡ goes (x .file) (length s) = sym (see-give o 0 s (r .end) (record { script = f .script; recordings = r .value })) ∙ r .kept in
-    let v : _≡_ {A = File} (record { script = f .script; recordings = r .value }) (x .file) = cc in
+    let k : goes (record { heading = f .heading; recordings = r .value }) (r .end) ≡ goes (x .file) (length s) = sym (see-give o 0 s (r .end) (record { heading = f .heading; recordings = r .value })) ∙ r .kept in
+    let v : _≡_ {A = File} (record { heading = f .heading; recordings = r .value }) (x .file) = cc in
     let l : r .value ≡ x .file .recordings = ap (λ (y : File). y .recordings) v in
     let m : length (r .value) ≡ f .count = yields o 0 s w (g .end) _ (yields-recordings o 0 s (f .count) none (length s - 32) 1 (g .end)) (r .is) in
-    let y : f .script ≡ h .script = ap (λ (y : File). y .script) v ∙ sym (x .script) in
+    let y : f .heading ≡ headingOf (h .heading) = ap (λ (y : File). y .heading) v ∙ sym (x .heading) in
     let z : f .count ≡ h .count = sym m ∙ (ap length l ∙ sym (x .count)) in
-    let u : f ≡ record { script = h .script; count = h .count } = λ j. record { script = y j; count = z j } in
+    let u : f ≡ record { heading = headingOf (h .heading); count = h .count } = λ j. record { heading = y j; count = z j } in
     let e : r .end ≡ length s = cc in
     record { long = omega (arith, q .1); header = cc (g .is, u, d); recordings = cc (r .is, z, d, l, e) }

@@ -22,11 +22,11 @@ use Rattle.rules.proofs.Canon.{ContentsOk, file-ok, header-size}
 use Rattle.rules.proofs.Renew.{and-true}
 use Rattle.rules.proofs.Rewrite.{rewritten-of, reading-words}
 use Rattle.rules.proofs.Turn.{accepted}
-use Rattle.header.specs.Opened.{lettered}
+use Rattle.header.specs.Opened.{lettered, headingOf}
 use Rattle.header.specs.declared.Lettered.{Lettered}
 use Rattle.header.specs.declared.Lettered.the-variants as Lettered
 use Rattle.judge.specs.Judged.{AcceptedAs}
-use Rattle.table.proofs.Answers.{listed}
+use Rattle.judge.proofs.Accepted.{listed}
 use Rattle.makers.specs.Makers.{firstMaker}
 use Rattle.permit.specs.Permit.{Answer, bytes, refusal, meaning, permitted, Writes}
 use Rattle.permit.specs.declared.Written.{Written}
@@ -60,25 +60,25 @@ module _ (s : List ℕ) (b : Bytes s) (h : FileHeader) (x : AcceptedAs s h) wher
   unfolding R.between
   few = omega (arith, leb-true (length recorded) 64 (and-true (leb 1 (length recorded)) _ (ok .header .count) .1), counted)
 
-  pub script-low : h .script < 256
-  script-low = rw (x .script) (ok .header .byte)
+  pub script-low : h .heading .script < 256
+  script-low = rw (ap (λ (g : R.Heading). g .script) (x .heading)) (ok .header .byte)
 
   -- the letter names no order
   pub rewrites-unnamed : (order : ℕ) (out : List ℕ) → lettered order ≡ Lettered.Nothing → Rewrites s order out out (Written.Refused (record { 0 = 19; 1 = 0 }))
   rewrites-unnamed order out e = rw (x .judged, e) (refl, refl)
 
   -- the canonical file: its header and its recordings
-  anew : (to : Order) → render to (C.headerEvents (h .script) (h .count)) ++ render to (C.recordingEvents 1 recorded) ≡ C.rewritten to s
+  anew : (to : Order) → render to (C.headerEvents (headingOf (h .heading)) (h .count)) ++ render to (C.recordingEvents 1 recorded) ≡ C.rewritten to s
   unfolding C.anew
   anew to =
       let e = rewritten-of to s (x .judged) ∙ ap (λ (v : R.Contents). render to (C.anew v)) (reading-words s b (x .judged)) in
-      sym (e ∙ rw (← x .script, counted) (render-append to (C.headerEvents (h .script) (h .count)) (C.recordingEvents 1 recorded)))
+      sym (e ∙ rw (← x .heading, counted) (render-append to (C.headerEvents (headingOf (h .heading)) (h .count)) (C.recordingEvents 1 recorded)))
 
   module _ (order : ℕ) (to : Order) (names : lettered order ≡ Lettered.Names to) (need : ℕ) (long : need ≡ 32 + size (C.recordingEvents 1 recorded)) (out : List ℕ) {m : Option ℕ} (made : m ≡ barrier (h .order) to (firstMaker (tell (h .order) 0 s 32 walked))) where
     pub length-anew : length (C.rewritten to s) ≡ need
     length-anew =
-        let e = length-append (render to (C.headerEvents (h .script) (h .count))) (render to (C.recordingEvents 1 recorded)) in
-        let f : length (render to (C.headerEvents (h .script) (h .count))) ≡ 32 = length-render to (C.headerEvents (h .script) (h .count)) ∙ header-size (h .script) (h .count) (rw (x .script, ← counted) (ok .header)) in
+        let e = length-append (render to (C.headerEvents (headingOf (h .heading)) (h .count))) (render to (C.recordingEvents 1 recorded)) in
+        let f : length (render to (C.headerEvents (headingOf (h .heading)) (h .count))) ≡ 32 = length-render to (C.headerEvents (headingOf (h .heading)) (h .count)) ∙ header-size (headingOf (h .heading)) (h .count) (rw (x .heading, ← counted) (ok .header)) in
         omega (arith, ap length (anew to), e, f, length-render to (C.recordingEvents 1 recorded), long)
 
     -- leave to write is the answer
@@ -88,5 +88,5 @@ module _ (s : List ℕ) (b : Bytes s) (h : FileHeader) (x : AcceptedAs s h) wher
     pub rewrites-stopped : (a : Written) {n p : ℕ} → meaning a ≡ permitted m need (length out) → meaning a ≡ refusal n p → Rewrites s order out out a
     rewrites-stopped a e r = stopped (answerOf s order (length out)) (rewrittenIn (lettered order) s) out a (answers e) r
 
-    pub rewrites-room : (a : Written) {n : ℕ} (out′ : List ℕ) → meaning a ≡ permitted m need (length out) → meaning a ≡ bytes n → out′ ≡ pasted out 0 (render to (C.headerEvents (h .script) (h .count)) ++ render to (C.recordingEvents 1 recorded)) → Rewrites s order out out′ a
+    pub rewrites-room : (a : Written) {n : ℕ} (out′ : List ℕ) → meaning a ≡ permitted m need (length out) → meaning a ≡ bytes n → out′ ≡ pasted out 0 (render to (C.headerEvents (headingOf (h .heading)) (h .count)) ++ render to (C.recordingEvents 1 recorded)) → Rewrites s order out out′ a
     rewrites-room a out′ e r w = wrote (answerOf s order (length out)) (rewrittenIn (lettered order) s) out out′ a (answers e) r (w ∙ ap (pasted out 0) (anew to ∙ rw names refl))

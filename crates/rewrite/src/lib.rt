@@ -52,6 +52,6 @@ pub fn rewrite(file: &[u8], order: u8, out: &mut [u8]) -> Written
     let Written::Bytes(_) = leave else {
         return leave;
     };
-    recordings::file_anew(o, to, h.script, file, h.count, out);
+    recordings::file_anew(o, to, h.heading, file, h.count, out);
     leave
 }

@@ -12,6 +12,7 @@ ghost use Rattle.walk.specs.See.{see, goes};
 ghost use Rattle.rules.specs.Rules as R;
 ghost use Rattle.rules.specs.Canonical as C;
 ghost use Rattle.records.specs.Says.{Kept};
+ghost use Rattle.header.specs.Opened.{headingOf};
 ghost use Rattle.descriptions.specs.Tabled.{Room, Stand};
 ghost use Rattle.bodies.specs.Copy.{Pastes};
 ghost use Rattle.measures.specs.Shapes.{ShapeOf, ShapeIn, Bounds, Each, Given, lengthIn, behindHead};
@@ -32,6 +33,7 @@ use rules::Channels;
 use rules::FileHeader;
 use rules::Frames;
 use rules::Head;
+use rules::Heading;
 use rules::Recording;
 use words::Order;
 
@@ -83,10 +85,11 @@ fn digits(count: u32, d: &mut [u8])
 }
 
 // The file header: K without leading zeros.
-fn header(to: Order, script: u32, count: u32, d: &mut [u8])
-    requires { ⌜ (script < 256) × (count < 100) × (length (now d) ≡ 32) ⌝ }
-    ensures { λ _. ⌜ now (d .exit) ≡ render to (C.headerEvents script count) ⌝ }
+fn header(to: Order, heading: Heading, count: u32, d: &mut [u8])
+    requires { ⌜ (heading .script < 256) × (count < 100) × (length (now d) ≡ 32) ⌝ }
+    ensures { λ _. ⌜ now (d .exit) ≡ render to (C.headerEvents (headingOf heading) count) ⌝ }
 {
+    let script = heading.script;
     copy_run(b"JSSR-SPG", &mut d[..FileHeader::VERSION]);
     copy_run(b"000300", &mut d[FileHeader::VERSION..FileHeader::FORM]);
     copy_run(b"00", &mut d[FileHeader::FORM..FileHeader::ORDER]);
@@ -190,9 +193,9 @@ pub fn file_length(o: Order, file: &[u8], count: u32) -> usize
 }
 
 // The canonical form of a file with so many recordings.
-pub fn file_anew(o: Order, into: Order, script: u32, file: &[u8], count: u32, out: &mut [u8])
-    requires { ⌜ (32 ≤ length (now file)) × Addressable (length (now file)) × (script < 256) × (count ≤ 64) × (32 ≤ length (now out)) ⌝ }
-    ensures { λ _. ⌜ ((ps : List R.Placed) (e : ℕ) → see o 0 (now (file .entry)) 32 (R.recordings count none (length (now (file .entry)) - 32) 1) ≡ goes ps e → 32 + size (C.recordingEvents 1 (map (λ p. p .recording) ps)) ≤ length (now (out .entry)) → now (out .exit) ≡ pasted (now (out .entry)) 0 (render into (C.headerEvents script count) ++ render into (C.recordingEvents 1 (map (λ p. p .recording) ps)))) ⌝ }
+pub fn file_anew(o: Order, into: Order, heading: Heading, file: &[u8], count: u32, out: &mut [u8])
+    requires { ⌜ (32 ≤ length (now file)) × Addressable (length (now file)) × (heading .script < 256) × (count ≤ 64) × (32 ≤ length (now out)) ⌝ }
+    ensures { λ _. ⌜ ((ps : List R.Placed) (e : ℕ) → see o 0 (now (file .entry)) 32 (R.recordings count none (length (now (file .entry)) - 32) 1) ≡ goes ps e → 32 + size (C.recordingEvents 1 (map (λ p. p .recording) ps)) ≤ length (now (out .entry)) → now (out .exit) ≡ pasted (now (out .entry)) 0 (render into (C.headerEvents (headingOf heading) count) ++ render into (C.recordingEvents 1 (map (λ p. p .recording) ps)))) ⌝ }
 {
     let w = Way {
         from: o,
@@ -201,7 +204,7 @@ pub fn file_anew(o: Order, into: Order, script: u32, file: &[u8], count: u32, ou
     };
     let mut p = FileHeader::LENGTH;
     let mut k = FileHeader::LENGTH;
-    header(into, script, count, &mut out[..k]);
+    header(into, heading, count, &mut out[..k]);
     let mut before = Before::Nothing;
     let mut i: u32 = 0;
     while i < count {

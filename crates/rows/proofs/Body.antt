@@ -18,12 +18,13 @@ use Rattle.walk.specs.See.{goes, see}
 use Rattle.walk.specs.Tell.{tell}
 use Rattle.walk.proofs.Seen.{and-left, stays-goes}
 use Rattle.walk.proofs.Went.{gate-went}
+use Rattle.walk.proofs.Told.{Silent, silent}
 use Rattle.rules.specs.Rules.{Head, Held, Placed, head, span, makerCode, basicBody, channels, channelsBody, items, itemsBody, patientCode, eventCode, frames, framesBody, delimiter, padding, recordingBody}
 use Rattle.rules.proofs.Room.{stays-head}
 use Rattle.children.specs.Children.{Said, said, _then_, Known, knownOf, Reads, Inner, is100, is120, is130, is200, is140, isMaker, Chain, Parted, Closed}
 use Rattle.children.proofs.Chained.{body-chain}
 use Rattle.rows.specs.Rows.{seriesRows, heldRows, Holds, Wrote}
-use Rattle.rows.proofs.Lists.{Silent, silent, silent-padding, admit-went, items-lists, channels-lists, frames-lists}
+use Rattle.rows.proofs.Lists.{silent-padding, admit-went, items-lists, channels-lists, frames-lists}
 use Rattle.rows.proofs.Makers.{tell-head}
 use Rattle.rows.proofs.Written.{wrote-join, wrote-nothing}
 

@@ -18,7 +18,7 @@ use Rattle.walk.specs.Tell.{tell}
 use Rattle.walk.specs.Walk.{laid, Row, Walk, give, refuse, check, number, read, skip, list, _>>=_, _>>_, require}
 use Rattle.walk.proofs.Seen.{stays-goes, and-left}
 use Rattle.walk.proofs.Went.{gate-went, went-first, goes-same}
-use Rattle.walk.proofs.Told.{tell-bind, tell-then, tell-give}
+use Rattle.walk.proofs.Told.{tell-bind, tell-then, tell-give, Silent, silent, silent-bind, silent-then}
 use Rattle.rules.specs.Rules.{Head, head, admit, span, coded, fixed, zeros, padding, series, Channel, channel, channelBody, channelsBody, channels, Basic, Item, Frame, item, itemSize, itemList, itemsBody, items, numberList, samples, sampleBytes, samplesIn, width, frameBody, frame, frames, framesBody, Frames, padOk, between, Next, Part, part, next}
 use Rattle.rules.specs.declared.Head as At
 use Rattle.rules.proofs.Room.{Rests, stays-channel, stays-frame}
@@ -27,43 +27,6 @@ use Rattle.records.proofs.Facts.{both-true, both-false}
 use Rattle.judge.proofs.Recorded.{admit-passed}
 use Rattle.rows.specs.Rows.{seriesRows, Marks}
 use Rattle.rows.proofs.Makers.{tell-head, tell-admit}
-
--- a walk that lists no row
-module _ {A : Type 0} where
-  abbrev pub Silent : Walk A → Type 0
-  Silent (give a) = Unit {0}
-  Silent (refuse n p) = Unit {0}
-  Silent (check c n p w) = Silent w
-  Silent (number n f) = (v : ℕ) → Silent (f v)
-  Silent (read k n f) = (bs : List ℕ) → Silent (f bs)
-  Silent (skip n w) = Silent w
-  Silent (list p l c m w) = ⊥
-
-  pub silent : (o : Order) (b : ℕ) (s : List ℕ) (at : ℕ) (w : Walk A) → Silent w → tell o b s at w ≡ []
-  unfolding tell
-  silent o b s at (give a) h = refl
-  silent o b s at (refuse n p) h = refl
-  silent o b s at (check true n p w) h = silent o b s at w h
-  silent o b s at (check false n p w) h = refl
-  silent o b s at (number n f) h = silent o b s (at + n) (f (numberAt o n s (at - b))) (h _)
-  silent o b s at (read k n f) h = silent o b s (at + n) (f (laid o k (bytesAt n s (at - b)))) (h _)
-  silent o b s at (skip n w) h = silent o b s (at + n) w h
-  silent o b s at (list p l c m w) h = absurd h
-
-module _ {A B : Type 0} where
-  pub silent-bind : (w : Walk A) (k : A → Walk B) → Silent w → ((a : A) → Silent (k a)) → Silent (w >>= k)
-  unfolding _>>=_
-  silent-bind (give a) k h g = g a
-  silent-bind (refuse n p) k h g = tt
-  silent-bind (check c n p w) k h g = silent-bind w k h g
-  silent-bind (number n f) k h g = λ v. silent-bind (f v) k (h v) g
-  silent-bind (read κ n f) k h g = λ bs. silent-bind (f bs) k (h bs) g
-  silent-bind (skip n w) k h g = silent-bind w k h g
-  silent-bind (list p l c m w) k h g = absurd h
-
-  pub silent-then : (w : Walk A) (v : Walk B) → Silent w → Silent v → Silent (w >> v)
-  unfolding _>>_
-  silent-then w v h g = silent-bind w (λ _. v) h (λ _. g)
 
 silent-zeros : (bs : List ℕ) → Silent (zeros bs)
 unfolding zeros

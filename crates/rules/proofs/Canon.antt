@@ -14,7 +14,7 @@ use Rattle.walk.specs.Plays.{Plays, gives, checks, reads}
 use Rattle.walk.specs.Walk.{Event, size, _>>=_, _>>_}
 use Rattle.walk.proofs.Laws.{plays-bind, plays-give, size-append, zeros-length, by-split, by-check, by-read, plays-gave}
 use Rattle.rules.specs.Canonical.{sizeFor, multiplierFor, most, zeroes, recordOf, framesBytes, content, recordingHead, recordingEvents, digits, headerEvents, anew}
-use Rattle.rules.specs.Rules.{between, padding, padded, makerCode, sameBytes, identifier, version, form, allSpaces, decimal, countOf, countFits, countIs, isScript, FileHeader, fileHeader, span, lengthOf, Recording, Held, contentLimit, Placed, recording, recordings, File, Contents, contents, file, channels}
+use Rattle.rules.specs.Rules.{between, padding, padded, makerCode, sameBytes, identifier, version, form, allSpaces, decimal, countOf, countFits, countIs, isScript, Heading, FileHeader, fileHeader, span, lengthOf, Recording, Held, contentLimit, Placed, recording, recordings, File, Contents, contents, file, channels}
 use Rattle.rules.proofs.Renew.{and-true, and-both, record-size}
 use Rattle.rules.proofs.Renewed.{RecordingOk, recording-ok, Anew, recording-from}
 use Rattle.rules.proofs.Sized.{sized, Sized}
@@ -91,12 +91,12 @@ unfolding between padding padded makerCode
 count-fits none h = h
 count-fits (some k) h = h
 
-pub record HeaderOk (script k : ℕ) : Type 0 where
-  pub byte : script < 256
-  pub letter : isScript script ≡ true
+pub record HeaderOk (g : Heading) (k : ℕ) : Type 0 where
+  pub byte : g .script < 256
+  pub letter : isScript (g .script) ≡ true
   pub count : between 1 64 k ≡ true
 
-pub header-ok : (n : ℕ) {t : List Event} {f : FileHeader} → Plays t (fileHeader n) f → HeaderOk (f .script) (f .count)
+pub header-ok : (n : ℕ) {t : List Event} {f : FileHeader} → Plays t (fileHeader n) f → HeaderOk (f .heading) (f .count)
 unfolding fileHeader _>>=_ _>>_
 header-ok n p =
     by-check p λ _ p. by-read p λ _ _ _ _ p. by-check p λ _ p. by-read p λ _ _ _ _ p. by-check p λ _ p. by-read p λ _ _ _ _ p. by-check p λ _ p. by-read p λ _ _ _ _ p. by-check p λ _ p.
@@ -155,34 +155,34 @@ digits-ok k h = go (ltb k 10) refl
           bytes = omega arith;
         })
 
-header-read : (script k n : ℕ) → HeaderOk script k → Digits k (digits k) → 32 ≤ n → Plays (headerEvents script k) (fileHeader n) (record { script = script; count = countIs (countOf (digits k)) })
+header-read : (g : Heading) (k n : ℕ) → HeaderOk g k → Digits k (digits k) → 32 ≤ n → Plays (headerEvents g k) (fileHeader n) (record { heading = g; count = countIs (countOf (digits k)) })
 unfolding headerEvents fileHeader identifier version form sameBytes allSpaces _>>=_ _>>_ between padding padded makerCode
-header-read script k n o d l =
+header-read g k n o d l =
     let c : countFits (countOf (digits k)) ≡ true = rw (d .count) (o .count) in
     let b₁ : Bytes identifier = omega arith in
     let b₂ : Bytes version = omega arith in
     let b₃ : Bytes form = omega arith in
     let b₄ : Bytes (76 ∷ []) = omega arith in
     let b₅ : Bytes (replicate 10 32) = omega arith in
-    let b₆ : Bytes (script ∷ []) = (o .byte, tt) in
+    let b₆ : Bytes (g .script ∷ []) = (o .byte, tt) in
     checks (le-leb 32 n l) (reads refl b₁ (checks refl (reads refl b₂ (checks refl (reads refl b₃ (checks refl (reads refl b₄ (checks refl
     (reads refl b₆ (checks (o .letter) (reads (d .long) (d .bytes) (checks c (reads refl b₅ (checks refl gives))))))))))))))
 
-pub header-plays : (script k n : ℕ) → HeaderOk script k → 32 ≤ n → Plays (headerEvents script k) (fileHeader n) (record { script = script; count = k })
+pub header-plays : (g : Heading) (k n : ℕ) → HeaderOk g k → 32 ≤ n → Plays (headerEvents g k) (fileHeader n) (record { heading = g; count = k })
 unfolding between padding padded makerCode
-header-plays script k n o l =
+header-plays g k n o l =
     let d = digits-ok k (leb-true k 64 (and-true (leb 1 k) _ (o .count) .1)) in
     let m : countIs (countOf (digits k)) ≡ k = ap countIs (d .count) in
-    rw m at (header-read script k n o d l)
+    rw m at (header-read g k n o d l)
 
-pub header-size : (script k : ℕ) → HeaderOk script k → size (headerEvents script k) ≡ 32
+pub header-size : (g : Heading) (k : ℕ) → HeaderOk g k → size (headerEvents g k) ≡ 32
 unfolding headerEvents identifier version form size between padding padded makerCode
-header-size script k o = omega (arith, digits-ok k (leb-true k 64 (and-true (leb 1 k) _ (o .count) .1)) .long)
+header-size g k o = omega (arith, digits-ok k (leb-true k 64 (and-true (leb 1 k) _ (o .count) .1)) .long)
 
 -- The file
 
 pub record ContentsOk (v : Contents) : Type 0 where
-  pub header : HeaderOk (v .script) (length (v .recordings))
+  pub header : HeaderOk (v .heading) (length (v .recordings))
   pub recordings : RecordingsOk none (v .recordings)
 
 pub file-ok : (n : ℕ) {t : List Event} {v : File} → Plays t (file n) v → ContentsOk (contents v)
@@ -202,12 +202,12 @@ pub record AnewFile (v : Contents) : Type 0 where
 pub file-plays : (v : Contents) → ContentsOk v → AnewFile v
 unfolding file anew between padding padded makerCode
 file-plays v k =
-    let e = size-append (headerEvents (v .script) (length (v .recordings))) (recordingEvents 1 (v .recordings)) in
-    let f = header-size (v .script) (length (v .recordings)) (k .header) in
+    let e = size-append (headerEvents (v .heading) (length (v .recordings))) (recordingEvents 1 (v .recordings)) in
+    let f = header-size (v .heading) (length (v .recordings)) (k .header) in
     let n = leb-true (length (v .recordings)) 64 (and-true (leb 1 (length (v .recordings))) _ (k .header .count) .1) in
-    let c = recordings-play (v .recordings) none (k .recordings) 1 (size (headerEvents (v .script) (length (v .recordings)) ++ recordingEvents 1 (v .recordings)) - 32) (omega arith) (omega arith) in
+    let c = recordings-play (v .recordings) none (k .recordings) 1 (size (headerEvents (v .heading) (length (v .recordings)) ++ recordingEvents 1 (v .recordings)) - 32) (omega arith) (omega arith) in
     record {
-      file = record { script = v .script; recordings = c .placed };
-      same = λ i. record { script = v .script; recordings = c .same i };
-      plays = plays-bind _ (header-plays (v .script) (length (v .recordings)) _ (k .header) (omega arith)) (plays-give _ (c .plays));
+      file = record { heading = v .heading; recordings = c .placed };
+      same = λ i. record { heading = v .heading; recordings = c .same i };
+      plays = plays-bind _ (header-plays (v .heading) (length (v .recordings)) _ (k .header) (omega arith)) (plays-give _ (c .plays));
     }

@@ -85,4 +85,4 @@ of-recordings i (r ∷ rs) = both (recordOf _ _) (recordingEvents (suc i) rs) (o
 
 pub reserve-zero : (v : Reading) → cleared (canonical v) ≡ canonical v
 unfolding cleared anew headerEvents
-reserve-zero v = both (headerEvents (v .script) (length (wordsOf v .recordings))) (recordingEvents 1 (wordsOf v .recordings)) refl (of-recordings 1 (wordsOf v .recordings))
+reserve-zero v = both (headerEvents (v .heading) (length (wordsOf v .recordings))) (recordingEvents 1 (wordsOf v .recordings)) refl (of-recordings 1 (wordsOf v .recordings))

@@ -155,4 +155,4 @@ recordings-back held g (r ∷ rs) k = λ i. recording-back held g r (k .0) i ∷
 
 -- the words of a reading that passes are those that it was read from
 pub words-back : (v : Contents) → ContentsOk v → wordsOf (readingOf v) ≡ v
-words-back v k = λ i. record { script = v .script; recordings = recordings-back none tt (v .recordings) (k .recordings) i }
+words-back v k = λ i. record { heading = v .heading; recordings = recordings-back none tt (v .recordings) (k .recordings) i }

@@ -9,7 +9,7 @@ use lib.ListN.{length, replicate}
 use Rattle.words.specs.declared.Order.{Order}
 use Rattle.walk.specs.Walk.{Letter, Text, Padding, Event, numeral, piece, blank, row, size, refused, passed, render}
 use Rattle.rules.specs.Reading.{Reading, reading, wordsOf}
-use Rattle.rules.specs.Rules.{identifier, version, form, Head, span, Basic, Channel, Item, itemBytes, width, sampleBytes, Frame, Maker, Recording, Contents, File, judge}
+use Rattle.rules.specs.Rules.{identifier, version, form, Heading, Head, span, Basic, Channel, Item, itemBytes, width, sampleBytes, Frame, Maker, Recording, Contents, File, judge}
 
 -- The size and the multiplier of a record of n bytes: multiplier 0 where n fits, else the smallest that serves
 
@@ -158,12 +158,12 @@ recordingEvents i (r ∷ rs) =
 unfoldable pub digits : ℕ → List ℕ
 digits k = elim (ltb k 10) [ true ↦ (48 + k) ∷ 32 ∷ 32 ∷ 32 ∷ [] | false ↦ (48 + k / 10) ∷ (48 + k % 10) ∷ 32 ∷ 32 ∷ [] ]
 
-unfoldable pub headerEvents : ℕ → ℕ → List Event
-headerEvents script k =
-    piece Text identifier ∷ piece Text version ∷ piece Text form ∷ piece Letter (76 ∷ []) ∷ piece Text (script ∷ []) ∷ piece Text (digits k) ∷ piece Text (replicate 10 32) ∷ []
+unfoldable pub headerEvents : Heading → ℕ → List Event
+headerEvents g k =
+    piece Text identifier ∷ piece Text version ∷ piece Text form ∷ piece Letter (76 ∷ []) ∷ piece Text (g .script ∷ []) ∷ piece Text (digits k) ∷ piece Text (replicate 10 32) ∷ []
 
 unfoldable pub anew : Contents → List Event
-anew v = headerEvents (v .script) (length (v .recordings)) ++ recordingEvents 1 (v .recordings)
+anew v = headerEvents (v .heading) (length (v .recordings)) ++ recordingEvents 1 (v .recordings)
 
 -- the canonical file of a reading, as events
 abbrev pub canonical : Reading → List Event

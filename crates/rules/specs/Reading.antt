@@ -1,4 +1,4 @@
--- A file's reading: the script letter, K, which records each recording holds, all fields but size, multiplier, frame length and reserve,
+-- A file's reading: the header's values, K, which records each recording holds, all fields but size, multiplier, frame length and reserve,
 -- all texts, all samples as values, and each maker's record whole. A number means what document 01 says that it is: a signed whole number of
 -- its width, an unsigned one in a frame's clock, or a float, which is its 32 bits.
 -- Assumes nothing.
@@ -9,7 +9,7 @@ use lib.Dec.{eqb}
 use lib.IntN.{ℤ}
 use Rattle.words.specs.Values.{signed, unsigned}
 use Rattle.walk.specs.Walk.{pick}
-use Rattle.rules.specs.Rules.{Basic, Channel, Item, width, Frame, Maker, Recording, File, Contents, contents}
+use Rattle.rules.specs.Rules.{Heading, Basic, Channel, Item, width, Frame, Maker, Recording, File, Contents, contents}
 
 -- a sample or a calibration number: a whole number, or a float by its bits
 pub data Value : Type 0 where
@@ -150,15 +150,15 @@ recordingWords r = record { basic = basicWords (r .basic); ownChannels = r .ownC
 -- the file
 
 pub record Reading : Type 0 where
-  pub script : ℕ
+  pub heading : Heading
   pub recordings : List RecordingReading
 
 abbrev pub readingOf : Contents → Reading
-readingOf v = record { script = v .script; recordings = map recordingReading (v .recordings) }
+readingOf v = record { heading = v .heading; recordings = map recordingReading (v .recordings) }
 
 -- the words that a reading stands for
 abbrev pub wordsOf : Reading → Contents
-wordsOf v = record { script = v .script; recordings = map recordingWords (v .recordings) }
+wordsOf v = record { heading = v .heading; recordings = map recordingWords (v .recordings) }
 
 abbrev pub reading : File → Reading
 reading v = readingOf (contents v)

@@ -91,8 +91,12 @@ countIs (some k) = k
 abbrev pub isScript : ℕ → Bool
 isScript b = eqb b 83 || eqb b 74 || eqb b 69 || eqb b 85
 
-pub record FileHeader : Type 0 where
+-- what the header says of the whole file, besides the order and K
+pub record Heading : Type 0 where
   pub script : ℕ
+
+pub record FileHeader : Type 0 where
+  pub heading : Heading
   pub count : ℕ
 
 unfoldable pub fileHeader : ℕ → Walk FileHeader
@@ -112,7 +116,7 @@ fileHeader size = do
   require (countFits (countOf digits)) 7 4
   spaces ← text 10
   require (allSpaces spaces) 8 10
-  give (record { script = getD script 0 0; count = countIs (countOf digits) })
+  give (record { heading = record { script = getD script 0 0 }; count = countIs (countOf digits) })
 
 -- A record's first 16 bytes
 
@@ -596,23 +600,23 @@ recordings (suc n) held room i = do
 -- What a file holds, and where
 
 pub record File : Type 0 where
-  pub script : ℕ
+  pub heading : Heading
   pub recordings : List Placed
 
--- A file's reading: the script letter, and of each of the K recordings which records it holds, all fields but size, multiplier, frame length and reserve, all texts, all samples, and each maker's record whole
+-- A file's reading: the header's values, and of each of the K recordings which records it holds, all fields but size, multiplier, frame length and reserve, all texts, all samples, and each maker's record whole
 
 pub record Contents : Type 0 where
-  pub script : ℕ
+  pub heading : Heading
   pub recordings : List Recording
 
 abbrev pub contents : File → Contents
-contents v = record { script = v .script; recordings = map (λ p. p .recording) (v .recordings) }
+contents v = record { heading = v .heading; recordings = map (λ p. p .recording) (v .recordings) }
 
 unfoldable pub file : ℕ → Walk File
 file size = do
   f ← fileHeader size
   rs ← recordings (f .count) none (size - 32) 1
-  give (record { script = f .script; recordings = rs })
+  give (record { heading = f .heading; recordings = rs })
 
 -- the order that the file's letter names; another letter is refused by the walk
 unfoldable pub orderOf : List ℕ → Order

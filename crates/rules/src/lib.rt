@@ -4,10 +4,15 @@ use words::Order;
 // A refusal: document 01's number, and the position in the file.
 pub struct Refusal(pub u32, pub usize);
 
+// What the file header says of the whole file, besides the order and K.
+pub struct Heading {
+    pub script: u32,
+}
+
 // The file header, 32 bytes of ASCII.
 pub struct FileHeader {
     pub order: Order,
-    pub script: u32,
+    pub heading: Heading,
     pub count: u32,
 }
 

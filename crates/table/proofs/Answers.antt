@@ -3,26 +3,20 @@
 use mathlib.Core.Path.{_≡_, refl, sym, ap, _∙_}
 use mathlib.Core.Bool.{true, false}
 use mathlib.Core.List.{List}
-use mathlib.Core.Option.{none}
-use Prim.Native.Nat.{ℕ, _-_, _*_, _/_, _≤_, _<_}
+use Prim.Native.Nat.{ℕ, _*_, _/_, _≤_, _<_}
 use native.Mathlib.Omega.{arith}
 use borrow.Author.Tests.{le-leb, lt-leb}
 use lib.IntN.{ℤ}
 use lib.ListN.{length}
-use Rattle.words.specs.declared.Order.{Order}
 use Rattle.walk.specs.Walk as W
-use Rattle.walk.specs.Walk.{Row, Walk, give, _>>=_, _>>_, refused}
+use Rattle.walk.specs.Walk.{Row, refused}
 use Rattle.walk.specs.See.{goes, see}
 use Rattle.walk.specs.Tell.{tell}
-use Rattle.walk.proofs.Told.{tell-bind, tell-give}
 use Rattle.rules.specs.Rules as R
-use Rattle.rules.specs.Rules.{orderOf, fileHeader, recordings, file}
 use Rattle.rules.specs.declared.FileHeader.{FileHeader}
-use Rattle.rules.proofs.Rows.{judge-rows}
 use Rattle.judge.specs.Judged.{AcceptedAs}
-use Rattle.judge.proofs.Verdicts.{accepted-seen}
+use Rattle.judge.proofs.Accepted.{walked, went, listed}
 use Rattle.rows.specs.Rows.{written, Wrote}
-use Rattle.rows.proofs.Lists.{Silent, silent}
 use Rattle.table.specs.Table.{rows, refusal, meaning, answerOf, afterwards, counted, kept}
 use Rattle.table.specs.declared.Listed.{Listed}
 use Rattle.table.specs.declared.Listed.the-variants as Listed
@@ -48,39 +42,13 @@ counted-room rs room h = rw (le-leb (4 * length rs) room h)
 kept-room : (rs : List Row) (out : List ℤ) → 4 * length rs ≤ length out → written true out 0 rs ≡ kept rs out
 kept-room rs out h = rw (le-leb (4 * length rs) (length out) h)
 
-silent-fileHeader : (n : ℕ) → Silent (fileHeader n)
-unfolding fileHeader _>>=_ _>>_
-silent-fileHeader n = λ _ _ _ _ _ _ _. tt
-
 -- a file that is accepted
 module _ (s : List ℕ) (h : FileHeader) (x : AcceptedAs s h) where
-  -- the walk over its recordings
-  abbrev walked : Walk (List R.Placed)
-  walked = recordings (h .count) none (length s - 32) 1
-
-  pub accepted-long : 32 ≤ length s
-  accepted-long = accepted-seen s h x .long
-
-  went : see (h .order) 0 s 32 walked ≡ goes (x .file .recordings) (length s)
-  went = rw (x .order) (accepted-seen s h x .recordings)
-
-  -- its rows are those of its recordings
-  pub listed : W.rows 0 (x .events) ≡ tell (h .order) 0 s 32 walked
-  unfolding file
-  listed =
-      let o : Order = orderOf s in
-      let f : R.FileHeader = record { script = h .script; count = h .count } in
-      let k : R.FileHeader → Walk R.File = λ d. recordings (d .count) none (length s - 32) 1 >>= λ rs. give (record { script = d .script; recordings = rs }) in
-      let v = accepted-seen s h x in
-      rw (x .order)
-      (judge-rows s (x .judged) ∙ tell-bind o 0 s 0 (fileHeader (length s)) k {a = f} {e = 32} (v .header) ∙
-      rw (silent o 0 s 0 (fileHeader (length s)) (silent-fileHeader (length s)), tell-give {B = R.File} o 0 s 32 walked (λ l. record { script = h .script; recordings = l })))
-
   -- what the code wrote is its rows
-  wrote-listed : (w : _) (out out′ : List ℤ) (k : ℕ) → ((l : List R.Placed) (e : ℕ) → see (h .order) 0 s 32 walked ≡ goes l e → Wrote w out out′ 0 k (tell (h .order) 0 s 32 walked)) → Wrote w out out′ 0 k (W.rows 0 (x .events))
-  wrote-listed w out out′ k wrote = rw listed (wrote (x .file .recordings) (length s) went)
+  wrote-listed : (w : _) (out out′ : List ℤ) (k : ℕ) → ((l : List R.Placed) (e : ℕ) → see (h .order) 0 s 32 (walked s h x) ≡ goes l e → Wrote w out out′ 0 k (tell (h .order) 0 s 32 (walked s h x))) → Wrote w out out′ 0 k (W.rows 0 (x .events))
+  wrote-listed w out out′ k wrote = rw (listed s h x) (wrote (x .file .recordings) (length s) (went s h x))
 
-  module _ (out out₁ : List ℤ) (need : ℕ) (first : (l : List R.Placed) (e : ℕ) → see (h .order) 0 s 32 walked ≡ goes l e → Wrote false out out₁ 0 need (tell (h .order) 0 s 32 walked)) where
+  module _ (out out₁ : List ℤ) (need : ℕ) (first : (l : List R.Placed) (e : ℕ) → see (h .order) 0 s 32 (walked s h x) ≡ goes l e → Wrote false out out₁ 0 need (tell (h .order) 0 s 32 (walked s h x))) where
     -- counting leaves the buffer as it was
     needs : need ≡ 4 * length (W.rows 0 (x .events))
     needs = omega (arith, wrote-listed false out out₁ need first .0)
@@ -94,7 +62,7 @@ module _ (s : List ℕ) (h : FileHeader) (x : AcceptedAs s h) where
         let i : length out₁ ≡ length out = ap length leaves in
         rw (x .judged, needs, leaves) (counted-short (W.rows 0 (x .events)) (length out) (omega (arith, needs)), kept-short (W.rows 0 (x .events)) out (omega (arith, needs)))
 
-    pub lists-rows : (out₂ : List ℤ) (n : ℕ) → need ≤ length out₁ → ((l : List R.Placed) (e : ℕ) → see (h .order) 0 s 32 walked ≡ goes l e → Wrote true out₁ out₂ 0 n (tell (h .order) 0 s 32 walked)) → Lists s out out₂ (Listed.Rows (n / 4))
+    pub lists-rows : (out₂ : List ℤ) (n : ℕ) → need ≤ length out₁ → ((l : List R.Placed) (e : ℕ) → see (h .order) 0 s 32 (walked s h x) ≡ goes l e → Wrote true out₁ out₂ 0 n (tell (h .order) 0 s 32 (walked s h x))) → Lists s out out₂ (Listed.Rows (n / 4))
     lists-rows out₂ n l second =
         let i : length out₁ ≡ length out = ap length leaves in
         let w = wrote-listed true out₁ out₂ n second in

@@ -8,20 +8,19 @@ use lib.ListN.{length}
 use Rattle.words.specs.Numbers.{other}
 use Rattle.words.specs.Runs.{pasted}
 use Rattle.words.specs.declared.Order.{Order}
-use Rattle.walk.specs.Walk.{Walk, Event, give, _>>=_, refused}
+use Rattle.walk.specs.Walk.{Event, refused}
 use Rattle.walk.specs.See.{goes, see}
 use Rattle.walk.specs.Tell.{tell}
 use Rattle.walk.specs.Trace.{trace}
 use Rattle.walk.proofs.Tracing.{trace-bind, trace-give, render-append}
 use Rattle.rules.specs.Rules as R
-use Rattle.rules.specs.Rules.{fileHeader, recordings, file}
+use Rattle.rules.specs.Rules.{fileHeader, file}
 use Rattle.rules.specs.Turned as T
 use Rattle.rules.specs.declared.FileHeader.{FileHeader}
 use Rattle.rules.proofs.Rows.{judge-trace}
 use Rattle.rules.proofs.Turn.{turned-of}
 use Rattle.judge.specs.Judged.{AcceptedAs}
-use Rattle.judge.proofs.Verdicts.{accepted-seen}
-use Rattle.table.proofs.Answers.{listed}
+use Rattle.judge.proofs.Accepted.{behindHeader, headed, walked, opens, listed}
 use Rattle.bodies.specs.Copy.{copy}
 use Rattle.makers.specs.Makers.{firstMaker}
 use Rattle.permit.specs.Permit.{Answer, bytes, refusal, meaning, permitted, Writes}
@@ -40,16 +39,7 @@ turns-refused s out h = rw h (refl, refl)
 
 -- a file that is accepted
 module _ (s : List ℕ) (h : FileHeader) (x : AcceptedAs s h) where
-  abbrev walked : Walk (List R.Placed)
-  walked = recordings (h .count) none (length s - 32) 1
-
-  pub went : see (h .order) 0 s 32 walked ≡ goes (x .file .recordings) (length s)
-  went = rw (x .order) (accepted-seen s h x .recordings)
-
-  pub opens : see (h .order) 0 s 0 (fileHeader (length s)) ≡ goes (record { script = h .script; count = h .count }) 32
-  opens = rw (x .order) (accepted-seen s h x .header)
-
-  module _ (out : List ℕ) {m : Option ℕ} (made : m ≡ firstMaker (tell (h .order) 0 s 32 walked)) where
+  module _ (out : List ℕ) {m : Option ℕ} (made : m ≡ firstMaker (tell (h .order) 0 s 32 (walked s h x))) where
     -- leave to write is the answer
     answers : {y : Answer} → y ≡ permitted m (length s) (length out) → y ≡ answerOf s (length out)
     answers e = rw (x .judged, listed s h x, ← made) e
@@ -58,15 +48,14 @@ module _ (s : List ℕ) (h : FileHeader) (x : AcceptedAs s h) where
     turns-stopped a e r = stopped (answerOf s (length out)) (T.turned s) out a (answers e) r
 
     -- its header and its recordings, written, are the turned file
-    sent : copy (turning (h .order)) 0 s 0 (fileHeader (length s)) ++ copy (turning (h .order)) 0 s 32 walked ≡ T.turned s
+    sent : copy (turning (h .order)) 0 s 0 (fileHeader (length s)) ++ copy (turning (h .order)) 0 s 32 (walked s h x) ≡ T.turned s
     unfolding file
     sent =
         let o : Order = h .order in
-        let k : R.FileHeader → Walk R.File = λ d. recordings (d .count) none (length s - 32) 1 >>= λ rs. give (record { script = d .script; recordings = rs }) in
         let t : List Event = trace o 0 s 0 (fileHeader (length s)) in
-        let e : x .events ≡ t ++ trace o 0 s 32 walked =
-        rw (x .order) (judge-trace s (x .judged)) ∙ (trace-bind o 0 s 0 (fileHeader (length s)) k opens ∙ ap (λ (u : List Event). t ++ u) (trace-give {B = R.File} o 0 s 32 walked (λ l. record { script = h .script; recordings = l }))) in
-        sym (turned-of s (x .judged) ∙ rw (← x .order, e) (render-append (other o) t (trace o 0 s 32 walked)))
+        let e : x .events ≡ t ++ trace o 0 s 32 (walked s h x) =
+        rw (x .order) (judge-trace s (x .judged)) ∙ (trace-bind o 0 s 0 (fileHeader (length s)) (behindHeader (length s)) (opens s h x) ∙ ap (λ (u : List Event). t ++ u) (trace-give {B = R.File} o 0 s 32 (walked s h x) (λ l. record { heading = headed s h x .heading; recordings = l }))) in
+        sym (turned-of s (x .judged) ∙ rw (← x .order, e) (render-append (other o) t (trace o 0 s 32 (walked s h x))))
 
-    pub turns-room : (a : Written) {n : ℕ} (out′ : List ℕ) → meaning a ≡ permitted m (length s) (length out) → meaning a ≡ bytes n → out′ ≡ pasted out 0 (copy (turning (h .order)) 0 s 0 (fileHeader (length s)) ++ copy (turning (h .order)) 0 s 32 walked) → Turns s out out′ a
+    pub turns-room : (a : Written) {n : ℕ} (out′ : List ℕ) → meaning a ≡ permitted m (length s) (length out) → meaning a ≡ bytes n → out′ ≡ pasted out 0 (copy (turning (h .order)) 0 s 0 (fileHeader (length s)) ++ copy (turning (h .order)) 0 s 32 (walked s h x)) → Turns s out out′ a
     turns-room a out′ e r w = wrote (answerOf s (length out)) (T.turned s) out out′ a (answers e) r (w ∙ ap (pasted out 0) sent)

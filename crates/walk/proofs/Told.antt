@@ -1,8 +1,8 @@
--- The rows that a walk lists over a part of the file: of one walk after the other, and of a part as of the whole.
+-- The rows that a walk lists over a part of the file: of one walk after the other, and of a part as of the whole; and the walks that list none.
 -- Assumes nothing.
 use mathlib.Core.Path.{_≡_, refl, ap, _∙_}
 use mathlib.Core.Bool.{true, false}
-use mathlib.Core.List.{List, _∷_, _++_}
+use mathlib.Core.List.{List, [], _∷_, _++_}
 use Prim.Native.Nat.{ℕ, _+_, _-_, _≤_}
 use native.Mathlib.Nat.{add-assoc}
 use native.Mathlib.Omega.{arith}
@@ -70,3 +70,40 @@ module _ {A : Type 0} where
   tell-body o b p q s w Q h f k =
       let z : b + q ≡ b + p + 16 + (q - (p + 16)) = omega arith in
       tell-part o b (b + p + 16) (p + 16) (q - (p + 16)) s (add-assoc b p 16) (omega arith) w (b + p + 16) Q (omega arith) (rw z at k) ∙ ap (λ (x : ℕ). tell o b s x w) (add-assoc b p 16)
+
+-- a walk that lists no row
+module _ {A : Type 0} where
+  abbrev pub Silent : Walk A → Type 0
+  Silent (give a) = Unit {0}
+  Silent (refuse n p) = Unit {0}
+  Silent (check c n p w) = Silent w
+  Silent (number n f) = (v : ℕ) → Silent (f v)
+  Silent (read k n f) = (bs : List ℕ) → Silent (f bs)
+  Silent (skip n w) = Silent w
+  Silent (list p l c m w) = ⊥
+
+  pub silent : (o : Order) (b : ℕ) (s : List ℕ) (at : ℕ) (w : Walk A) → Silent w → tell o b s at w ≡ []
+  unfolding tell
+  silent o b s at (give a) h = refl
+  silent o b s at (refuse n p) h = refl
+  silent o b s at (check true n p w) h = silent o b s at w h
+  silent o b s at (check false n p w) h = refl
+  silent o b s at (number n f) h = silent o b s (at + n) (f (numberAt o n s (at - b))) (h _)
+  silent o b s at (read k n f) h = silent o b s (at + n) (f (laid o k (bytesAt n s (at - b)))) (h _)
+  silent o b s at (skip n w) h = silent o b s (at + n) w h
+  silent o b s at (list p l c m w) h = absurd h
+
+module _ {A B : Type 0} where
+  pub silent-bind : (w : Walk A) (k : A → Walk B) → Silent w → ((a : A) → Silent (k a)) → Silent (w >>= k)
+  unfolding _>>=_
+  silent-bind (give a) k h g = g a
+  silent-bind (refuse n p) k h g = tt
+  silent-bind (check c n p w) k h g = silent-bind w k h g
+  silent-bind (number n f) k h g = λ v. silent-bind (f v) k (h v) g
+  silent-bind (read κ n f) k h g = λ bs. silent-bind (f bs) k (h bs) g
+  silent-bind (skip n w) k h g = silent-bind w k h g
+  silent-bind (list p l c m w) k h g = absurd h
+
+  pub silent-then : (w : Walk A) (v : Walk B) → Silent w → Silent v → Silent (w >> v)
+  unfolding _>>_
+  silent-then w v h g = silent-bind w (λ _. v) h (λ _. g)

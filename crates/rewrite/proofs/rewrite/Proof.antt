@@ -6,11 +6,10 @@ use denote.Ref.{now}
 use borrow.Author.Needs.{needs}
 use lib.ListN.{length}
 use Rattle.words.proofs.Words.{bytes}
-use Rattle.table.proofs.Answers.{accepted-long}
+use Rattle.judge.proofs.Accepted.{accepted-long, went}
 use Rattle.makers.specs.Makers.{found}
 use Rattle.permit.specs.Permit.{meaning}
 use Rattle.permit.proofs.Settled.{permit-room}
-use Rattle.turn.proofs.Answers.{went}
 use Rattle.rewrite.proofs.Answers.{rewrites-refused, few, script-low, rewrites-unnamed, rewrites-stopped, rewrites-room}
 use Rattle.rewrite.proofs.rewrite.Statement.{statement}
 use Rattle.rewrite.proofs.rewrite.Tie as tie

@@ -1,7 +1,8 @@
 -- `table::table` meets its contract: what `judge` says of the file, and what `file_rows` counted and wrote, by the laws of Answers.
 -- x: behind the judge's answer. Assumes nothing.
 use denote.Ref.{now}
-use Rattle.table.proofs.Answers.{lists-refused, accepted-long, lists-short, lists-rows}
+use Rattle.judge.proofs.Accepted.{accepted-long}
+use Rattle.table.proofs.Answers.{lists-refused, lists-short, lists-rows}
 use borrow.Author.Needs.{needs}
 use Rattle.table.proofs.table.Statement.{statement}
 use Rattle.table.proofs.table.Tie as tie

@@ -4,11 +4,11 @@ use mathlib.Core.Path.{sym, ap, _∙_}
 use denote.Ref.{now}
 use borrow.Author.Needs.{needs}
 use lib.ListN.{length}
-use Rattle.table.proofs.Answers.{accepted-long}
+use Rattle.judge.proofs.Accepted.{accepted-long, went, opens}
 use Rattle.makers.specs.Makers.{found}
 use Rattle.permit.specs.Permit.{meaning}
 use Rattle.permit.proofs.Settled.{permit-room}
-use Rattle.turn.proofs.Answers.{turns-refused, went, opens, turns-stopped, turns-room}
+use Rattle.turn.proofs.Answers.{turns-refused, turns-stopped, turns-room}
 use Rattle.turn.proofs.turn.Statement.{statement}
 use Rattle.turn.proofs.turn.Tie as tie
 

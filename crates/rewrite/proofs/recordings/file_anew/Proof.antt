@@ -17,12 +17,12 @@ use Rattle.rewrite.proofs.recordings.file_anew.Statement.{statement}
 use Rattle.rewrite.proofs.recordings.file_anew.Tie as tie
 
 abbrev Inv-loop : tie.InvT-loop
-Inv-loop o script file count out₀ w p₀ k₀ before₀ i₀ out p k before i =
+Inv-loop o file count out₀ w p₀ k₀ before₀ i₀ out p k before i =
     (i ≤ count) × (p ≤ length file) × (k ≤ length out₀) × (length out ≡ length out₀) × Within (length file) before ×
     ((ps : List Placed) (e : ℕ) → see (w .from) 0 file 32 (recordings count none (length file - 32) 1) ≡ goes ps e → Written (w .from) (w .to) file count ps out₀ out p i before k)
 
 abbrev μ-loop : tie.MeasureT-loop
-μ-loop o script file count out₀ w p₀ k₀ before₀ i₀ out p k before i = count - i
+μ-loop o file count out₀ w p₀ k₀ before₀ i₀ out p k before i = count - i
 
 slice-relend-prefix-header : tie.Need-slice-relend-prefix-header Inv-loop μ-loop
 slice-relend-prefix-header c = search needs

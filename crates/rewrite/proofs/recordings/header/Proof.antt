@@ -5,6 +5,7 @@ use native.Mathlib.Omega.{arith}
 use lib.ListN.{length-set}
 use lib.Seq.{length-take-le}
 use Rattle.rules.specs.Rules as R
+use Rattle.header.specs.Opened.{headingOf}
 use Rattle.rewrite.proofs.Headed.{header-written}
 use borrow.Author.Needs.{needs}
 use Rattle.rewrite.proofs.recordings.header.Statement.{statement}
@@ -39,7 +40,7 @@ unfolding R.identifier R.version R.form
 returns c =
     let start = c .before .before .before .before .before .before .before .before .before .before .before .before .before .before .before .before .before .before .before .before .before .before .before .before .before .before in
     let a = start .args in
-    header-written (a .to) (a .script) (a .count) _ (a .d .now) _ _ _ _ _ (start .pre .2)
+    header-written (a .to) (headingOf (a .heading)) (a .count) _ (a .d .now) _ _ _ _ _ (start .pre .2)
     (c .before .before .before .before .before .before .before .before .before .before .before .before .before .before .before .before .before .before .before .before .before .before .copy-run .ensures)
     (c .before .before .before .before .before .before .before .before .before .before .before .before .before .before .before .before .before .copy-run2 .ensures)
     (c .before .before .before .before .before .before .before .before .before .before .before .before .copy-run3 .ensures)
