@@ -14,7 +14,9 @@ use Rattle.walk.specs.Walk.{Walk, give, refuse, _>>=_, _>>_, require, pick, tex
 use Rattle.walk.specs.See.{goes, see}
 use Rattle.walk.proofs.Seen.{stays-goes, stays-then, stays-weaken}
 use Rattle.walk.proofs.Went.{goes-same, went-first}
+use Rattle.rules.specs.Rules as R
 use Rattle.rules.specs.Rules.{Head, Basic, Channel, Next, Part, Held, Frames, Placed, head, admit, span, coded, fixed, basic, basicBody, next, more, part, channels, items, patientCode, eventCode, frames, makerCode, delimiter, padding, heldChannels, heldPatient, recordingBody}
+use Rattle.rules.proofs.Steps.{stepByStep, body-steps}
 use Rattle.rules.proofs.Room.{Rests, stays-head, stays-admit, stays-basicBody, stays-basic, stays-channelsRest, stays-itemsRest, stays-framesRest, stays-delimiter}
 use Rattle.children.specs.Children.{Said, said, _then_, Known, knownOf, basicRest, makerRest, Reads, Heads, heading, Inner, is100, is120, is130, is200, is140, isMaker, Chain, more as chained, last}
 use Rattle.children.proofs.Giving.{Gives, gives-went, gives-bind, gives-then}
@@ -258,8 +260,8 @@ module _ (o : Order) (b : ℕ) (s : List ℕ) (kn : Known) where
       rw (said-bind o b s at (basic room) f (w .is), d .0) (d .2 _ (later (w .value) (d .1) (rw (d .0) at (w .kept))))
 
   -- an accepted body is a chain
-  links : (held : Option Held) (h : Head) {x : Placed} {e : ℕ} → span h ≡ 16 + length s → kn ≡ knownOf x → see o b s b (recordingBody held h) ≡ goes x e → Chain o b s kn 0 (said o b s b (recordingBody held h))
-  unfolding recordingBody
+  links : (held : Option Held) (h : Head) {x : Placed} {e : ℕ} → span h ≡ 16 + length s → kn ≡ knownOf x → see o b s b (stepByStep held (span h) h) ≡ goes x e → Chain o b s kn 0 (said o b s b (stepByStep held (span h) h))
+  unfolding R.signals
   links held h {x} n same g =
       let z : span h - 144 ≡ length s - 128 = omega arith in
       let last : (Q : Placed → Type 0) (v : Next) (c₁ c₂ : Bool) (k₁ : ℕ) (r : Placed) → Q r → Gives Q (delimiter (v .head) >> (require c₁ 14 k₁ >> (require c₂ 10 0 >> (padding (v .room - 16) >> give r)))) = λ Q v c₁ c₂ k₁ r q. gives-then Q _ _ (gives-then Q _ _ (gives-then Q _ _ (gives-then Q _ _ q))) in
@@ -277,4 +279,4 @@ module _ (o : Order) (b : ℕ) (s : List ℕ) (kn : Known) where
       (λ f v q₅ s₅. ended q₅ v s₅ _ _ _ _) (y .1)))))))
 
 pub body-chain : (o : Order) (b : ℕ) (s : List ℕ) (held : Option Held) (h : Head) {x : Placed} {e : ℕ} → span h ≡ 16 + length s → see o b s b (recordingBody held h) ≡ goes x e → Chain o b s (knownOf x) 0 (said o b s b (recordingBody held h))
-body-chain o b s held h {x} n g = links o b s (knownOf x) held h n refl g
+body-chain o b s held h {x} n g = rw body-steps (links o b s (knownOf x) held h n refl (rw body-steps at g))

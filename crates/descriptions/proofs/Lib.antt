@@ -1,4 +1,3 @@
-pub mod Halves
 pub mod Stands
 pub mod Parts
 pub mod Tabling

@@ -19,8 +19,7 @@ use Rattle.rules.specs.declared.Refusal.{Refusal}
 use Rattle.rules.proofs.Room.{stays-basic}
 use Rattle.records.specs.declared.Kind.the-variants as Kind
 use Rattle.records.specs.Says.{halts, headOf, headroom, Headroom, basicOf, okOf}
-use Rattle.descriptions.specs.Halves as H
-use Rattle.descriptions.specs.Halves.{tables}
+use Rattle.rules.specs.Rules.{descriptions}
 use Rattle.descriptions.specs.Tabled.{HeldIs, HeldAs, Owned, Parts, parted, Follows, Judges, Keeps, Bounds, heldAt, channelsIn, patientIn, countIn, placeOf}
 use Rattle.descriptions.specs.declared.Before.{Before}
 use Rattle.descriptions.specs.declared.Before.the-variants as Before
@@ -113,21 +112,21 @@ module _ (o : Order) (base : ℕ) (s : List ℕ) where
       }
 
   module _ (held : Option R.Held) where
-    abbrev whole : Verdict H.Tables
-    whole = see o base s base (tables held (16 + length s))
+    abbrev whole : Verdict R.Descriptions
+    whole = see o base s base (descriptions held (16 + length s))
 
     -- what is left of the walk before each part
-    abbrev to200 : R.Basic → R.Next → R.Part (List R.Channel) → R.Part (List R.Item) → Walk H.Tables
+    abbrev to200 : R.Basic → R.Next → R.Part (List R.Channel) → R.Part (List R.Item) → Walk R.Descriptions
     to200 b n c p = R.part (16 + length s) 200 (R.items (okOf Kind.Event)) (some []) (p .next) >>= λ e. give (record { basic = b; next = n; channels = c; patient = p; events = e })
 
-    abbrev to130 : R.Basic → R.Next → R.Part (List R.Channel) → Walk H.Tables
+    abbrev to130 : R.Basic → R.Next → R.Part (List R.Channel) → Walk R.Descriptions
     to130 b n c = R.part (16 + length s) 130 (R.items (okOf Kind.Patient)) (R.heldPatient held) (c .next) >>= to200 b n c
 
-    abbrev to120 : R.Basic → R.Next → Walk H.Tables
+    abbrev to120 : R.Basic → R.Next → Walk R.Descriptions
     to120 b n = R.part (16 + length s) 120 (R.channels b) (R.heldChannels held) n >>= to130 b n
 
     opened : whole ≡ see o base s base (R.basic (length s) >>= λ b. R.next (16 + length s) (length s - 128) >>= to120 b)
-    unfolding tables okOf
+    unfolding descriptions okOf
     opened =
         let x : 16 + length s - 16 ≡ length s = omega arith in
         let y : 16 + length s - 144 ≡ length s - 128 = omega arith in

@@ -17,7 +17,6 @@ use Rattle.records.specs.declared.Basiced.the-variants as Basiced
 use Rattle.records.specs.declared.Kind.{Kind}
 use Rattle.records.specs.declared.Kind.the-variants as Kind
 use Rattle.records.specs.Says.{halts, headOf, Headroom, Kept}
-use Rattle.descriptions.specs.Halves as H
 use Rattle.descriptions.specs.declared.Before.{Before}
 use Rattle.descriptions.specs.declared.Before.the-variants as Before
 use Rattle.descriptions.specs.declared.Held.{Held}
@@ -138,7 +137,7 @@ abbrev pub placeOf : ℕ → ℕ → ℕ → ℕ
 placeOf base n room = base - 16 + (16 + n - room)
 
 -- what the code keeps of the tables
-pub record Keeps (o : Order) (file : List ℕ) (base n : ℕ) (before : Before) (t : Tables) (x : H.Tables) (e : ℕ) : Type 0 where
+pub record Keeps (o : Order) (file : List ℕ) (base n : ℕ) (before : Before) (t : Tables) (x : R.Descriptions) (e : ℕ) : Type 0 where
   pub channels : x .basic .channels ≡ t .basic .channels
   pub frames : x .basic .frames ≡ t .basic .frames
   pub own : x .channels .own ≡ t .own
@@ -152,8 +151,8 @@ pub record Keeps (o : Order) (file : List ℕ) (base n : ℕ) (before : Before) 
   pub stand : Stand o file (t .channels) (t .count) (x .channels .value)
 
 abbrev pub tabled : Order → List ℕ → ℕ → Option R.Held → List ℕ → Before → Tabled → Type 0
-tabled o file base held s before (Tabled.On t) = Goes (see o base s base (H.tables held (16 + length s))) (Keeps o file base (length s) before t)
-tabled o file base held s before (Tabled.Stop r) = see o base s base (H.tables held (16 + length s)) ≡ halts r
+tabled o file base held s before (Tabled.On t) = Goes (see o base s base (R.descriptions held (16 + length s))) (Keeps o file base (length s) before t)
+tabled o file base held s before (Tabled.Stop r) = see o base s base (R.descriptions held (16 + length s)) ≡ halts r
 
 -- the bounds that hold whatever the walk holds, in a body of n bytes that stands at `base`
 pub record Bounds (base n : ℕ) (before : Before) (t : Tables) : Type 0 where

@@ -1,4 +1,4 @@
--- A recording: what the walk comes to, from what the code finds of its head, its tables and its signals.
+-- A recording: what the walk comes to, from what the code finds of its head, its descriptions and its signals.
 -- Assumes nothing.
 use mathlib.Core.Path.{_≡_, refl, sym, ap, _∙_}
 use mathlib.Core.Bool.{Bool, true, _&&_}
@@ -25,13 +25,11 @@ use Rattle.rules.specs.declared.Frames.{Frames}
 use Rattle.rules.specs.declared.Refusal.{Refusal}
 use Rattle.rules.proofs.Room.{stays-recordingBody}
 use Rattle.records.specs.Says.{halts}
-use Rattle.descriptions.specs.Halves as H
 use Rattle.descriptions.specs.Tabled.{Within, Room, placeOf, channelsIn, patientIn, heldAt, Keeps, Bounds, tabled}
 use Rattle.descriptions.specs.declared.Before.{Before}
 use Rattle.descriptions.specs.declared.Places.{Places}
 use Rattle.descriptions.specs.declared.Tabled.the-variants as Tabled
 use Rattle.descriptions.specs.declared.Tables.{Tables}
-use Rattle.descriptions.proofs.Halves.{halves}
 use Rattle.signals.specs.Signaled.{Known, Whole, Signaled}
 use Rattle.signals.specs.declared.frames.Framed.{Framed}
 use Rattle.signals.specs.declared.frames.Framed.the-variants as Framed
@@ -62,7 +60,7 @@ alike : {a a' b b' c c' d d' e e' g g' k k' l l' m m' n n' : ℕ} {x x' : Bool} 
 alike e₁ e₂ e₃ e₄ e₅ e₆ e₇ e₈ e₉ e₁₀ e₁₁ = cc
 
 -- the code's places are the walk's
-places-same : (o : Order) (file : List ℕ) (at n : ℕ) (before : Before) (t : Tables) (f : Frames) (X : H.Tables) (e : ℕ) (h : R.Head) (x : R.Placed) → Keeps o file (at + 16) n before t X e → Whole X h f x → R.span h ≡ 16 + n → t .next .at + 16 ≤ n → placesFor at n t (f .size) (f .seconds) ≡ placesOf at before x
+places-same : (o : Order) (file : List ℕ) (at n : ℕ) (before : Before) (t : Tables) (f : Frames) (X : R.Descriptions) (e : ℕ) (h : R.Head) (x : R.Placed) → Keeps o file (at + 16) n before t X e → Whole X h f x → R.span h ≡ 16 + n → t .next .at + 16 ≤ n → placesFor at n t (f .size) (f .seconds) ≡ placesOf at before x
 places-same o file at n before t f X e h x k w s l =
     let bytes : x .layout .bytes ≡ R.span h = ap (λ (y : R.Layout). y .bytes) (w .layout) in
     let at120 : x .layout .at120 ≡ R.span h - X .next .room = ap (λ (y : R.Layout). y .at120) (w .layout) in
@@ -86,21 +84,22 @@ places-same o file at n before t f X e h x k w s l =
 
 -- what `signals` says of the tables t, in a body s that stands behind the head at `at`
 abbrev Signals : Order → List ℕ → ℕ → List ℕ → ℕ → Tables → Channels → Framed → Type 0
-Signals o file at s m t cs a = (X : H.Tables) (r : R.Head) → Known o file cs (t .own) (t .basic) (t .next) s m X r → Signaled (see o (at + 16) s (at + 16 + (t .next .at + 16)) (H.signals X r)) (at + 16 + length s) X r a
+Signals o file at s m t cs a = (X : R.Descriptions) (r : R.Head) → Known o file cs (t .own) (t .basic) (t .next) s m X r → Signaled (see o (at + 16) s (at + 16 + (t .next .at + 16)) (R.signals X r)) (at + 16 + length s) X r a
 
 -- the body of a recording with the head h
 module _ (o : Order) (file : List ℕ) (at : ℕ) (s : List ℕ) (before : Before) (held : Option R.Held) (h : R.Head) (fills : R.span h ≡ 16 + length s) where
   abbrev body : Verdict R.Placed
   body = see o (at + 16) s (at + 16) (R.recordingBody held h)
 
-  opened : body ≡ onward (see o (at + 16) s (at + 16) (H.tables held (16 + length s))) (λ t e. see o (at + 16) s e (H.signals t h))
-  opened = rw fills at (halves o (at + 16) s (at + 16) held h)
+  opened : body ≡ onward (see o (at + 16) s (at + 16) (R.descriptions held (16 + length s))) (λ t e. see o (at + 16) s e (R.signals t h))
+  unfolding R.recordingBody
+  opened = rw fills at (see-bind o (at + 16) s (at + 16) (R.descriptions held (R.span h)) (λ t. R.signals t h))
 
   pub tables-stop : {r : Refusal} → tabled o file (at + 16) held s before (Tabled.Stop r) → body ≡ halts r
   tables-stop k = opened ∙ rw k
 
   module _ {t : Tables} (kept : tabled o file (at + 16) held s before (Tabled.On t)) where
-    reached : body ≡ see o (at + 16) s (at + 16 + (t .next .at + 16)) (H.signals (kept .value) h)
+    reached : body ≡ see o (at + 16) s (at + 16 + (t .next .at + 16)) (R.signals (kept .value) h)
     reached = opened ∙ rw (kept .is, kept .kept .end)
 
     -- the second half is whole, with a 140 of which the code keeps f
@@ -126,7 +125,7 @@ module _ (o : Order) (file : List ℕ) (at : ℕ) (s : List ℕ) (before : Befor
 
       pub body-holds : {f : Frames} (q : ℕ) → Signals o file at s m t cs (Framed.On f q) → t .next .at + 16 ≤ length s → Goes body (Places-of o file at before (placesFor at (length s) t (f .size) (f .seconds)))
       body-holds {f} q k l =
-          let g : Goes (see o (at + 16) s (at + 16 + (t .next .at + 16)) (H.signals (kept .value) h)) (λ p e. (e ≡ at + 16 + length s) × Whole (kept .value) h f p) = k (kept .value) h known in
+          let g : Goes (see o (at + 16) s (at + 16 + (t .next .at + 16)) (R.signals (kept .value) h)) (λ p e. (e ≡ at + 16 + length s) × Whole (kept .value) h f p) = k (kept .value) h known in
           placed f (reached ∙ g .is) (g .kept .0) (g .kept .1) l
 
     -- of a body that the walk accepted
@@ -138,7 +137,7 @@ module _ (o : Order) (file : List ℕ) (at : ℕ) (s : List ℕ) (before : Befor
       told =
           let i : at + 16 + (t .next .at + 16) - (at + 16) ≡ t .next .at + 16 = omega arith in
           let j : at + 16 + (t .next .at + 16) + 4 - (at + 16) ≡ t .next .at + 20 = omega arith in
-          rw (i, j) at (yields o (at + 16) s (H.signals (kept .value) h) (at + 16 + (t .next .at + 16)) _ (yields-signals o (at + 16) s (at + 16 + (t .next .at + 16)) (kept .value) h) (sym reached ∙ g))
+          rw (i, j) at (yields o (at + 16) s (R.signals (kept .value) h) (at + 16 + (t .next .at + 16)) _ (yields-signals o (at + 16) s (at + 16 + (t .next .at + 16)) (kept .value) h) (sym reached ∙ g))
 
       pub again-short : length s < t .next .at + 32 → ⊥
       again-short l = omega (arith, told .0, kept .kept .room)

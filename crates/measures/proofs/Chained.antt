@@ -17,9 +17,8 @@ use Rattle.walk.specs.Walk.{Text, Event, piece, cleared, Walk, give, refuse, pi
 use Rattle.walk.proofs.Seen.{stays-goes}
 use Rattle.walk.proofs.Went.{went-first, by-went, goes-same}
 use Rattle.rules.specs.Canonical.{numerals, rowOf, plainHead, recordOf, basicFields, channelsHead, channelsWritten, itemsHead, itemsWritten, framesHead, framesWritten, makerEvents, optional, delimiterEvents, content}
-use Rattle.rules.specs.Rules.{Head, head, span, admit, basic, channels, items, patientCode, eventCode, Frame, makerCode, Maker, Next, more, next, Part, part, Held, heldChannels, heldPatient}
+use Rattle.rules.specs.Rules.{Head, head, span, admit, basic, channels, items, patientCode, eventCode, Frame, makerCode, Maker, Next, more, next, Part, part, Held, heldChannels, heldPatient, Descriptions, descriptions}
 use Rattle.rules.proofs.Room.{Rests, stays-basic, stays-channelsRest, stays-itemsRest}
-use Rattle.descriptions.specs.Halves.{Tables, tables}
 use Rattle.rows.proofs.Lists.{admit-went, head-went}
 use Rattle.measures.proofs.Canonic.{bare, bare-bind, both, head-bare, admit-bare, basic-bare, Rest, channels-bare, items-bare}
 
@@ -34,7 +33,7 @@ abbrev pub partEvents : {A : Type 0} → (A → Head) → (A → List Event) →
 partEvents headOf written x = optional (x .own) (recordOf (headOf (x .value)) (written (x .value)) ++ makerEvents (x .next .makers))
 
 -- a recording up to its 140
-abbrev pub tablesEvents : Tables → List Event
+abbrev pub tablesEvents : Descriptions → List Event
 tablesEvents t =
     recordOf (plainHead 128 100 0) (basicFields (t .basic)) ++ (makerEvents (t .next .makers) ++
     (partEvents channelsHead channelsWritten (t .channels) ++ (partEvents (itemsHead 130) itemsWritten (t .patient) ++ partEvents (itemsHead 200) itemsWritten (t .events))))
@@ -154,9 +153,9 @@ in-order t₀ t₁ t₂ t₃ t₄ t₅ bs ns cs ps es b m n₁ c n₂ p n₃ e n
     rw (h₁, h₂, h₃, h₄, h₅, h₆, k₁, k₂, append-assoc m n₁, pass n₁ cs c n₂ _ k₃, pass n₂ ps p n₃ _ k₄, pass n₃ es e n₄ _ k₅) (simp (append-assoc, append-nil))
 
 module _ (o : Order) (b : ℕ) (s : List ℕ) where
-  pub tables-bare : (held : Option Held) (bytes : ℕ) (t : Tables) (e : ℕ) → bytes ≤ length s + 16 → see o b s b (tables held bytes) ≡ goes t e →
-      (bare o b s b (tables held bytes) ≡ tablesEvents t ++ numerals (t .events .next .head)) × Stands o b s (b + (bytes - 16)) (t .events .next) e
-  unfolding tables see trace cleared
+  pub tables-bare : (held : Option Held) (bytes : ℕ) (t : Descriptions) (e : ℕ) → bytes ≤ length s + 16 → see o b s b (descriptions held bytes) ≡ goes t e →
+      (bare o b s b (descriptions held bytes) ≡ tablesEvents t ++ numerals (t .events .next .head)) × Stands o b s (b + (bytes - 16)) (t .events .next) e
+  unfolding descriptions see trace cleared
   tables-bare held bytes t e l g =
       let L : ℕ = b + (bytes - 16) in
       let fit : L ≤ b + length s = omega arith in
@@ -179,7 +178,7 @@ module _ (o : Order) (b : ℕ) (s : List ℕ) where
       )
 
 -- the recording that these tables begin
-pub content-tables : (t : Tables) (seconds : ℕ) (fs : List Frame) (ms : List Maker) →
+pub content-tables : (t : Descriptions) (seconds : ℕ) (fs : List Frame) (ms : List Maker) →
     content (record {
       basic = t .basic;
       ownChannels = t .channels .own;

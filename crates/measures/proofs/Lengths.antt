@@ -17,16 +17,14 @@ use Rattle.walk.specs.Plays.{Plays}
 use Rattle.walk.specs.See.{goes, see, Stays}
 use Rattle.walk.specs.Trace.{trace}
 use Rattle.walk.proofs.Laws.{read-of, size-append, size-cleared}
-use Rattle.walk.proofs.Seen.{seen, stays-goes, stays-bind, body-length}
+use Rattle.walk.proofs.Seen.{seen, see-bind, stays-goes, stays-bind, body-length}
 use Rattle.walk.proofs.Tracing.{size-trace}
 use Rattle.walk.proofs.Went.{gate-went, goes-same, by-onward, by-went, by-then}
-use Rattle.rules.specs.Rules.{Head, head, span, padOk, padding, Basic, basic, channels, items, patientCode, eventCode, Frame, Frames, frames, Maker, Next, next, Held, heldChannels, heldPatient, Placed, contentLimit, delimiter, recordingBody, recording}
+use Rattle.rules.specs.Rules.{Head, head, span, padOk, padding, Basic, basic, channels, items, patientCode, eventCode, Frame, Frames, frames, Maker, Next, next, Held, heldChannels, heldPatient, Placed, contentLimit, delimiter, recordingBody, recording, Descriptions, descriptions, signals}
 use Rattle.rules.specs.Canonical.{recordOf, framesBytes, framesHead, framesWritten, makerEvents, delimiterHead, delimiterEvents, content, most, sizeFor, multiplierFor}
 use Rattle.rules.proofs.Room.{Behind, stays-basic, stays-next, stays-part, stays-channelsRest, stays-itemsRest, stays-framesRest}
 use Rattle.rules.proofs.Renew.{FramesOk, frames-ok, frames-size, next-ok}
 use Rattle.rules.proofs.Sized.{sized}
-use Rattle.descriptions.specs.Halves.{Tables, tables, signals}
-use Rattle.descriptions.proofs.Halves.{halves}
 use Rattle.rows.proofs.Lists.{require-went}
 use Rattle.rows.proofs.Recorded.{Within}
 use Rattle.measures.specs.Shapes.{limit}
@@ -48,8 +46,8 @@ heard {A} o b s L fit bytes w at Q {a} {e} g h k = go (run o at (drop (at - b) s
         record { holds = stays-goes o b s L fit w at Q g h k; events = t; plays = rw (← goes-same v .0) (read-of w o at (drop (at - b) s) (bytes-drop (at - b) s bytes) i .plays) }
 
 -- the tables of a recording of n bytes stay in it
-stays-tables : (held : Option Held) (n at : ℕ) → Stays (at + (n - 16)) at (tables held n) (λ t e. Behind (at + (n - 16)) n (t .events .next) e)
-unfolding tables
+stays-tables : (held : Option Held) (n at : ℕ) → Stays (at + (n - 16)) at (descriptions held n) (λ t e. Behind (at + (n - 16)) n (t .events .next) e)
+unfolding descriptions
 stays-tables held n at =
     let L : ℕ = at + (n - 16) in
     stays-bind _ _ _ _ _ _ (stays-basic at (n - 16))
@@ -60,21 +58,21 @@ stays-tables held n at =
     (λ e e₅ q₅. q₅)))))
 
 -- what they came to: how long their canonical form is, and where the head stands that follows
-record Told (o : Order) (b : ℕ) (s : List ℕ) (n : ℕ) (t : Tables) (m : ℕ) : Type 0 where
+record Told (o : Order) (b : ℕ) (s : List ℕ) (n : ℕ) (t : Descriptions) (m : ℕ) : Type 0 where
   held : Option Held
-  went : see o b s b (tables held n) ≡ goes t m
+  went : see o b s b (descriptions held n) ≡ goes t m
   long : b + 16 + size (tablesEvents t) ≡ m
   behind : Behind (b + (n - 16)) n (t .events .next) m
   stands : Stands o b s (b + (n - 16)) (t .events .next) m
 
-tables-told : (o : Order) (b : ℕ) (s : List ℕ) (held : Option Held) (n : ℕ) {t : Tables} {m : ℕ} → n ≤ length s + 16 → see o b s b (tables held n) ≡ goes t m → Told o b s n t m
+tables-told : (o : Order) (b : ℕ) (s : List ℕ) (held : Option Held) (n : ℕ) {t : Descriptions} {m : ℕ} → n ≤ length s + 16 → see o b s b (descriptions held n) ≡ goes t m → Told o b s n t m
 unfolding size
 tables-told o b s held n {t} {m} l g =
     let fit : b + (n - 16) ≤ b + length s = omega arith in
     let r = tables-bare o b s held n t m l g in
-    let e = size-trace o b s (b + (n - 16)) fit (tables held n) b _ (omega arith) (stays-tables held n b) g in
-    let z = sym (size-cleared (trace o b s b (tables held n))) ∙ (ap size (r .0) ∙ size-append (tablesEvents t) _) in
-    record { held = held; went = g; long = omega (arith, e, z); behind = stays-goes o b s (b + (n - 16)) fit (tables held n) b _ (omega arith) (stays-tables held n b) g; stands = r .1 }
+    let e = size-trace o b s (b + (n - 16)) fit (descriptions held n) b _ (omega arith) (stays-tables held n b) g in
+    let z = sym (size-cleared (trace o b s b (descriptions held n))) ∙ (ap size (r .0) ∙ size-append (tablesEvents t) _) in
+    record { held = held; went = g; long = omega (arith, e, z); behind = stays-goes o b s (b + (n - 16)) fit (descriptions held n) b _ (omega arith) (stays-tables held n b) g; stands = r .1 }
 
 -- a walk by the room that it is given, said otherwise
 moved : {A : Type 0} (o : Order) (b : ℕ) (s : List ℕ) (w : ℕ → Walk A) {a : A} (p p′ r r′ q q′ : ℕ) → p ≡ p′ → r ≡ r′ → q ≡ q′ → see o b s p (w r) ≡ goes a q → see o b s p′ (w r′) ≡ goes a q′
@@ -98,8 +96,8 @@ delimiter-is o b s at h g =
 pub record Accepted (o : Order) (b : ℕ) (s : List ℕ) (x : Placed) : Type 0 where
   pub at : ℕ
   pub held : Option Held
-  pub before : Tables
-  pub begins : see o b s b (tables held (16 + length s)) ≡ goes before (b + (at + 16))
+  pub before : Descriptions
+  pub begins : see o b s b (descriptions held (16 + length s)) ≡ goes before (b + (at + 16))
   pub front : size (tablesEvents before) ≡ at
   pub place : 16 + at ≡ x .layout .at140
   pub inside : at + 16 ≤ length s
@@ -140,7 +138,7 @@ pad-short : (n : ℕ) → n ≤ 128 * most → span (record { size = sizeFor n; 
 pad-short n h = let z = sized n in omega (arith, z .close, z .low h)
 
 -- a recording that these tables begin
-content-size : (t : Tables) (seconds : ℕ) (fs : List Frame) (ms : List Maker) → FramesOk (t .basic) (t .channels .own) (t .channels .value) seconds fs →
+content-size : (t : Descriptions) (seconds : ℕ) (fs : List Frame) (ms : List Maker) → FramesOk (t .basic) (t .channels .own) (t .channels .value) seconds fs →
     size (tablesEvents t ++ (recordOf (framesHead seconds (t .channels .value) fs) (framesWritten seconds (t .channels .value) fs) ++ (makerEvents ms ++ delimiterEvents))) ≡ size (tablesEvents t) + span (framesHead seconds (t .channels .value) fs) + (size (makerEvents ms) + 16)
 unfolding delimiterEvents size
 content-size t seconds fs ms f =
@@ -159,7 +157,7 @@ module _ (o : Order) (b : ℕ) (s : List ℕ) (bytes : Bytes s) (h : Head) (fill
   hears : {A : Type 0} (w : Walk A) (at : ℕ) (Q : A → ℕ → Type 0) {a : A} {e : ℕ} → b ≤ at → Stays L at w Q → see o b s at w ≡ goes a e → Heard w Q a e
   hears = heard o b s L (omega arith) bytes
 
-  signals-told : (t : Tables) (m : ℕ) → Told o b s (span h) t m → {x : Placed} {e : ℕ} → see o b s m (signals t h) ≡ goes x e → Accepted o b s x
+  signals-told : (t : Descriptions) (m : ℕ) → Told o b s (span h) t m → {x : Placed} {e : ℕ} → see o b s m (signals t h) ≡ goes x e → Accepted o b s x
   unfolding signals see
   signals-told t m k g =
       let last : Next = t .events .next in
@@ -185,7 +183,7 @@ module _ (o : Order) (b : ℕ) (s : List ℕ) (bytes : Bytes s) (h : Head) (fill
         at = at;
         held = k .held;
         before = t;
-        begins = moved o b s (tables (k .held)) b b (span h) (16 + length s) m (b + (at + 16)) refl fills (sym (k .long) ∙ omega arith) (k .went);
+        begins = moved o b s (descriptions (k .held)) b b (span h) (16 + length s) m (b + (at + 16)) refl fills (sym (k .long) ∙ omega arith) (k .went);
         front = refl;
         place = omega arith;
         inside = omega (arith, q .0);
@@ -215,8 +213,9 @@ module _ (o : Order) (b : ℕ) (s : List ℕ) (bytes : Bytes s) (h : Head) (fill
       })
 
   pub accepted : (held : Option Held) {x : Placed} {e : ℕ} → see o b s b (recordingBody held h) ≡ goes x e → Accepted o b s x
+  unfolding recordingBody
   accepted held g =
-      by-onward (see o b s b (tables held (span h))) (λ t m. see o b s m (signals t h)) (sym (halves o b s b held h) ∙ g) λ t m t₀ g₁.
+      by-onward (see o b s b (descriptions held (span h))) (λ t m. see o b s m (signals t h)) (sym (see-bind o b s b (descriptions held (span h)) (λ t. signals t h)) ∙ g) λ t m t₀ g₁.
       signals-told t m (tables-told o b s held (span h) (omega arith) t₀) g₁
 
 -- a recording that the walk accepted: its 140 stands inside it

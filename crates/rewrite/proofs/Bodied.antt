@@ -21,11 +21,10 @@ use Rattle.walk.proofs.Laws.{length-render, size-append}
 use Rattle.walk.proofs.Seen.{body-length}
 use Rattle.walk.proofs.Tracing.{render-append}
 use Rattle.rules.specs.Canonical.{numerals, recordOf, framesHead, framesWritten, makerEvents, delimiterHead, delimiterEvents, content, recordingHead}
-use Rattle.rules.specs.Rules.{Head, head, span, Basic, Channel, sampleBytes, Frames, framesBody, frames, Next, next, Held, Recording, Placed, recordingBody}
+use Rattle.rules.specs.Rules.{Head, head, span, Basic, Channel, sampleBytes, Frames, framesBody, frames, Next, next, Held, Recording, Placed, recordingBody, Descriptions, descriptions}
 use Rattle.rules.specs.declared.Channels.{Channels}
 use Rattle.rules.proofs.Sized.{sized}
 use Rattle.records.specs.Says.{Kept}
-use Rattle.descriptions.specs.Halves.{Tables, tables}
 use Rattle.rows.proofs.Lists.{admit-went}
 use Rattle.bodies.specs.Copy.{copy, Pastes}
 use Rattle.bodies.specs.declared.Way.{Way}
@@ -115,7 +114,7 @@ module _ (w : Way) (file : List ℕ) (cs : Channels) (f : Shape) (s : List ℕ) 
     pub same₂ : length d₂ ≡ length d₁
     pub same₃ : length d₃ ≡ length d₂
     pub same₅ : length d₅ ≡ length d₄
-    pub front : (held : Option Held) (t : Tables) (e : ℕ) → see (w .from) b s b (tables held (16 + length s)) ≡ goes t e → Pastes d₀ d₁ 0 k₁ (copy w b s b (tables held (16 + length s)))
+    pub front : (held : Option Held) (t : Descriptions) (e : ℕ) → see (w .from) b s b (descriptions held (16 + length s)) ≡ goes t e → Pastes d₀ d₁ 0 k₁ (copy w b s b (descriptions held (16 + length s)))
     pub top : y₁ ≡ render (w .to) (numerals (record { size = f .signals .size; code = 140; serial = 0; multiplier = f .signals .multiplier }))
     pub signals : w .keep ≡ false → (c : ℕ) (counts : Basic) (ch : List Channel) (hd : Head) (g : Frames) (e : ℕ) → length ch ≡ cs .count → Kept (w .from) file (cs .subs) ch → f .filled ≡ 24 + sampleBytes (f .seconds) ch →
         numberAt (w .from) 4 (signalsIn s f) 0 ≡ f .seconds → numberAt (w .from) 4 (signalsIn s f) 4 ≡ f .size → numberAt (w .from) 4 (signalsIn s f) 8 ≡ f .count → span hd ≡ 16 + length (signalsIn s f) → see (w .from) c (signalsIn s f) c (framesBody counts ch hd) ≡ goes g e →
@@ -158,9 +157,9 @@ module _ (w : Way) {b : ℕ} {s : List ℕ} {x : Placed} (v : Accepted (w .from)
   content-long = omega (arith, v .long, same-at, signals-long, v .wide)
 
   -- what is written of the tables before it, and of what follows it
-  tables-bytes : w .keep ≡ false → copy w b s b (tables (v .held) (16 + length s)) ≡ render (w .to) (tablesEvents (v .before)) ++ render (w .to) (numerals (v .before .events .next .head))
+  tables-bytes : w .keep ≡ false → copy w b s b (descriptions (v .held) (16 + length s)) ≡ render (w .to) (tablesEvents (v .before)) ++ render (w .to) (numerals (v .before .events .next .head))
   tables-bytes clear =
-      copy-bare w b s b (tables (v .held) (16 + length s)) clear
+      copy-bare w b s b (descriptions (v .held) (16 + length s)) clear
       ∙ (ap (render (w .to)) (tables-bare (w .from) b s (v .held) (16 + length s) (v .before) (b + (v .at + 16)) (omega arith) (v .begins) .0) ∙ render-append (w .to) (tablesEvents (v .before)) (numerals (v .before .events .next .head)))
 
   goes-on : see (w .from) b s (b + f .end) (next (v .fuel) (length s - f .end)) ≡ goes (v .after) (v .end)

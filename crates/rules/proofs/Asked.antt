@@ -15,8 +15,9 @@ use Rattle.words.specs.Numbers.{Bytes}
 use Rattle.walk.specs.Plays.{Plays}
 use Rattle.walk.specs.Walk.{Event, numeral, piece, blank, row, Row, rows, size, render, run, Walk, passed, give, refuse, _>>=_, _>>_, number}
 use Rattle.walk.proofs.Laws.{by-parts, by-split, by-check, checked, taken, plays-gave, traced}
-use Rattle.rules.specs.Rules.{between, padding, padded, makerCode, zeros, delimiter, basicBody, Head, head, span, admit, Basic, basic, Channel, channel, channels, Item, item, itemBytes, items, patientCode, eventCode, Frame, frame, frames, numberList, width, samplesIn, sampleBytes, FileHeader, Next, next, Part, part, Held, heldChannels, heldPatient, Placed, recording, recordings, File, fileHeader, file, orderOf, judge, recordingBody}
+use Rattle.rules.specs.Rules.{between, padding, padded, makerCode, zeros, delimiter, basicBody, Head, head, span, admit, Basic, basic, Channel, channel, channels, Item, item, itemBytes, items, patientCode, eventCode, Frame, frame, frames, numberList, width, samplesIn, sampleBytes, FileHeader, Next, next, Part, part, Held, heldChannels, heldPatient, Placed, recording, recordings, File, fileHeader, file, orderOf, judge, signals}
 use Rattle.rules.specs.Places.{bytesBefore}
+use Rattle.rules.proofs.Steps.{body-steps}
 use Rattle.rules.proofs.Canon.{recordings-ok}
 use Rattle.rules.proofs.Places.{numbers-found, Found, found-run, found-whole, found-first, found-second, found-at, head-size, admit-size, join, gave-nothing, fixed-size, channels-bytes, items-bytes, channel-found, frames-found, frame-found, samples-found, items-in, zeros-none, piece-size}
 use Rattle.rules.proofs.Renew.{if-case, pick-case, admit-ok, basic-size, next-ok, channels-ok, items-ok, frames-ok}
@@ -142,11 +143,11 @@ step₁ : (u₁ u₂ u₃ u₄ n bytes m : ℕ) → u₁ ≡ 16 → u₂ ≡ 0 �
 step₁ u₁ u₂ u₃ u₄ n bytes m h₁ h₂ h₃ h₄ h₅ h₆ = omega arith
 
 pub recording-found : (held : Option Held) (room i : ℕ) {t : List Event} {x : Placed} → Plays t (recording held room i) x → InRecording t x
-unfolding recording recordingBody size _>>=_ _>>_ between padding padded makerCode
+unfolding recording signals size _>>=_ _>>_ between padding padded makerCode
 recording-found held room i p =
     by-parts (head room) _ p λ h u₁ _ e₁ h₀ p.
     by-parts (admit room 128 (leb 16) (eqb i) h) _ (checked p .then) λ _ u₂ _ e₂ a₀ p.
-    by-parts (basic (span h - 16)) _ p λ b u₃ v₃ e₃ b₀ p.
+    by-parts (basic (span h - 16)) _ (rw body-steps at p) λ b u₃ v₃ e₃ b₀ p.
     by-parts (next (span h) (span h - 144)) _ p λ n u₄ _ e₄ n₀ p.
     by-parts (part (span h) 120 (channels b) (heldChannels held) n) _ p λ c u₅ v₅ e₅ c₀ p.
     by-parts (part (span h) 130 (items patientCode) (heldPatient held) (c .next)) _ p λ q u₆ v₆ e₆ q₀ p.

@@ -1,3 +1,4 @@
+pub mod Steps
 pub mod Room
 pub mod Refusals
 pub mod Turn

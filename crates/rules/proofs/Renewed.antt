@@ -14,7 +14,8 @@ use Rattle.walk.specs.Plays.{Plays, gives, checks, lists}
 use Rattle.walk.specs.Walk.{Event, row, size, Walk, give, refuse, _>>=_, _>>_}
 use Rattle.walk.proofs.Laws.{plays-bind, plays-split, plays-give, traced, size-append, by-split, by-check, by-read, plays-gave}
 use Rattle.rules.specs.Canonical.{zeroes, numerals, rowOf, plainHead, recordOf, basicFields, channelsHead, channelsWritten, itemsHead, itemsWritten, frameSize, framesBytes, framesHead, framesWritten, makerEvents, optional, delimiterHead, delimiterEvents, content}
-use Rattle.rules.specs.Rules.{between, padding, padded, makerCode, zeros, Head, head, lengthOf, span, admit, padOk, Basic, basicBody, basic, Channel, channels, Item, items, patientCode, eventCode, frames, Maker, Next, next, Part, part, Recording, heldChannels, heldPatient, contentLimit, delimiter, Layout, Placed, recording, frame, recordingBody, between, padding, padded, makerCode, zeros, Head, head, lengthOf, span, admit, padOk, Basic, basicBody, basic, Channel, channels, Item, items, patientCode, eventCode, frames, Maker, Held as Inherited, Next, next, Part, part, Recording, heldChannels, heldPatient, contentLimit, delimiter, Layout, Placed, recording}
+use Rattle.rules.specs.Rules.{between, padding, padded, makerCode, zeros, Head, head, lengthOf, span, admit, padOk, Basic, basicBody, basic, Channel, channels, Item, items, patientCode, eventCode, frames, Maker, Next, next, Part, part, Recording, heldChannels, heldPatient, contentLimit, delimiter, Layout, Placed, recording, frame, signals, between, padding, padded, makerCode, zeros, Head, head, lengthOf, span, admit, padOk, Basic, basicBody, basic, Channel, channels, Item, items, patientCode, eventCode, frames, Maker, Held as Inherited, Next, next, Part, part, Recording, heldChannels, heldPatient, contentLimit, delimiter, Layout, Placed, recording}
+use Rattle.rules.proofs.Steps.{body-steps}
 use Rattle.rules.proofs.Renew.{HeadOk, head-plays, Admitted, admit-plays, fixed-plays, basic-ok, basic-size, All, record-size, ChannelsOk, few-channels, channels-size, channels-ok, channels-plays, ItemsOk, items-ok, items-size, items-plays, padding-plays, FramesOk, frames-ok, frames-size, frames-plays, if-true, if-false, if-case, MakerOk, next-ok, next-plays, makers-count}
 use Rattle.rules.proofs.Sized.{sized}
 
@@ -149,11 +150,11 @@ unfolding itemsRecord
 items-good ok code room h u is p = let g = items-ok ok room h p in (g .0, items-size code is ∙ g .1, g .2)
 
 pub recording-ok : (held : Option Inherited) (room i : ℕ) {t : List Event} {x : Placed} → Plays t (recording held room i) x → RecordingOk held (x .recording)
-unfolding recording recordingBody partC partP partE spanF _>>=_ _>>_ between padding padded makerCode
+unfolding recording signals partC partP partE spanF _>>=_ _>>_ between padding padded makerCode
 recording-ok held room i p =
     by-split (head room) _ p λ h _ _ _ p. by-check p λ _ p.
     by-split (admit room 128 (leb 16) (eqb i) h) _ p λ _ _ _ _ p.
-    by-split (basic (span h - 16)) _ p λ b _ _ b₀ p.
+    by-split (basic (span h - 16)) _ (rw body-steps at p) λ b _ _ b₀ p.
     by-split (next (span h) (span h - 144)) _ p λ n _ _ n₀ p.
     by-split (part (span h) 120 (channels b) (heldChannels held) n) _ p λ c _ _ c₀ p.
     by-split (part (span h) 130 (items patientCode) (heldPatient held) (c .next)) _ p λ q _ _ q₀ p.
@@ -413,13 +414,13 @@ module _ (held : Option Inherited) (r : Recording) (k : RecordingOk held r) (h :
 
   played-at : (i room : ℕ) → HeadOk h → eqb (h .code) 10 ≡ true → Admitted room 128 (leb 16) (eqb i) h →
       Plays (recordOf h (content r ++ (zeroes pad ∷ []))) (recording held room i) (record { recording = r; layout = layoutOf })
-  unfolding recording recordingBody recordOf layoutOf _>>=_ _>>_
+  unfolding recording signals recordOf layoutOf _>>=_ _>>_
   played-at i room o c a =
       rw (arranged r (zeroes pad ∷ []))
       (plays-bind _ (head-plays h o room (omega (arith, rooms, a .room)))
       (checks c
       (plays-bind _ (admit-plays room 128 (leb 16) (eqb i) h a)
-      (plays-bind _ (fixed-plays 128 100 0 basicBody (span h - 16) (k .basic) (omega arith) (omega arith) (omega arith) (omega arith) (omega (arith, rooms)))
+      (rw body-steps (plays-bind _ (fixed-plays 128 100 0 basicBody (span h - 16) (k .basic) (omega arith) (omega arith) (omega arith) (omega arith) (omega (arith, rooms)))
       (plays-bind _ plays-n
       (plays-bind _ plays-c
       (plays-bind _ plays-p
@@ -430,7 +431,7 @@ module _ (held : Option Inherited) (r : Recording) (k : RecordingOk held r) (h :
       (plays-bind _ delimiter-plays
       (checks fits-limit
       (checks fits-pad
-      (padding-plays pad (roomD - 16) left-pad _)))))))))))))))
+      (padding-plays pad (roomD - 16) left-pad _))))))))))))))))
 
   pub recording-from : (i room : ℕ) → HeadOk h → eqb (h .code) 10 ≡ true → Admitted room 128 (leb 16) (eqb i) h →
       Anew held room i (recordOf h (content r ++ (zeroes pad ∷ []))) r (span h)

@@ -12,7 +12,8 @@ use lib.Dec.{leb, ltb, eqb}
 use Rattle.walk.specs.See.{Stays}
 use Rattle.walk.specs.Walk.{Walk, give, _>>=_, _>>_, pick, text, refuse}
 use Rattle.walk.proofs.Seen.{stays-bind, stays-then, stays-weaken, and-left, and-right, stays-require}
-use Rattle.rules.specs.Rules.{itemsBody, channelsBody, frameBody, Head, head, limit, admit, span, coded, fixed, Basic, basicBody, channelBody, channel, item, itemSize, itemBytes, itemList, series, zeros, padding, Channel, width, samplesIn, sampleBytes, numberList, samples, frame, Next, channels, frames, framesBody, items, next, padOk, makerCode, between, delimiter, part, recording, Held, Part, basic, heldChannels, patientCode, heldPatient, eventCode, file, fileHeader, recordings, recordingBody}
+use Rattle.rules.specs.Rules.{itemsBody, channelsBody, frameBody, Head, head, limit, admit, span, coded, fixed, Basic, basicBody, channelBody, channel, item, itemSize, itemBytes, itemList, series, zeros, padding, Channel, width, samplesIn, sampleBytes, numberList, samples, frame, Next, channels, frames, framesBody, items, next, padOk, makerCode, between, delimiter, part, recording, Held, Part, basic, heldChannels, patientCode, heldPatient, eventCode, file, fileHeader, recordings, recordingBody, signals}
+use Rattle.rules.proofs.Steps.{body-steps}
 
 pub stays-head : (at room : ℕ) → Stays (at + room) at (head room) (λ h e. (e ≡ at + 16) × (16 ≤ room))
 unfolding head _>>=_ _>>_
@@ -261,8 +262,9 @@ unfolding delimiter _>>=_ _>>_
 stays-delimiter h L at = λ _ _ _ _. refl
 
 pub stays-recordingBody : (held : Option Held) (h : Head) (at : ℕ) → 16 ≤ span h → Stays (at + (span h - 16)) at (recordingBody held h) (λ x e. (x .layout .bytes ≡ span h) × (e ≡ at + (span h - 16)))
-unfolding recordingBody
+unfolding signals
 stays-recordingBody held h at s =
+    rw body-steps (
     let L : ℕ = at + (span h - 16) in
     stays-bind _ _ _ _ _ _ (stays-basic at (span h - 16))
     (λ b e₁ q₁. stays-bind _ _ _ _ _ _ (stays-next (span h) (span h - 144) (span h) L e₁ (omega (arith, q₁)) (omega (arith, q₁)) (omega (arith, q₁)))
@@ -276,7 +278,7 @@ stays-recordingBody held h at s =
     (λ _ e₈ q₈. stays-require _ 14 _ _ _ _ _ refl
     (λ _. stays-require _ 10 0 _ _ _ _ refl
     (λ _. stays-then _ _ _ _ _ _ (stays-padding L e₈ (d .room - 16) (omega (arith, q₇ .0, q₇ .2, q₈)))
-    (λ _ x r. (refl, omega (arith, q₇ .0, q₇ .2, q₈, r))))))))))))))
+    (λ _ x r. (refl, omega (arith, q₇ .0, q₇ .2, q₈, r)))))))))))))))
 
 pub stays-recording : (held : Option Held) (i at room : ℕ) → Stays (at + room) at (recording held room i) (λ x e. (e ≡ at + x .layout .bytes) × (x .layout .bytes ≤ room))
 unfolding recording

@@ -9,7 +9,7 @@ use lib.IntN.{negsuc}
 use Rattle.words.specs.declared.Order.{Order}
 use Rattle.words.specs.declared.Order.the-variants.{Little, Big}
 use Rattle.walk.specs.Walk.{Row, Outcome, refused, passed, swap, laid, _>>=_, _>>_, logged, run, rows}
-use Rattle.rules.specs.Rules.{File, zeros, padding, series, between, sameBytes, identifier, version, form, allSpaces, decimal, countOf, fileHeader, lengthOf, head, admit, padded, fixed, leap, monthDays, daysIn, dated, isMains, basicBody, isType, rateOk, channelBody, channelsBody, channels, keywords, isIn, patientCode, eventCode, item, itemBytes, itemList, itemsBody, items, width, samplesOf, all, sampleBytes, numberList, samples, frameBody, frame, framesBody, frames, makerCode, next, part, delimiter, recordingBody, recording, recordings, file, orderOf, whole, judge}
+use Rattle.rules.specs.Rules.{File, zeros, padding, series, between, sameBytes, identifier, version, form, allSpaces, decimal, countOf, fileHeader, lengthOf, head, admit, padded, fixed, leap, monthDays, daysIn, dated, isMains, basicBody, isType, rateOk, channelBody, channelsBody, channels, keywords, isIn, patientCode, eventCode, item, itemBytes, itemList, itemsBody, items, width, samplesOf, all, sampleBytes, numberList, samples, frameBody, frame, framesBody, frames, makerCode, next, part, delimiter, descriptions, signals, recordingBody, recording, recordings, file, orderOf, whole, judge}
 use Rattle.rules.specs.Canonical.{multiplierFor, sizeFor}
 use Rattle.rules.specs.Worked.{WorkedValues, WorkedRefusals, smallest, with, row, listing}
 
@@ -45,16 +45,27 @@ abbrev isAccepted : Outcome File → Bool
 isAccepted (refused n p) = false
 isAccepted (passed v r t) = true
 
+-- the smallest file is accepted with its rows; 29 February 2000 passes; and every refusal number, at its place
+record Files : Type 0 where
+  accepted : isAccepted (judge smallest) ≡ true
+  listed : rowsOf (judge smallest) ≡ listing
+  leap : isAccepted (judge (with 80 (208 ∷ 7 ∷ 0 ∷ 0 ∷ 2 ∷ 0 ∷ 0 ∷ 0 ∷ 29 ∷ []))) ≡ true
+  refusals : WorkedRefusals judge
+
+files : Files
+unfolding zeros padding series between sameBytes identifier version form allSpaces decimal countOf fileHeader lengthOf head admit padded fixed leap monthDays daysIn dated isMains basicBody isType rateOk channelBody channelsBody channels keywords isIn patientCode eventCode item itemBytes itemList itemsBody items width samplesOf all sampleBytes numberList samples frameBody frame framesBody frames makerCode next part delimiter descriptions signals recordingBody recording recordings file orderOf whole judge swap laid _>>=_ _>>_ logged run rows ordered word bytesOf wordIn smallest listing row
+files = record {
+  accepted = refl;
+  listed = refl;
+  leap = refl;
+  refusals = record { one = refl; two = refl; three = refl; four = refl; five = refl; six = refl; seven = refl; eight = refl; nine = refl; ten = refl; eleven = refl; twelve = refl; thirteen = refl; fourteen = refl; fifteen = refl; sixteen = refl; period = refl; leap = refl };
+}
+
 pub smallest-accepted : (isAccepted (judge smallest) ≡ true) × (rowsOf (judge smallest) ≡ listing)
-unfolding zeros padding series between sameBytes identifier version form allSpaces decimal countOf fileHeader lengthOf head admit padded fixed leap monthDays daysIn dated isMains basicBody isType rateOk channelBody channelsBody channels keywords isIn patientCode eventCode item itemBytes itemList itemsBody items width samplesOf all sampleBytes numberList samples frameBody frame framesBody frames makerCode next part delimiter recordingBody recording recordings file orderOf whole judge swap laid _>>=_ _>>_ logged run rows ordered word bytesOf wordIn smallest listing row
-smallest-accepted = (refl, refl)
+smallest-accepted = (files .accepted, files .listed)
 
--- 29 February 2000 passes
 pub leap-accepted : isAccepted (judge (with 80 (208 ∷ 7 ∷ 0 ∷ 0 ∷ 2 ∷ 0 ∷ 0 ∷ 0 ∷ 29 ∷ []))) ≡ true
-unfolding zeros padding series between sameBytes identifier version form allSpaces decimal countOf fileHeader lengthOf head admit padded fixed leap monthDays daysIn dated isMains basicBody isType rateOk channelBody channelsBody channels keywords isIn patientCode eventCode item itemBytes itemList itemsBody items width samplesOf all sampleBytes numberList samples frameBody frame framesBody frames makerCode next part delimiter recordingBody recording recordings file orderOf whole judge swap laid _>>=_ _>>_ logged run rows ordered word bytesOf wordIn smallest listing row
-leap-accepted = refl
+leap-accepted = files .leap
 
--- every refusal number, at its place
 pub worked-refusals : WorkedRefusals judge
-unfolding zeros padding series between sameBytes identifier version form allSpaces decimal countOf fileHeader lengthOf head admit padded fixed leap monthDays daysIn dated isMains basicBody isType rateOk channelBody channelsBody channels keywords isIn patientCode eventCode item itemBytes itemList itemsBody items width samplesOf all sampleBytes numberList samples frameBody frame framesBody frames makerCode next part delimiter recordingBody recording recordings file orderOf whole judge swap laid _>>=_ _>>_ logged run rows ordered word bytesOf wordIn smallest listing row
-worked-refusals = record { one = refl; two = refl; three = refl; four = refl; five = refl; six = refl; seven = refl; eight = refl; nine = refl; ten = refl; eleven = refl; twelve = refl; thirteen = refl; fourteen = refl; fifteen = refl; sixteen = refl; period = refl; leap = refl }
+worked-refusals = files .refusals

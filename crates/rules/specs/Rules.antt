@@ -543,19 +543,35 @@ pub record Placed : Type 0 where
   pub recording : Recording
   pub layout : Layout
 
--- the body of a recording with this head
-unfoldable pub recordingBody : Option Held → Head → Walk Placed
-recordingBody held h = do
-  let bytes = span h
+-- 100, the head behind it, and the records up to the 140, each of which may be absent
+pub record Descriptions : Type 0 where
+  pub basic : Basic
+  pub next : Next
+  pub channels : Part (List Channel)
+  pub patient : Part (List Item)
+  pub events : Part (List Item)
+
+-- of a recording of so many bytes; its 10 and its 100 take 16 and 128 of them
+unfoldable pub descriptions : Option Held → ℕ → Walk Descriptions
+descriptions held bytes = do
   b ← basic (bytes - 16)
   n ← next bytes (bytes - 144)
   c ← part bytes 120 (channels b) (heldChannels held) n
   p ← part bytes 130 (items patientCode) (heldPatient held) (c .next)
   e ← part bytes 200 (items eventCode) (some []) (p .next)
-  let last = e .next
+  give (record { basic = b; next = n; channels = c; patient = p; events = e })
+
+-- 100's count of channels stands 36 bytes into the recording: so many bytes back from behind the head of the 140, which has so much room
+abbrev pub countBack : ℕ → ℕ → ℕ
+countBack bytes room = bytes - room - 20
+
+-- 140, the delimiter and the padding behind it, of a recording with this head
+unfoldable pub signals : Descriptions → Head → Walk Placed
+signals t h = do
+  let bytes = span h
+  let last = t .events .next
   coded (last .head) 140
-  -- 100's count of channels stands 36 bytes into the recording
-  f ← frames b (c .own) (c .value) (bytes - last .room - 20) (last .room) (last .head)
+  f ← frames (t .basic) (t .channels .own) (t .channels .value) (countBack bytes (last .room)) (last .room) (last .head)
   d ← next bytes (last .room - span (last .head))
   delimiter (d .head)
   let left = d .room - 16
@@ -565,23 +581,29 @@ recordingBody held h = do
   padding left
   give (record {
     recording = record {
-      basic = b;
-      ownChannels = c .own;
-      channels = c .value;
-      ownPatient = p .own;
-      patient = p .value;
-      ownEvents = e .own;
-      events = e .value;
+      basic = t .basic;
+      ownChannels = t .channels .own;
+      channels = t .channels .value;
+      ownPatient = t .patient .own;
+      patient = t .patient .value;
+      ownEvents = t .events .own;
+      events = t .events .value;
       seconds = f .seconds;
       frames = f .frames;
-      makers₁ = n .makers;
-      makers₂ = c .next .makers;
-      makers₃ = p .next .makers;
-      makers₄ = e .next .makers;
+      makers₁ = t .next .makers;
+      makers₂ = t .channels .next .makers;
+      makers₃ = t .patient .next .makers;
+      makers₄ = t .events .next .makers;
       makers₅ = d .makers;
     };
-    layout = record { bytes = bytes; at120 = bytes - n .room; at130 = bytes - c .next .room; at200 = bytes - p .next .room; at140 = bytes - last .room; frame = f .size };
+    layout = record { bytes = bytes; at120 = bytes - t .next .room; at130 = bytes - t .channels .next .room; at200 = bytes - t .patient .next .room; at140 = bytes - last .room; frame = f .size };
   })
+
+-- the body of a recording with this head
+unfoldable pub recordingBody : Option Held → Head → Walk Placed
+recordingBody held h = do
+  t ← descriptions held (span h)
+  signals t h
 
 unfoldable pub recording : Option Held → ℕ → ℕ → Walk Placed
 recording held room i = do

@@ -21,14 +21,14 @@ use Rattle.rules.specs.declared.Frames.{Frames}
 use Rattle.rules.specs.declared.Head.{Head}
 use Rattle.rules.proofs.Room.{stays-framesRest}
 use Rattle.records.specs.Says.{headOf, Headroom, headroom}
-use Rattle.descriptions.specs.Halves.{Tables, signals}
+use Rattle.rules.specs.Rules.{Descriptions, signals}
 use Rattle.descriptions.proofs.Stands.{yields-past}
 use Rattle.signals.specs.Framed.{framesOf}
 use Rattle.signals.specs.Signaled.{Known, Whole}
 use Rattle.signals.proofs.FramesBody.{yields-frames}
 
 -- what is given at the end
-unfoldable pub placed : Tables → R.Head → R.Frames → R.Next → R.Placed
+unfoldable pub placed : Descriptions → R.Head → R.Frames → R.Next → R.Placed
 placed t r f d = record {
   recording = record {
     basic = t .basic;
@@ -50,7 +50,7 @@ placed t r f d = record {
 }
 
 -- it is whole: the code keeps the length and the seconds of its frames
-whole : (t : Tables) (r : R.Head) (a : R.Frames) (d : R.Next) (f : Frames) → a .size ≡ f .size → a .seconds ≡ f .seconds → Whole t r f (placed t r a d)
+whole : (t : Descriptions) (r : R.Head) (a : R.Frames) (d : R.Next) (f : Frames) → a .size ≡ f .size → a .seconds ≡ f .seconds → Whole t r f (placed t r a d)
 unfolding placed
 whole t r a d f i j = record { layout = rw i; seconds = j; basic = refl; ownChannels = refl; channels = refl; ownPatient = refl; patient = refl; ownEvents = refl }
 
@@ -58,17 +58,17 @@ whole t r a d f i j = record { layout = rw i; seconds = j; basic = refl; ownChan
 unfoldable pub closing : R.Head → ℕ → ℕ → ℕ → R.Placed → Walk R.Placed
 closing r used left padded p = require (leb (used - padded) R.contentLimit) 14 used >> (require (R.padOk r left) 10 0 >> (R.padding left >> give p))
 
-unfoldable pub behind : Tables → R.Head → R.Frames → R.Next → Walk R.Placed
+unfoldable pub behind : Descriptions → R.Head → R.Frames → R.Next → Walk R.Placed
 behind t r f d = R.delimiter (d .head) >> closing r (R.span r - (d .room - 16)) (d .room - 16) (f .padded) (placed t r f d)
 
-signals-split : (t : Tables) (r : R.Head) → signals t r ≡
+signals-split : (t : Descriptions) (r : R.Head) → signals t r ≡
     (R.coded (t .events .next .head) 140 >> (R.frames (t .basic) (t .channels .own) (t .channels .value) (R.span r - t .events .next .room - 20) (t .events .next .room) (t .events .next .head) >>= λ f.
     R.next (R.span r) (t .events .next .room - R.span (t .events .next .head)) >>= behind t r f))
 unfolding signals behind closing placed
 signals-split t r = refl
 
 -- of a second half that the walk accepted: the 140 has room for its numbers, and they are in its bytes
-pub yields-signals : (o : Order) (b : ℕ) (s : List ℕ) (at : ℕ) (t : Tables) (r : R.Head) → Yields o b s at (signals t r) (λ x _. (32 ≤ t .events .next .room) × Whole t r (record { seconds = numberAt o 4 s (at - b); size = numberAt o 4 s (at + 4 - b); padded = 0 }) x)
+pub yields-signals : (o : Order) (b : ℕ) (s : List ℕ) (at : ℕ) (t : Descriptions) (r : R.Head) → Yields o b s at (signals t r) (λ x _. (32 ≤ t .events .next .room) × Whole t r (record { seconds = numberAt o 4 s (at - b); size = numberAt o 4 s (at + 4 - b); padded = 0 }) x)
 unfolding behind closing _>>=_ _>>_
 yields-signals o b s at t r =
     let last : R.Next = t .events .next in
@@ -85,10 +85,10 @@ unfolding closing
 closed-open o b s at r used left padded p = simp (see-after, see-check, see-give, then-gate, sub-zero)
 
 -- the 140 with the head h, in a recording whose body has n bytes
-abbrev pub the140 : Tables → Bool → ℕ → Head → Walk R.Frames
+abbrev pub the140 : Descriptions → Bool → ℕ → Head → Walk R.Frames
 the140 t own n h = R.frames (t .basic) own (t .channels .value) (h .at - 4) (n - h .at) (headOf h)
 
-module _ (o : Order) (base : ℕ) (s : List ℕ) (t : Tables) (r : R.Head) (v : Verdict R.Placed) where
+module _ (o : Order) (base : ℕ) (s : List ℕ) (t : Descriptions) (r : R.Head) (v : Verdict R.Placed) where
   -- v goes on at byte q, behind a 140 of which the code keeps f
   pub record AfterFrames (f : Frames) (q : ℕ) : Type 0 where
     pub value : R.Frames
@@ -102,7 +102,7 @@ module _ (o : Order) (base : ℕ) (s : List ℕ) (t : Tables) (r : R.Head) (v : 
     pub next : R.Next
     pub same : v ≡ onward (see o base s (base + q) (R.delimiter h)) (λ _ e. see o base s e (closing r (16 + q) (length s - q) (f .padded) (placed t r value next)))
 
-module _ {o : Order} {file : List ℕ} {cs : Channels} {own : Bool} {b : Basic} {h : Head} {s : List ℕ} {m : ℕ} {t : Tables} {r : R.Head} (k : Known o file cs own b h s m t r) (base : ℕ) (fit : h .at + 16 ≤ length s) where
+module _ {o : Order} {file : List ℕ} {cs : Channels} {own : Bool} {b : Basic} {h : Head} {s : List ℕ} {m : ℕ} {t : Descriptions} {r : R.Head} (k : Known o file cs own b h s m t r) (base : ℕ) (fit : h .at + 16 ≤ length s) where
   opened : see o base s (base + (h .at + 16)) (signals t r) ≡
       gate (eqb (h .code) 140) (onward (see o base s (base + (h .at + 16)) (the140 t own (length s) h)) (λ f e.
       onward (see o base s e (R.next (16 + length s) (length s - h .at - R.span (headOf h)))) (λ n x. see o base s x (behind t r f n)))) 9 (base + (h .at + 4))
@@ -129,7 +129,7 @@ module _ {o : Order} {file : List ℕ} {cs : Channels} {own : Bool} {b : Basic} 
             let d : length s - h .at - R.span (headOf h) ≡ length s - q = omega (arith, z .2) in
             record { value = y; kept = j; same = rw (opened, eq-eqb (h .code) 140 code, gate-true, i, l, d) }
 
-module _ {o : Order} {base : ℕ} {s : List ℕ} {t : Tables} {r : R.Head} {v : Verdict R.Placed} {f : Frames} where
+module _ {o : Order} {base : ℕ} {s : List ℕ} {t : Descriptions} {r : R.Head} {v : Verdict R.Placed} {f : Frames} where
   pub found-stop : {q n p : ℕ} → AfterFrames o base s t r v f q → over headroom (see o base s (base + q) (R.next (16 + length s) (length s - q))) ≡ stops n p → v ≡ stops n p
   found-stop {q} a x = a .same ∙ rw (stopped headroom (see o base s (base + q) (R.next (16 + length s) (length s - q))) x)
 

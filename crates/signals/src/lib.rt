@@ -10,7 +10,7 @@ ghost use Rattle.words.specs.declared.Order.{Order};
 ghost use Rattle.walk.specs.See.{gate, see};
 ghost use Rattle.rules.specs.Rules as R;
 ghost use Rattle.records.specs.Says.{tested};
-ghost use Rattle.descriptions.specs.Halves.{Tables, signals};
+ghost use Rattle.rules.specs.Rules.{Descriptions, signals};
 ghost use Rattle.signals.specs.Signaled.{refusalF, Known, Signaled};
 use crate::frames::Framed;
 use records::Headed;
@@ -59,7 +59,7 @@ pub fn signals(
     multiplier: u32,
 ) -> Framed
     requires { ⌜ (128 ≤ h .at) × (h .at + 16 ≤ length (now s)) × (16 ≤ base) × Addressable (base + length (now s)) × (b .frames ≤ 1000000) × (cs .count ≤ 128) × (cs .subs + 256 * cs .count ≤ length (now file)) ⌝ }
-    ensures { λ a. ⌜ ((t : Tables) (r : R.Head) → Known o (now (file .entry)) cs own b h (now (s .entry)) multiplier t r → Signaled (see o base (now (s .entry)) (base + (h .at + 16)) (signals t r)) (base + length (now (s .entry))) t r a) ⌝ }
+    ensures { λ a. ⌜ ((t : Descriptions) (r : R.Head) → Known o (now (file .entry)) cs own b h (now (s .entry)) multiplier t r → Signaled (see o base (now (s .entry)) (base + (h .at + 16)) (signals t r)) (base + length (now (s .entry))) t r a) ⌝ }
 {
     if h.code != Frames::CODE {
         return Framed::Stop(Refusal(9, base + h.at + Head::CODE));

@@ -19,11 +19,10 @@ use Rattle.walk.proofs.Seen.{part-bytes, stays-goes, see-body, body-length}
 use Rattle.walk.proofs.Went.{went-first, goes-same}
 use Rattle.walk.proofs.Tracing.{written-none, written-row}
 use Rattle.rules.specs.Rules as R
-use Rattle.rules.specs.Rules.{head, admit, span, fixed, basicBody, numberList, next, makerCode, more, part}
+use Rattle.rules.specs.Rules.{head, admit, span, fixed, basicBody, numberList, next, makerCode, more, part, Descriptions, descriptions}
 use Rattle.rules.specs.declared.Head.{Head}
 use Rattle.rules.proofs.Room.{Rests, stays-basic, stays-itemsBody, stays-itemsRest, stays-channelsBody, stays-channelsRest}
 use Rattle.records.specs.Says.{headOf}
-use Rattle.descriptions.specs.Halves.{Tables, tables}
 use Rattle.rows.specs.Rows.{Marks}
 use Rattle.rows.proofs.Makers.{Listing, listing-none, listing-done, listing-more}
 use Rattle.rows.proofs.Written.{wrote-counted}
@@ -319,8 +318,8 @@ module _ (w : Way) (b : ℕ) (s : List ℕ) (h : Head) (fit : h .at ≤ length s
         (record-full w b s h fit q stop inside 32 0 (omega arith) long (λ g. R.channelsBody c (span g)) (λ g at. stays-channelsBody c (span g) at) (stays-channelsRest c) out out₂ k k₂ r full onward)
 
 -- a body has room for its 100
-pub tables-short : (o : Order) (b : ℕ) (s : List ℕ) (held : Option R.Held) {t : Tables} {e : ℕ} → length s < 128 → see o b s b (tables held (16 + length s)) ≡ goes t e → ⊥
-unfolding tables
+pub tables-short : (o : Order) (b : ℕ) (s : List ℕ) (held : Option R.Held) {t : Descriptions} {e : ℕ} → length s < 128 → see o b s b (descriptions held (16 + length s)) ≡ goes t e → ⊥
+unfolding descriptions
 tables-short o b s held l g =
     let room : ℕ = 16 + length s - 16 in
     let f = went-first o b s b (R.basic room) _ g in
@@ -360,15 +359,15 @@ module _ (w : Way) (b : ℕ) (s : List ℕ) where
       (patient : (ok : ℕ → Bool) → PartCopied w b s h₂ 130 (R.items ok) out₃ out₄ k₃ k₄ h₃)
       (events : (ok : ℕ → Bool) → PartCopied w b s h₃ 200 (R.items ok) out₄ out₅ k₄ k₅ h₄) where
     -- the whole, up to the head of the 140
-    pub tables-copied : (held : Option R.Held) (t : Tables) (e : ℕ) → see (w .from) b s b (tables held (16 + length s)) ≡ goes t e →
-        Marks (w .from) b s h₄ (t .events .next) e × Pastes out₀ out₅ k₀ k₅ (copy w b s b (tables held (16 + length s)))
-    unfolding tables see
+    pub tables-copied : (held : Option R.Held) (t : Descriptions) (e : ℕ) → see (w .from) b s b (descriptions held (16 + length s)) ≡ goes t e →
+        Marks (w .from) b s h₄ (t .events .next) e × Pastes out₀ out₅ k₀ k₅ (copy w b s b (descriptions held (16 + length s)))
+    unfolding descriptions see
     tables-copied held =
         let bytes : ℕ = 16 + length s in
         let room : ℕ = 16 + length s - 16 in
         let long : length s < 16 + length s = omega arith in
         let z : 16 + length s - 144 ≡ length s - 128 = omega arith in
-        copied-bind w b s out₀ out₁ out₅ k₀ k₁ k₅ (R.basic room) _ b (λ _ m. m ≡ b + 128) (λ (x : Tables) e. Marks (w .from) b s h₄ (x .events .next) e)
+        copied-bind w b s out₀ out₁ out₅ k₀ k₁ k₅ (R.basic room) _ b (λ _ m. m ≡ b + 128) (λ (x : Descriptions) e. Marks (w .from) b s h₄ (x .events .next) e)
         (λ c m q. (stays-goes (w .from) b s (b + room) (omega arith) (R.basic room) b _ (omega arith) (stays-basic b room) q .0, first b room))
         (λ c m i. copied-bind w b s out₁ out₂ out₅ k₁ k₂ k₅ (next bytes (bytes - 144)) _ m (λ n x. Marks (w .from) b s h₁ n x) _
         (rw (i, z) (λ n x. makers bytes n x (omega arith)))
@@ -378,4 +377,4 @@ module _ (w : Way) (b : ℕ) (s : List ℕ) where
         (part-onward h₂ h₃ 130 (R.items R.patientCode) out₃ out₄ k₃ k₄ (patient R.patientCode) (R.heldPatient held) (p .next) bytes m₂ j₂ long)
         (λ q m₃ j₃. copied-bind w b s out₄ out₅ out₅ k₄ k₅ k₅ (part bytes 200 (R.items R.eventCode) (some []) (q .next)) _ m₃ (λ x y. Marks (w .from) b s h₄ (x .next) y) _
         (part-onward h₃ h₄ 200 (R.items R.eventCode) out₄ out₅ k₄ k₅ (events R.eventCode) (some []) (q .next) bytes m₃ j₃ long)
-        (λ t m₄ j₄. copied-give w b s out₅ k₅ (λ (x : Tables) e. Marks (w .from) b s h₄ (x .events .next) e) _ m₄ j₄)))))
+        (λ t m₄ j₄. copied-give w b s out₅ k₅ (λ (x : Descriptions) e. Marks (w .from) b s h₄ (x .events .next) e) _ m₄ j₄)))))

@@ -8,7 +8,6 @@ ghost use lib.ListN.{length};
 ghost use Rattle.words.specs.Sizes.{Addressable};
 ghost use Rattle.walk.specs.See.{see, goes};
 ghost use Rattle.rules.specs.Rules as R;
-ghost use Rattle.descriptions.specs.Halves as Halves;
 ghost use Rattle.rows.specs.Rows.{Marks};
 ghost use Rattle.bodies.specs.Copy.{copy, Pastes, PartCopied};
 use bodies::Way;
@@ -180,7 +179,7 @@ fn basic(w: Way, s: &[u8], out: &mut [u8], k: usize) -> usize
 // A recording's body up to the head of its 140, which is written too.
 pub fn tables(w: Way, s: &[u8], base: usize, out: &mut [u8], k: usize) -> Marked
     requires { ⌜ Addressable (base + length (now s)) × (k ≤ length (now out)) ⌝ }
-    ensures { λ r. ⌜ (r .next .at ≤ length (now (s .entry))) × (r .k ≤ length (now (out .entry))) × ((held : Option R.Held) (t : Halves.Tables) (e : ℕ) → see (w .from) base (now (s .entry)) base (Halves.tables held (16 + length (now (s .entry)))) ≡ goes t e → Marks (w .from) base (now (s .entry)) (r .next) (t .events .next) e × Pastes (now (out .entry)) (now (out .exit)) k (r .k) (copy w base (now (s .entry)) base (Halves.tables held (16 + length (now (s .entry)))))) ⌝ }
+    ensures { λ r. ⌜ (r .next .at ≤ length (now (s .entry))) × (r .k ≤ length (now (out .entry))) × ((held : Option R.Held) (t : R.Descriptions) (e : ℕ) → see (w .from) base (now (s .entry)) base (R.descriptions held (16 + length (now (s .entry)))) ≡ goes t e → Marks (w .from) base (now (s .entry)) (r .next) (t .events .next) e × Pastes (now (out .entry)) (now (out .exit)) k (r .k) (copy w base (now (s .entry)) base (R.descriptions held (16 + length (now (s .entry)))))) ⌝ }
 {
     if s.len() < Basic::LENGTH {
         return Marked {

@@ -1,6 +1,6 @@
 -- What is written of a recording, and of all recordings of a file, from what each of the code's steps wrote.
 -- Assumes nothing.
-use mathlib.Core.Path.{_≡_, refl, sym, ap, subst, fun-ext, _∙_}
+use mathlib.Core.Path.{_≡_, refl, sym, ap, subst, _∙_}
 use mathlib.Core.Bool.{Bool, true}
 use mathlib.Core.List.{List, [], _∷_, _++_, append-assoc, append-nil}
 use mathlib.Core.Option.{Option, none, some}
@@ -16,7 +16,7 @@ use Rattle.words.specs.Numbers.{bytesAt}
 use Rattle.words.specs.Runs.{pasted}
 use Rattle.words.specs.declared.Order.{Order}
 use Rattle.words.proofs.Runs.{pasted-pasted, pasted-nothing, set-pasted, more-written}
-use Rattle.walk.specs.Walk.{Letter, laid, Walk, give, refuse, check, number, read, skip, list, _>>=_, _>>_, require}
+use Rattle.walk.specs.Walk.{Letter, laid, Walk, give, _>>=_, _>>_, require}
 use Rattle.walk.specs.See.{stops, goes, see, Goes, Stays}
 use Rattle.walk.specs.Trace.{trace, written}
 use Rattle.walk.proofs.Laid.{laid-text, length-laid}
@@ -24,11 +24,10 @@ use Rattle.walk.proofs.Seen.{see-part, body-length}
 use Rattle.walk.proofs.Tracing.{written-append, written-none, written-row, written-piece}
 use Rattle.walk.proofs.Went.{gate-went, went-first, goes-same}
 use Rattle.rules.specs.Rules as R
-use Rattle.rules.specs.Rules.{head, coded, admit, span, basic, next, part, channels, items, patientCode, eventCode, heldChannels, heldPatient, frames, delimiter, padding, recordingBody, recording, recordings, fileHeader}
+use Rattle.rules.specs.Rules.{head, coded, admit, span, basic, next, part, channels, items, patientCode, eventCode, heldChannels, heldPatient, frames, delimiter, padding, Descriptions, descriptions, signals, recordingBody, recording, recordings, fileHeader}
 use Rattle.rules.specs.declared.Head.{Head}
 use Rattle.rules.proofs.Room.{stays-recordingBody, stays-recording}
 use Rattle.records.specs.Says.{Kept}
-use Rattle.descriptions.specs.Halves.{Tables, tables, signals}
 use Rattle.descriptions.specs.Tabled.{Stand, HeldAs}
 use Rattle.descriptions.specs.declared.Before.{Before}
 use Rattle.descriptions.specs.declared.Before.the-variants as Before
@@ -43,27 +42,6 @@ use Rattle.bodies.specs.declared.Way.{Way}
 use Rattle.bodies.proofs.Copying.{copy-bind, copy-part, length-copy, holds-join}
 use Rattle.transcripts.proofs.Onward.{copy-admit}
 use Rattle.turn.proofs.Turning.{filled-first, read-part, copy-require, copy-padding}
-
--- one walk after two others is one after the first, and then the second
-bind-step : {A B C : Type 0} (v : Walk A) (f : A → Walk B) (k : B → Walk C) (g : A → Walk C) → ((a : A) → (f a >>= k) ≡ g a) → ((v >>= f) >>= k) ≡ (v >>= g)
-unfolding _>>=_
-bind-step (give a) f k g h = h a
-bind-step (refuse n p) f k g h = refl
-bind-step (check c n p v) f k g h = ap (check c n p) (bind-step v f k g h)
-bind-step (number n w) f k g h = ap (number n) (fun-ext (λ x. bind-step (w x) f k g h))
-bind-step (read κ n w) f k g h = ap (read κ n) (fun-ext (λ x. bind-step (w x) f k g h))
-bind-step (skip n v) f k g h = ap (skip n) (bind-step v f k g h)
-bind-step (list p l c m v) f k g h = ap (list p l c m) (bind-step v f k g h)
-
--- a recording's body is its tables, and then its signals
-halved : (held : Option R.Held) (h : R.Head) → (tables held (span h) >>= λ t. signals t h) ≡ recordingBody held h
-unfolding recordingBody tables signals _>>=_
-halved held h =
-    bind-step (basic (span h - 16)) _ _ _ λ x.
-    bind-step (next (span h) (span h - 144)) _ _ _ λ n.
-    bind-step (part (span h) 120 (channels x) (heldChannels held) n) _ _ _ λ c.
-    bind-step (part (span h) 130 (items patientCode) (heldPatient held) (c .next)) _ _ _ λ p.
-    bind-step (part (span h) 200 (items eventCode) (some []) (p .next)) _ _ _ λ e. refl
 
 -- two walks, and one that depends on both
 copy-two : {A B C : Type 0} (w : Way) (b : ℕ) (s : List ℕ) (at : ℕ) (v : Walk A) (u : Walk B) (f : A → B → Walk C) {x : A} {y : B} {m n : ℕ} → see (w .from) b s at v ≡ goes x m → see (w .from) b s m u ≡ goes y n →
@@ -102,7 +80,7 @@ module _ (w : Way) (b : ℕ) (s : List ℕ) where
   module _ (file : List ℕ) (subs count : ℕ) (g g′ : Head) (out out₁ out₂ : List ℕ) (k k₁ k₂ : ℕ)
       (wrote : (c : R.Basic) (own : Bool) (cs : List R.Channel) (back : ℕ) → g .code ≡ 140 → length cs ≡ count → Kept (w .from) file subs cs → RecordCopied w b s g (frames c own cs back) out out₁ k k₁ g′)
       (last : g′ .at + 16 ≤ length s → Pastes out₁ out₂ k₁ k₂ (take (length s - (g′ .at + 16)) (drop (g′ .at + 16) s))) where
-    signals-copied : (t : Tables) (h : R.Head) (x : R.Placed) (e : ℕ) → span h ≡ 16 + length s → length (x .recording .channels) ≡ count → Kept (w .from) file subs (x .recording .channels) →
+    signals-copied : (t : Descriptions) (h : R.Head) (x : R.Placed) (e : ℕ) → span h ≡ 16 + length s → length (x .recording .channels) ≡ count → Kept (w .from) file subs (x .recording .channels) →
         Marks (w .from) b s g (t .events .next) (b + (g .at + 16)) → see (w .from) b s (b + (g .at + 16)) (signals t h) ≡ goes x e → Holds out out₂ k (copy w b s (b + (g .at + 16)) (signals t h))
     unfolding signals bytesAt
     signals-copied t h x e n many kept marks went =
@@ -127,17 +105,18 @@ module _ (w : Way) (b : ℕ) (s : List ℕ) where
 
     -- and of the tables before it, up to the head g
     pub body-copied : (out₀ : List ℕ) (k₀ : ℕ) →
-        ((held : Option R.Held) (t : Tables) (e : ℕ) → see (w .from) b s b (tables held (16 + length s)) ≡ goes t e → Marks (w .from) b s g (t .events .next) e × Pastes out₀ out k₀ k (copy w b s b (tables held (16 + length s)))) →
+        ((held : Option R.Held) (t : Descriptions) (e : ℕ) → see (w .from) b s b (descriptions held (16 + length s)) ≡ goes t e → Marks (w .from) b s g (t .events .next) e × Pastes out₀ out k₀ k (copy w b s b (descriptions held (16 + length s)))) →
         (held : Option R.Held) (h : R.Head) (x : R.Placed) (e : ℕ) → span h ≡ 16 + length s → length (x .recording .channels) ≡ count → Kept (w .from) file subs (x .recording .channels) →
         see (w .from) b s b (recordingBody held h) ≡ goes x e → Holds out₀ out₂ k₀ (copy w b s b (recordingBody held h))
+    unfolding recordingBody
     body-copied out₀ k₀ first held h x e n many kept went =
-        let v : Walk Tables = tables held (span h) in
-        let f : Tables → Walk R.Placed = λ t. signals t h in
-        let y = went-first (w .from) b s b v f (rw (← halved held h) at went) in
+        let v : Walk Descriptions = descriptions held (span h) in
+        let f : Descriptions → Walk R.Placed = λ t. signals t h in
+        let y = went-first (w .from) b s b v f went in
         let m = rw (← n) at (first held (y .value) (y .end)) (y .is) in
         let r = signals-copied (y .value) h x e n many kept (m .0 .0, m .0 .1, m .0 .2, refl) (ap (λ (i : ℕ). see (w .from) b s i (signals (y .value) h)) (sym (m .0 .3)) ∙ y .kept) in
         let c : copy w b s b (recordingBody held h) ≡ copy w b s b v ++ copy w b s (b + (g .at + 16)) (signals (y .value) h) =
-        ap (copy w b s b) (sym (halved held h)) ∙ (copy-bind w b s b v f (y .is) ∙ ap (λ (i : ℕ). copy w b s b v ++ copy w b s i (signals (y .value) h)) (m .0 .3)) in
+        copy-bind w b s b v f (y .is) ∙ ap (λ (i : ℕ). copy w b s b v ++ copy w b s i (signals (y .value) h)) (m .0 .3) in
         subst (λ (l : List ℕ). Holds out₀ out₂ k₀ l) (sym c) (holds-join out₀ out out₂ k₀ k k₂ (copy w b s b v) (copy w b s (b + (g .at + 16)) (signals (y .value) h)) (m .1) r)
 
 -- the bytes of a recording that the walk accepted: those of its head, and of its body

@@ -1,6 +1,6 @@
 -- What holds of every walk, once for all.
 -- Assumes nothing.
-use mathlib.Core.Path.{_≡_, refl, sym, ap, _∙_}
+use mathlib.Core.Path.{_≡_, refl, sym, ap, _∙_, fun-ext}
 use mathlib.Core.Bool.{Bool, true, false}
 use mathlib.Core.List.{List, [], _∷_, _++_, append-assoc, append-nil}
 use Prim.Native.Nat.{ℕ, zero, suc, _+_, _-_, _^_, _≤_, _<_}
@@ -471,3 +471,14 @@ plays-gave gives = refl
 
 pub by-parts : {A B C : Type 0} {t : List Event} (w : Walk A) (k : A → Walk B) {b : B} → Plays t (w >>= k) b → ((a : A) (u v : List Event) → u ++ v ≡ t → Plays u w a → Plays v (k a) b → C) → C
 by-parts w k p f = let q = plays-split w k p in f (q .value) (q .first) (q .second) (q .joined) (q .before) (q .behind)
+
+-- one walk after two others is one after the first, and then the second
+pub bind-step : {A B C : Type 0} (v : Walk A) (f : A → Walk B) (k : B → Walk C) (g : A → Walk C) → ((a : A) → (f a >>= k) ≡ g a) → ((v >>= f) >>= k) ≡ (v >>= g)
+unfolding _>>=_
+bind-step (give a) f k g h = h a
+bind-step (refuse n p) f k g h = refl
+bind-step (check c n p v) f k g h = ap (check c n p) (bind-step v f k g h)
+bind-step (number n w) f k g h = ap (number n) (fun-ext (λ x. bind-step (w x) f k g h))
+bind-step (read κ n w) f k g h = ap (read κ n) (fun-ext (λ x. bind-step (w x) f k g h))
+bind-step (skip n v) f k g h = ap (skip n) (bind-step v f k g h)
+bind-step (list p l c m v) f k g h = ap (list p l c m) (bind-step v f k g h)
