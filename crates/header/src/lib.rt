@@ -39,10 +39,10 @@ pub fn of_opened(a: Opened) -> Refusal
 pub fn order_of(letter: u32) -> Lettered
     ensures { λ a. ⌜ a ≡ lettered letter ⌝ }
 {
-    if letter == 76 {
+    if letter == FileHeader::LITTLE {
         return Lettered::Names(Order::Little);
     }
-    if letter == 66 {
+    if letter == FileHeader::BIG {
         return Lettered::Names(Order::Big);
     }
     Lettered::Nothing
@@ -51,16 +51,16 @@ pub fn order_of(letter: u32) -> Lettered
 fn script_ok(letter: u32) -> bool
     ensures { λ r. ⌜ r ≡ R.isScript letter ⌝ }
 {
-    if letter == 83 {
+    if letter == FileHeader::SCRIPT_S {
         return true;
     }
-    if letter == 74 {
+    if letter == FileHeader::SCRIPT_J {
         return true;
     }
-    if letter == 69 {
+    if letter == FileHeader::SCRIPT_E {
         return true;
     }
-    letter == 85
+    letter == FileHeader::SCRIPT_U
 }
 
 // Only spaces from byte `from` on.
@@ -69,7 +69,7 @@ fn spaces(s: &[u8], from: usize) -> bool
 {
     let mut i = from;
     while i < s.len() {
-        if s[i] != 32 {
+        if s[i] != FileHeader::SPACE {
             return false;
         }
         i += 1;
@@ -86,13 +86,13 @@ fn count_of(s: &[u8]) -> u32
     let mut i = 0;
     while i < s.len() {
         let b = byte(s, i);
-        if !between(48, 57, b) {
+        if !between(FileHeader::ZERO, FileHeader::NINE, b) {
             if !spaces(s, i) {
                 return 0;
             }
             return value;
         }
-        value = 10 * value + (b - 48);
+        value = 10 * value + (b - FileHeader::ZERO);
         i += 1;
     }
     value
@@ -104,7 +104,7 @@ fn names_ok(s: &[u8]) -> Tested
     ensures { λ a. ⌜ ((K : Verdict R.FileHeader) → gate (R.sameBytes (bytesAt 8 (now (s .entry)) 0) R.identifier) (gate (R.sameBytes (bytesAt 6 (now (s .entry)) 8) R.version) (gate (R.sameBytes (bytesAt 2 (now (s .entry)) 14) R.form) K 4 14) 3 8) 2 0 ≡ resumed a K) ⌝ }
 {
     if !same(&s[FileHeader::IDENTIFIER..FileHeader::VERSION], b"JSSR-SPG") {
-        return Tested::Stop(Refusal(2, 0));
+        return Tested::Stop(Refusal(2, FileHeader::IDENTIFIER));
     }
     if !same(&s[FileHeader::VERSION..FileHeader::FORM], b"000300") {
         return Tested::Stop(Refusal(3, FileHeader::VERSION));
@@ -135,7 +135,7 @@ pub fn file_header(s: &[u8]) -> Opened
         return Opened::Stop(Refusal(6, FileHeader::SCRIPT));
     }
     let count = count_of(&s[FileHeader::COUNT..FileHeader::SPACES]);
-    if !between(1, 64, count) {
+    if !between(1, FileHeader::MOST, count) {
         return Opened::Stop(Refusal(7, FileHeader::COUNT));
     }
     if !spaces(&s[FileHeader::SPACES..FileHeader::LENGTH], 0) {

@@ -93,7 +93,9 @@ module _ (o : Order) (file : List ℕ) (at : ℕ) (s : List ℕ) (before : Befor
 
   opened : body ≡ onward (see o (at + 16) s (at + 16) (R.descriptions held (16 + length s))) (λ t e. see o (at + 16) s e (R.signals t h))
   unfolding R.recordingBody
-  opened = rw fills at (see-bind o (at + 16) s (at + 16) (R.descriptions held (R.span h)) (λ t. R.signals t h))
+  opened =
+      see-bind o (at + 16) s (at + 16) (R.descriptions held (R.span h)) (λ t. R.signals t h)
+      ∙ ap (λ (n : ℕ). onward (see o (at + 16) s (at + 16) (R.descriptions held n)) (λ t e. see o (at + 16) s e (R.signals t h))) fills
 
   pub tables-stop : {r : Refusal} → tabled o file (at + 16) held s before (Tabled.Stop r) → body ≡ halts r
   tables-stop k = opened ∙ rw k

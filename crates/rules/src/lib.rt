@@ -32,6 +32,29 @@ impl FileHeader {
     pub const COUNT: usize = 18;
 
     pub const SPACES: usize = 22;
+
+    // The letters of the two orders, L and B.
+    pub const LITTLE: u32 = 76;
+
+    pub const BIG: u32 = 66;
+
+    // The letters of the scripts.
+    pub const SCRIPT_S: u32 = 83;
+
+    pub const SCRIPT_J: u32 = 74;
+
+    pub const SCRIPT_E: u32 = 69;
+
+    pub const SCRIPT_U: u32 = 85;
+
+    // The digits of K, and what fills its field and the last one.
+    pub const ZERO: u32 = 48;
+
+    pub const NINE: u32 = 57;
+
+    pub const SPACE: u8 = 32;
+
+    pub const MOST: u32 = 64;
 }
 
 // A record's first 16 bytes, and the byte where they stand in the part of the file that holds them.
@@ -202,8 +225,19 @@ impl Channel {
 
     pub const MICROSECONDS: u64 = 1000000;
 
-    // The format of 32-bit floats.
+    // The formats of samples that are not whole numbers of 32 bits: whole numbers of 16 and of 24, and floats of 32.
+    pub const SHORTS: u32 = 1;
+
+    pub const TRIPLES: u32 = 2;
+
     pub const FLOATS: u32 = 4;
+
+    // The bytes of a sample.
+    pub const SHORT_WIDTH: usize = 2;
+
+    pub const TRIPLE_WIDTH: usize = 3;
+
+    pub const LONG_WIDTH: usize = 4;
 }
 
 // Record 130: the patient's items.

@@ -152,7 +152,15 @@ fn frames_rest(o: Order, s: &[u8], at: usize, total: u32, f: Shape) -> Framed
     let size = f.size;
     let filled = f.filled;
     let n = s.len();
-    let taken = records::frames_from(o, s, at + Head::LENGTH, Head::LENGTH, total, size, filled);
+    let taken = records::frames_from(
+        o,
+        s,
+        at + Head::LENGTH,
+        Frames::BODY_FIRST,
+        total,
+        size,
+        filled,
+    );
     let Step::On(q) = taken else {
         return Framed::Stop(records::of_step(taken));
     };
