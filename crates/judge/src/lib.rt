@@ -24,7 +24,7 @@ pub enum Judged {
     Refused(Refusal),
 }
 
-fn of_recording(a: Recorded) -> Refusal
+pub fn of_recording(a: Recorded) -> Refusal
     ensures { λ r. ⌜ r ≡ refusalR a ⌝ }
 {
     match a {
