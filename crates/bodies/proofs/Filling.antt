@@ -159,25 +159,15 @@ module _ (w : Way) (s : List ℕ) where
     unfolding itemList see
     items-all h = left-nothing w b s d (itemsBody ok (16 + length s)) p [] (omega (arith, goes-same (rw h at (x .accepted)) .1)) (rw h at (x .left))
 
--- a sample has two bytes at least
-pub two-wide : (format : ℕ) → 2 ≤ width format
+-- a sample has two bytes at least, and four at most
+pub sample-wide : (format : ℕ) → (2 ≤ width format) × (width format ≤ 4)
 unfolding width
-two-wide format = go (eqb format 1) (eqb format 2)
+sample-wide format = go (eqb format 1) (eqb format 2)
   where
-    go : (x y : Bool) → 2 ≤ pick x 2 (pick y 3 4)
-    go true y = omega arith
-    go false true = omega arith
-    go false false = omega arith
-
--- and four at most
-four-wide : (format : ℕ) → width format ≤ 4
-unfolding width
-four-wide format = go (eqb format 1) (eqb format 2)
-  where
-    go : (x y : Bool) → pick x 2 (pick y 3 4) ≤ 4
-    go true y = omega arith
-    go false true = omega arith
-    go false false = omega arith
+    go : (x y : Bool) → (2 ≤ pick x 2 (pick y 3 4)) × (pick x 2 (pick y 3 4) ≤ 4)
+    go true y = (omega arith, omega arith)
+    go false true = (omega arith, omega arith)
+    go false false = (omega arith, omega arith)
 
 -- an answer with a width has this one
 one-width : (u v : ℕ) → Widths.One u ≡ Widths.One v → u ≡ v
@@ -341,7 +331,10 @@ module _ (o : Order) (file : List ℕ) where
   widths-told v q (suc n) h = go (allWide o file q (suc n) (width (numberAt o 4 file (q + 28)))) refl
     where
       go : (x : Bool) → allWide o file q (suc n) (width (numberAt o 4 file (q + 28))) ≡ x → (2 ≤ v) × (v ≤ 4) × (allWide o file q (suc n) v ≡ true)
-      go true e = let i : v ≡ width (numberAt o 4 file (q + 28)) = one-width v _ (h ∙ rw (widthsIn, e)) in rw i (two-wide (numberAt o 4 file (q + 28)), four-wide (numberAt o 4 file (q + 28)), e)
+      go true e =
+          let wide = sample-wide (numberAt o 4 file (q + 28)) in
+          let i : v ≡ width (numberAt o 4 file (q + 28)) = one-width v _ (h ∙ rw (widthsIn, e)) in
+          rw i (wide .0, wide .1, e)
       go false e = absurd (several-not v (h ∙ rw (widthsIn, e)))
 
 -- a run that the code wrote from byte 8 on, to the end

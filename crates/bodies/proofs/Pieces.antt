@@ -269,6 +269,14 @@ same-written : (keep : Bool) (o : Order) (t u : List Event) → render o t ≡ r
 same-written true o t u h g = h
 same-written false o t u h g = g
 
+-- the body of a 100
+abbrev basicBodyPieces : Walk (Unit {0})
+basicBodyPieces = R.numberList 4 3 >> (reserve 4 >> (R.numberList 4 6 >> (text 20 >> (R.numberList 4 1 >> (reserve 16 >> (text 32 >> give tt))))))
+
+copy-basicBody : (w : Way) (b : ℕ) (s : List ℕ) (at : ℕ) → copy w b s at R.basicBody ≡ copy w b s at basicBodyPieces
+unfolding R.numberList R.basicBody trace render cleared _>>=_ _>>_
+copy-basicBody w b s at = same-written (w .keep) (w .to) (trace (w .from) b s at R.basicBody) (trace (w .from) b s at basicBodyPieces) refl refl
+
 -- a 100 and a 125 with their heads
 abbrev basicPieces : Walk (Unit {0})
 basicPieces = R.numberList 4 7 >> (reserve 4 >> (R.numberList 4 6 >> (text 20 >> (R.numberList 4 1 >> (reserve 16 >> (text 32 >> give tt))))))
@@ -330,6 +338,19 @@ module _ (w : Way) (s : List ℕ) where
       (left-numbers w b s _ (R.basic room) _ 32 y₃ 4 6 (omega arith) h₃
       (left-reserve w b s _ (R.basic room) _ 28 y₂ 4 (omega arith) h₂
       (left-numbers w b s d (R.basic room) _ 0 y₁ 4 7 (omega arith) h₁ (left-whole w b s d (R.basic room) basicPieces k (copy-basic w b s b room))))))))
+
+  pub basicBody-written : (d y₁ y₂ y₃ y₄ y₅ y₆ y₇ : List ℕ) → length s ≡ 112 → length d ≡ length s →
+      Numbers y₁ 0 3 → Reserved y₂ 12 4 → Numbers y₃ 16 6 → y₄ ≡ take 20 (drop 40 s) → Numbers y₅ 60 1 → Reserved y₆ 64 16 → y₇ ≡ take (length s - 80) (drop 80 s) →
+      let d₆ = put 64 16 (put 60 4 (put 40 20 (put 16 24 (put 12 4 (put 0 12 d y₁) y₂) y₃) y₄) y₅) y₆ in
+      (b : ℕ) → put 80 (length d₆ - 80) d₆ y₇ ≡ copy w b s b R.basicBody
+  basicBody-written d y₁ y₂ y₃ y₄ y₅ y₆ y₇ l k h₁ h₂ h₃ h₄ h₅ h₆ h₇ b =
+      left-end w b s _ R.basicBody 80 y₇ 32 tt l h₇
+      (left-reserve w b s _ R.basicBody _ 64 y₆ 16 (omega arith) h₆
+      (left-numbers w b s _ R.basicBody _ 60 y₅ 4 1 (omega arith) h₅
+      (left-text w b s _ R.basicBody _ 40 y₄ 20 (omega arith) h₄
+      (left-numbers w b s _ R.basicBody _ 16 y₃ 4 6 (omega arith) h₃
+      (left-reserve w b s _ R.basicBody _ 12 y₂ 4 (omega arith) h₂
+      (left-numbers w b s d R.basicBody _ 0 y₁ 4 3 (omega arith) h₁ (left-whole w b s d R.basicBody basicBodyPieces k (copy-basicBody w b s b))))))))
 
   pub channel-written : (d y₁ y₂ y₃ y₄ y₅ : List ℕ) → length s ≡ 256 → length d ≡ length s →
       Numbers y₁ 0 17 → Reserved y₂ 68 4 → y₃ ≡ take 32 (drop 72 s) → Reserved y₄ 104 92 → y₅ ≡ take (length s - 196) (drop 196 s) →

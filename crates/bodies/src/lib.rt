@@ -21,6 +21,7 @@ use rules::Channel;
 use rules::Channels;
 use rules::Frame;
 use rules::Frames;
+use rules::Head;
 use rules::Item;
 use rules::Items;
 use words::Order;
@@ -37,6 +38,49 @@ pub struct Way {
 pub enum Widths {
     One(usize),
     Several,
+}
+
+// The body of a record 100.
+pub fn basic_body(w: Way, s: &[u8], d: &mut [u8])
+    requires { ⌜ (length (now s) ≡ 112) × (length (now d) ≡ 112) ⌝ }
+    ensures { λ _. ⌜ ((b : ℕ) → now (d .exit) ≡ copy w b (now (s .entry)) b R.basicBody) ⌝ }
+{
+    numbers(
+        w,
+        Head::WIDTH,
+        Basic::NUMBERS,
+        &s[..Basic::BODY_RESERVE],
+        &mut d[..Basic::BODY_RESERVE],
+    );
+    reserved(
+        w,
+        &s[Basic::BODY_RESERVE..Basic::BODY_YEAR],
+        &mut d[Basic::BODY_RESERVE..Basic::BODY_YEAR],
+    );
+    numbers(
+        w,
+        Head::WIDTH,
+        Basic::DATE_NUMBERS,
+        &s[Basic::BODY_YEAR..Basic::BODY_TIME],
+        &mut d[Basic::BODY_YEAR..Basic::BODY_TIME],
+    );
+    copy_run(
+        &s[Basic::BODY_TIME..Basic::BODY_MAINS],
+        &mut d[Basic::BODY_TIME..Basic::BODY_MAINS],
+    );
+    numbers(
+        w,
+        Head::WIDTH,
+        Basic::MAINS_NUMBERS,
+        &s[Basic::BODY_MAINS..Basic::BODY_SPARE],
+        &mut d[Basic::BODY_MAINS..Basic::BODY_SPARE],
+    );
+    reserved(
+        w,
+        &s[Basic::BODY_SPARE..Basic::BODY_COMMENT],
+        &mut d[Basic::BODY_SPARE..Basic::BODY_COMMENT],
+    );
+    copy_run(&s[Basic::BODY_COMMENT..], &mut d[Basic::BODY_COMMENT..]);
 }
 
 // A record 100.
@@ -81,7 +125,13 @@ fn channel(w: Way, s: &[u8], d: &mut [u8])
     requires { ⌜ (length (now s) ≡ 256) × (length (now d) ≡ 256) ⌝ }
     ensures { λ _. ⌜ ((b room i : ℕ) → now (d .exit) ≡ copy w b (now (s .entry)) b (R.channel room i)) ⌝ }
 {
-    numbers(w, 4, 17, &s[..Channel::RESERVE], &mut d[..Channel::RESERVE]);
+    numbers(
+        w,
+        Head::WIDTH,
+        Channel::NUMBERS,
+        &s[..Channel::RESERVE],
+        &mut d[..Channel::RESERVE],
+    );
     reserved(
         w,
         &s[Channel::RESERVE..Channel::LABEL],
@@ -102,11 +152,18 @@ fn channel(w: Way, s: &[u8], d: &mut [u8])
 // The body of a record 120 of m channels.
 pub fn channels_body(w: Way, m: u32, s: &[u8], d: &mut [u8])
     requires { ⌜ (length (now s) ≡ 16 + 256 * m) × (length (now d) ≡ 16 + 256 * m) ⌝ }
-    ensures { λ _. ⌜ ((b n : ℕ) (c : R.Basic) → numberAt (w .from) 4 (now (s .entry)) 0 ≡ m → now (d .exit) ≡ copy w b (now (s .entry)) b (R.channelsBody c n)) ⌝ }
+    ensures { λ _. ⌜ ((b n : ℕ) (c : R.Basic) → numberAt (w .from) 4 (now (s .entry)) 0 ≡ m →
+        now (d .exit) ≡ copy w b (now (s .entry)) b (R.channelsBody c n)) ⌝ }
 {
     let reserve = Channels::BODY_RESERVE;
     let mut at = Channels::BODY_SUBS;
-    numbers(w, 4, 2, &s[..reserve], &mut d[..reserve]);
+    numbers(
+        w,
+        Head::WIDTH,
+        Channels::NUMBERS,
+        &s[..reserve],
+        &mut d[..reserve],
+    );
     reserved(w, &s[reserve..at], &mut d[reserve..at]);
     let mut i: u32 = 0;
     while i < m {
@@ -120,7 +177,10 @@ pub fn channels_body(w: Way, m: u32, s: &[u8], d: &mut [u8])
 // The item at byte p of s: where the next one stands.
 fn item(w: Way, s: &[u8], p: usize, d: &mut [u8]) -> usize
     requires { ⌜ (p ≤ length (now s)) × (length (now d) ≡ length (now s)) ⌝ }
-    ensures { λ r. ⌜ (r ≤ length (now (s .entry))) × ((b : ℕ) (ok : ℕ → Bool) (x : R.Item) (e : ℕ) → see (w .from) b (now (s .entry)) (b + p) (R.item ok (length (now (s .entry)) - p)) ≡ goes x e → (e ≡ b + r) × (r ≡ p + R.itemSize x) × (now (d .exit) ≡ pasted (now (d .entry)) p (copy w b (now (s .entry)) (b + p) (R.item ok (length (now (s .entry)) - p))))) ⌝ }
+    ensures { λ r. ⌜ (r ≤ length (now (s .entry))) × ((b : ℕ) (ok : ℕ → Bool) (x : R.Item) (e : ℕ) →
+        see (w .from) b (now (s .entry)) (b + p) (R.item ok (length (now (s .entry)) - p)) ≡ goes x e → (e ≡ b + r) ×
+        (r ≡ p + R.itemSize x) ×
+        (now (d .exit) ≡ pasted (now (d .entry)) p (copy w b (now (s .entry)) (b + p) (R.item ok (length (now (s .entry)) - p))))) ⌝ }
 {
     let o = w.from;
     let left = s.len() - p;
@@ -136,7 +196,7 @@ fn item(w: Way, s: &[u8], p: usize, d: &mut [u8]) -> usize
     }
     let text = p + Item::TEXT;
     let end = p + size;
-    numbers(w, 4, 2, &s[p..text], &mut d[p..text]);
+    numbers(w, Head::WIDTH, Item::NUMBERS, &s[p..text], &mut d[p..text]);
     copy_run(&s[text..end], &mut d[text..end]);
     end
 }
@@ -144,13 +204,21 @@ fn item(w: Way, s: &[u8], p: usize, d: &mut [u8]) -> usize
 // The body of a record 130 or 200.
 pub fn items_body(w: Way, s: &[u8], d: &mut [u8])
     requires { ⌜ (8 ≤ length (now s)) × (length (now d) ≡ length (now s)) ⌝ }
-    ensures { λ _. ⌜ ((b : ℕ) (ok : ℕ → Bool) (l : List R.Item) (e : ℕ) → see (w .from) b (now (s .entry)) b (R.itemsBody ok (16 + length (now (s .entry)))) ≡ goes l e → now (d .exit) ≡ copy w b (now (s .entry)) b (R.itemsBody ok (16 + length (now (s .entry))))) ⌝ }
+    ensures { λ _. ⌜ ((b : ℕ) (ok : ℕ → Bool) (l : List R.Item) (e : ℕ) →
+        see (w .from) b (now (s .entry)) b (R.itemsBody ok (16 + length (now (s .entry)))) ≡ goes l e →
+        now (d .exit) ≡ copy w b (now (s .entry)) b (R.itemsBody ok (16 + length (now (s .entry))))) ⌝ }
 {
     let o = w.from;
-    let count = number4(o, s, 0);
+    let count = number4(o, s, Items::BODY_COUNT);
     let reserve = Items::BODY_RESERVE;
     let mut p = Items::BODY_FIRST;
-    numbers(w, 4, 1, &s[..reserve], &mut d[..reserve]);
+    numbers(
+        w,
+        Head::WIDTH,
+        Items::NUMBERS,
+        &s[..reserve],
+        &mut d[..reserve],
+    );
     reserved(w, &s[reserve..p], &mut d[reserve..p]);
     let mut i: u32 = 0;
     while i < count {
@@ -162,14 +230,17 @@ pub fn items_body(w: Way, s: &[u8], d: &mut [u8])
 // The samples, from byte p of s on, of the channel whose 125 stands at byte q of the file: where the next channel's stand.
 fn channel_samples(w: Way, file: &[u8], q: usize, t: u32, s: &[u8], p: usize, d: &mut [u8]) -> usize
     requires { ⌜ (q + 256 ≤ length (now file)) × (t ≤ 3600) × (p ≤ length (now s)) × (length (now d) ≡ length (now s)) ⌝ }
-    ensures { λ r. ⌜ (r ≤ length (now (s .entry))) × ((b : ℕ) (c : R.Channel) (cs : List R.Channel) → Kept (w .from) (now (file .entry)) q (c ∷ cs) → p + R.samplesIn t c * R.width (c .format) ≤ length (now (s .entry)) → (r ≡ p + R.samplesIn t c * R.width (c .format)) × (now (d .exit) ≡ pasted (now (d .entry)) p (copy w b (now (s .entry)) (b + p) (R.numberList (R.width (c .format)) (R.samplesIn t c))))) ⌝ }
+    ensures { λ r. ⌜ (r ≤ length (now (s .entry))) × ((b : ℕ) (c : R.Channel) (cs : List R.Channel) →
+        Kept (w .from) (now (file .entry)) q (c ∷ cs) → p + R.samplesIn t c * R.width (c .format) ≤ length (now (s .entry)) →
+        (r ≡ p + R.samplesIn t c * R.width (c .format)) ×
+        (now (d .exit) ≡ pasted (now (d .entry)) p (copy w b (now (s .entry)) (b + p) (R.numberList (R.width (c .format)) (R.samplesIn t c))))) ⌝ }
 {
     let o = w.from;
     let flags = number4(o, file, q + Channel::FLAGS);
     let format = number4(o, file, q + Channel::FORMAT);
     let rate = number4(o, file, q + Channel::RATE);
-    let width = records::width(format);
-    let n = records::samples_in(t, flags, rate);
+    let width = records::channels::width(format);
+    let n = records::channels::samples_in(t, flags, rate);
     let bytes = n * width;
     if s.len() - p < bytes {
         return p;
@@ -188,10 +259,10 @@ pub fn widths_of(o: Order, file: &[u8], cs: Channels) -> Widths
         return Widths::Several;
     }
     let mut sub = cs.subs;
-    let width = records::width(number4(o, file, sub + Channel::FORMAT));
+    let width = records::channels::width(number4(o, file, sub + Channel::FORMAT));
     let mut i: u32 = 0;
     while i < cs.count {
-        if records::width(number4(o, file, sub + Channel::FORMAT)) != width {
+        if records::channels::width(number4(o, file, sub + Channel::FORMAT)) != width {
             return Widths::Several;
         }
         sub += Channel::LENGTH;
@@ -203,7 +274,8 @@ pub fn widths_of(o: Order, file: &[u8], cs: Channels) -> Widths
 // The samples of a frame whose channels have one width: they are one run.
 fn one_run(w: Way, width: usize, s: &[u8], d: &mut [u8])
     requires { ⌜ (2 ≤ width) × (width ≤ 4) × (8 ≤ length (now s)) × (length (now d) ≡ length (now s)) ⌝ }
-    ensures { λ _. ⌜ ((b n : ℕ) → length (now (s .entry)) ≡ 8 + n * width → now (d .exit) ≡ pasted (now (d .entry)) 8 (copy w b (now (s .entry)) (b + 8) (R.numberList width n))) ⌝ }
+    ensures { λ _. ⌜ ((b n : ℕ) → length (now (s .entry)) ≡ 8 + n * width →
+        now (d .exit) ≡ pasted (now (d .entry)) 8 (copy w b (now (s .entry)) (b + 8) (R.numberList width n))) ⌝ }
 {
     let from = Frame::BODY_SAMPLES;
     let n = (s.len() - from) / width;
@@ -213,12 +285,20 @@ fn one_run(w: Way, width: usize, s: &[u8], d: &mut [u8])
 
 // A frame's clock and its samples, in one run or channel by channel; the 125s stand in the file.
 pub fn frame_body(w: Way, file: &[u8], cs: Channels, widths: Widths, t: u32, s: &[u8], d: &mut [u8])
-    requires { ⌜ (cs .subs + 256 * cs .count ≤ length (now file)) × (widths ≡ widthsIn (w .from) (now file) (cs .subs) (cs .count)) × (t ≤ 3600) × (8 ≤ length (now s)) × (length (now d) ≡ length (now s)) ⌝ }
-    ensures { λ _. ⌜ ((b : ℕ) (ch : List R.Channel) → length ch ≡ cs .count → Kept (w .from) (now (file .entry)) (cs .subs) ch → length (now (s .entry)) ≡ 8 + R.sampleBytes t ch → now (d .exit) ≡ copy w b (now (s .entry)) b (filling t ch)) ⌝ }
+    requires { ⌜ (cs .subs + 256 * cs .count ≤ length (now file)) × (widths ≡ widthsIn (w .from) (now file) (cs .subs) (cs .count)) × (t ≤ 3600) ×
+        (8 ≤ length (now s)) × (length (now d) ≡ length (now s)) ⌝ }
+    ensures { λ _. ⌜ ((b : ℕ) (ch : List R.Channel) → length ch ≡ cs .count → Kept (w .from) (now (file .entry)) (cs .subs) ch →
+        length (now (s .entry)) ≡ 8 + R.sampleBytes t ch → now (d .exit) ≡ copy w b (now (s .entry)) b (filling t ch)) ⌝ }
 {
     let reserve = Frame::BODY_RESERVE;
     let mut p = Frame::BODY_SAMPLES;
-    numbers(w, 2, 3, &s[..reserve], &mut d[..reserve]);
+    numbers(
+        w,
+        Frame::CLOCK_WIDTH,
+        Frame::CLOCK_NUMBERS,
+        &s[..reserve],
+        &mut d[..reserve],
+    );
     reserved(w, &s[reserve..p], &mut d[reserve..p]);
     if let Widths::One(width) = widths {
         one_run(w, width, s, d);

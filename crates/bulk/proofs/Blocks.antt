@@ -1,15 +1,15 @@
 -- A block of bytes, loaded whole and stored whole in another order.
 -- Assumes nothing.
 use mathlib.Core.Path.{_≡_, refl, sym, ap, _∙_, subst}
-use mathlib.Core.List.{List, [], _∷_, _++_}
-use Prim.Native.Nat.{ℕ, zero, suc, _+_, _<_}
+use mathlib.Core.List.{List, [], _∷_, append-nil}
+use Prim.Native.Nat.{ℕ, zero, suc, _*_, _≤_, _<_}
 use native.Mathlib.Nat.{suc-inj}
 use native.Mathlib.Omega.{arith}
-use lib.ListN.{length, getD, take, drop, length-append}
-use lib.Seq.{sets, length-sets}
-use Rattle.words.specs.Runs.{turned, pasted}
-use Rattle.words.proofs.Fronts.{stored}
-use Rattle.words.proofs.Runs.{part-pasted, more-written, all-written}
+use lib.ListN.{length, getD, take, drop}
+use lib.Seq.{sets, length-sets, take-all}
+use Rattle.words.specs.Runs.{turned}
+use Rattle.words.proofs.Fronts.{stored, Begun}
+use Rattle.bulk.specs.Runs.{Run}
 
 -- the bytes of s at some places, and its first n bytes, written out
 abbrev pub picked : List ℕ → List ℕ → List ℕ
@@ -40,28 +40,12 @@ length-picked (k ∷ ks) s = ap suc (length-picked ks s)
 
 -- where the places ks turn the n numbers of every block that is written out, storing what stands there turns the block s
 pub block-turned :
-    (w n : ℕ) (ks s d : List ℕ) → length s ≡ length ks → length d ≡ length ks →
+    {w n : ℕ} {s d : List ℕ} (ks : List ℕ) → Run w n s d → length ks ≡ n * w →
     picked ks (listed (length ks) s) ≡ turned w n (listed (length ks) s) → sets d 0 (picked ks s) ≡ turned w n s
-block-turned w n ks s d hs hd e =
-    stored d (picked ks s) (hd ∙ sym (length-picked ks s))
-    ∙ written-out (length ks) s (λ (t : List ℕ). picked ks t ≡ turned w n t) hs e
+block-turned {w} {n} {s} {d} ks r k e =
+    stored d (picked ks s) (r .room ∙ sym (length-picked ks s ∙ k))
+    ∙ written-out (length ks) s (λ (t : List ℕ). picked ks t ≡ turned w n t) (r .source ∙ sym k) e
 
--- a part that a call wrote behind what was written before
-part-more : (d₀ d xs ys : List ℕ) (at m : ℕ) → d ≡ pasted d₀ 0 xs → at ≡ length xs → length ys ≡ m → take at d ++ (ys ++ drop m (drop at d)) ≡ pasted d₀ 0 (xs ++ ys)
-part-more d₀ d xs ys at m e h k = part-pasted d ys at m k ∙ more-written d₀ d xs ys at e h
-
--- a block that two calls wrote, or three, n bytes each
-module _ (n : ℕ) (d x y : List ℕ) (hx : length x ≡ n) (hy : length y ≡ n) where
-  abbrev two : List ℕ
-  two = take n (x ++ drop n d) ++ (y ++ drop n (drop n (x ++ drop n d)))
-
-  two-written : two ≡ pasted d 0 (x ++ y)
-  two-written = part-more d (x ++ drop n d) x y n n (part-pasted d x 0 n hx) (sym hx) hy
-
-  pub two-parts : length d ≡ n + n → two ≡ x ++ y
-  two-parts h = all-written d two (x ++ y) two-written (simp length-append (omega arith))
-
-  pub three-parts : (z : List ℕ) → length z ≡ n → length d ≡ n + n + n → take (n + n) two ++ (z ++ drop n (drop (n + n) two)) ≡ (x ++ y) ++ z
-  three-parts z hz h =
-      let l : n + n ≡ length (x ++ y) = simp length-append (omega arith) in
-      all-written d _ ((x ++ y) ++ z) (part-more d two (x ++ y) z (n + n) n two-written l hz) (simp length-append (omega arith))
+-- where nothing is left, all is written
+pub begun-all : {m : ℕ} {all d : List ℕ} {n : ℕ} → Begun m all d n [] → m ≤ n → d ≡ all
+begun-all {d = d} {n} b h = sym (b .is ∙ (append-nil (take n d) ∙ take-all n d (omega (arith, b .long))))

@@ -1,10 +1,16 @@
--- Words put together from three, each under a mask.
+-- Words of eight bytes, put together from three, each under a mask.
 -- Assumes nothing.
+use mathlib.Core.Path.{_≡_}
 use mathlib.Core.List.{List}
-use Prim.Native.Nat.{ℕ}
+use Prim.Native.Nat.{ℕ, _<_}
 use lib.Bits.{bitAnd, bitOr}
 use lib.ListN.{take, drop}
 use Rattle.words.specs.Numbers.{word}
+
+-- a byte, and the same number with more bits
+pub record Widened (x r : ℕ) : Type 0 where
+  pub same : r ≡ x
+  pub small : r < 256
 
 -- what x has under the mask a, y under b and z under c
 abbrev pub masked : ℕ → ℕ → ℕ → ℕ → ℕ → ℕ → ℕ

@@ -1,15 +1,16 @@
 // Runs of bytes in bulk: copied, cleared, and numbers of one width turned to the other byte order.
 ghost use mathlib.Core.Path.{_≡_};
 ghost use mathlib.Core.List.{_++_};
-ghost use Prim.Native.Nat.{_+_, _*_, _≤_, _<_};
+ghost use Prim.Native.Nat.{_*_, _≤_};
 ghost use lib.ListN.{length, drop, replicate};
 ghost use Rattle.words.specs.Numbers.{word, bytesOf};
 ghost use Rattle.words.specs.Runs.{turned};
-ghost use Rattle.bulk.specs.Masks.{wovenWord};
+ghost use Rattle.bulk.specs.Masks.{Widened, wovenWord};
+ghost use Rattle.bulk.specs.Runs.{Run, Within};
 
 // One number of two bytes, turned.
 fn one_of_2(s: &[u8], d: &mut [u8])
-    requires { ⌜ (length (now s) ≡ 2) × (length (now d) ≡ 2) ⌝ }
+    requires { ⌜ Run 2 1 (now s) (now d) ⌝ }
     ensures { λ _. ⌜ now (d .exit) ≡ turned 2 1 (now (s .entry)) ⌝ }
 {
     let b0 = s[0];
@@ -20,7 +21,7 @@ fn one_of_2(s: &[u8], d: &mut [u8])
 
 // Eight numbers of two bytes, turned: all loads, then all stores, which the compiler makes one load and one store.
 fn eight_of_2(s: &[u8], d: &mut [u8])
-    requires { ⌜ (length (now s) ≡ 16) × (length (now d) ≡ 16) ⌝ }
+    requires { ⌜ Run 2 8 (now s) (now d) ⌝ }
     ensures { λ _. ⌜ now (d .exit) ≡ turned 2 8 (now (s .entry)) ⌝ }
 {
     let b0 = s[0];
@@ -59,7 +60,7 @@ fn eight_of_2(s: &[u8], d: &mut [u8])
 
 // One number of three bytes, turned.
 fn one_of_3(s: &[u8], d: &mut [u8])
-    requires { ⌜ (length (now s) ≡ 3) × (length (now d) ≡ 3) ⌝ }
+    requires { ⌜ Run 3 1 (now s) (now d) ⌝ }
     ensures { λ _. ⌜ now (d .exit) ≡ turned 3 1 (now (s .entry)) ⌝ }
 {
     let b0 = s[0];
@@ -72,7 +73,7 @@ fn one_of_3(s: &[u8], d: &mut [u8])
 
 // A byte, as a number of 64 bits.
 fn wide(x: u8) -> u64
-    ensures { λ r. ⌜ (r ≡ x) × (r < 256) ⌝ }
+    ensures { λ r. ⌜ Widened x r ⌝ }
 {
     x as u64
 }
@@ -179,7 +180,7 @@ fn put_words(d: &mut [u8], w: Words)
 
 // Eight numbers of three bytes, turned, from their bytes with two before and two behind.
 fn eight_of_3(s: &[u8], d: &mut [u8])
-    requires { ⌜ (length (now s) ≡ 28) × (length (now d) ≡ 24) ⌝ }
+    requires { ⌜ Within 8 (now s) (now d) ⌝ }
     ensures { λ _. ⌜ now (d .exit) ≡ turned 3 8 (drop 2 (now (s .entry))) ⌝ }
 {
     let w = turned_words(s);
@@ -188,7 +189,7 @@ fn eight_of_3(s: &[u8], d: &mut [u8])
 
 // Sixteen numbers of three bytes: all loads, then all stores, which the compiler makes three times sixteen bytes.
 fn sixteen_of_3(s: &[u8], d: &mut [u8])
-    requires { ⌜ (length (now s) ≡ 52) × (length (now d) ≡ 48) ⌝ }
+    requires { ⌜ Within 16 (now s) (now d) ⌝ }
     ensures { λ _. ⌜ now (d .exit) ≡ turned 3 16 (drop 2 (now (s .entry))) ⌝ }
 {
     let v = turned_words(&s[0..28]);
@@ -199,7 +200,7 @@ fn sixteen_of_3(s: &[u8], d: &mut [u8])
 
 // One number of four bytes, turned.
 fn one_of_4(s: &[u8], d: &mut [u8])
-    requires { ⌜ (length (now s) ≡ 4) × (length (now d) ≡ 4) ⌝ }
+    requires { ⌜ Run 4 1 (now s) (now d) ⌝ }
     ensures { λ _. ⌜ now (d .exit) ≡ turned 4 1 (now (s .entry)) ⌝ }
 {
     let b0 = s[0];
@@ -214,7 +215,7 @@ fn one_of_4(s: &[u8], d: &mut [u8])
 
 // Four numbers of four bytes, turned, in the form of `eight_of_2`.
 fn four_of_4(s: &[u8], d: &mut [u8])
-    requires { ⌜ (length (now s) ≡ 16) × (length (now d) ≡ 16) ⌝ }
+    requires { ⌜ Run 4 4 (now s) (now d) ⌝ }
     ensures { λ _. ⌜ now (d .exit) ≡ turned 4 4 (now (s .entry)) ⌝ }
 {
     let b0 = s[0];
@@ -253,7 +254,7 @@ fn four_of_4(s: &[u8], d: &mut [u8])
 
 // The numbers of two bytes that are left after the blocks of eight.
 fn rest_of_2(src: &[u8], dst: &mut [u8], n: usize)
-    requires { ⌜ (length (now src) ≡ n * 2) × (length (now dst) ≡ n * 2) ⌝ }
+    requires { ⌜ Run 2 n (now src) (now dst) ⌝ }
     ensures { λ _. ⌜ now (dst .exit) ≡ turned 2 n (now (src .entry)) ⌝ }
 {
     let mut i = 0;
@@ -268,7 +269,7 @@ fn rest_of_2(src: &[u8], dst: &mut [u8], n: usize)
 
 // The numbers of three bytes that are left after the blocks.
 fn rest_of_3(src: &[u8], dst: &mut [u8], n: usize)
-    requires { ⌜ (length (now src) ≡ n * 3) × (length (now dst) ≡ n * 3) ⌝ }
+    requires { ⌜ Run 3 n (now src) (now dst) ⌝ }
     ensures { λ _. ⌜ now (dst .exit) ≡ turned 3 n (now (src .entry)) ⌝ }
 {
     let mut i = 0;
@@ -283,7 +284,7 @@ fn rest_of_3(src: &[u8], dst: &mut [u8], n: usize)
 
 // The numbers of four bytes that are left after the blocks of four.
 fn rest_of_4(src: &[u8], dst: &mut [u8], n: usize)
-    requires { ⌜ (length (now src) ≡ n * 4) × (length (now dst) ≡ n * 4) ⌝ }
+    requires { ⌜ Run 4 n (now src) (now dst) ⌝ }
     ensures { λ _. ⌜ now (dst .exit) ≡ turned 4 n (now (src .entry)) ⌝ }
 {
     let mut i = 0;
@@ -298,7 +299,7 @@ fn rest_of_4(src: &[u8], dst: &mut [u8], n: usize)
 
 // A run of n numbers of two bytes, turned.
 pub fn turn2(src: &[u8], dst: &mut [u8], n: usize)
-    requires { ⌜ (length (now src) ≡ n * 2) × (length (now dst) ≡ n * 2) ⌝ }
+    requires { ⌜ Run 2 n (now src) (now dst) ⌝ }
     ensures { λ _. ⌜ now (dst .exit) ≡ turned 2 n (now (src .entry)) ⌝ }
 {
     let mut i = 0;
@@ -314,7 +315,7 @@ pub fn turn2(src: &[u8], dst: &mut [u8], n: usize)
 
 // A run of n numbers of three bytes, turned. The first and the last are turned by themselves, since a block reads two bytes before it and two behind it.
 pub fn turn3(src: &[u8], dst: &mut [u8], n: usize)
-    requires { ⌜ (length (now src) ≡ n * 3) × (length (now dst) ≡ n * 3) ⌝ }
+    requires { ⌜ Run 3 n (now src) (now dst) ⌝ }
     ensures { λ _. ⌜ now (dst .exit) ≡ turned 3 n (now (src .entry)) ⌝ }
 {
     if n == 0 {
@@ -340,7 +341,7 @@ pub fn turn3(src: &[u8], dst: &mut [u8], n: usize)
 
 // A run of n numbers of four bytes, turned.
 pub fn turn4(src: &[u8], dst: &mut [u8], n: usize)
-    requires { ⌜ (length (now src) ≡ n * 4) × (length (now dst) ≡ n * 4) ⌝ }
+    requires { ⌜ Run 4 n (now src) (now dst) ⌝ }
     ensures { λ _. ⌜ now (dst .exit) ≡ turned 4 n (now (src .entry)) ⌝ }
 {
     let mut i = 0;

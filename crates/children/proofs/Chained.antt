@@ -18,6 +18,7 @@ use Rattle.rules.specs.Rules as R
 use Rattle.rules.specs.Rules.{Head, Basic, Channel, Next, Part, Held, Frames, Placed, head, admit, span, coded, fixed, basic, basicBody, next, more, part, channels, items, patientCode, eventCode, frames, makerCode, delimiter, padding, heldChannels, heldPatient, recordingBody}
 use Rattle.rules.proofs.Steps.{stepByStep, body-steps}
 use Rattle.rules.proofs.Room.{Rests, stays-head, stays-admit, stays-basicBody, stays-basic, stays-channelsRest, stays-itemsRest, stays-framesRest, stays-delimiter}
+use Rattle.records.proofs.Opened.{halted}
 use Rattle.children.specs.Children.{Said, said, _then_, Known, knownOf, basicRest, makerRest, Reads, Heads, heading, Inner, is100, is120, is130, is200, is140, isMaker, Chain, more as chained, last}
 use Rattle.children.proofs.Giving.{Gives, gives-went, gives-bind, gives-then}
 use Rattle.children.proofs.Saying.{nothing, then-assoc, nothing-then, said-bind, said-then, said-give, said-gave, said-require}
@@ -129,7 +130,7 @@ module _ (o : Order) (b : ℕ) (s : List ℕ) (kn : Known) where
 
   next-zero : {X : Type 0} (at room : ℕ) {n : Next} {e : ℕ} → see o b s at (next zero room) ≡ goes n e → X
   unfolding next see
-  next-zero at room g = absurd (let z : _≡_ {A = ℕ} 0 1 = cc in omega arith)
+  next-zero at room g = halted refl g
 
   next-leads : (fuel : ℕ) → Leading (next fuel)
   unfolding next
@@ -167,7 +168,7 @@ module _ (o : Order) (b : ℕ) (s : List ℕ) (kn : Known) where
 
     lacked-leads : (held : Option A) {x : Part A} {e : ℕ} → see o b s (b + (p + 16)) (lacked held) ≡ goes x e → Leads (Rest p) (said o b s (b + (p + 16)) (lacked held)) (x .next) e
     unfolding see
-    lacked-leads none g = absurd (let z : _≡_ {A = ℕ} 0 1 = cc in omega arith)
+    lacked-leads none g = halted refl g
     lacked-leads (some a) {x} g =
         let y = goes-same g in
         let i : record { makers = []; head = n .head; room = n .room } ≡ x .next = ap (λ (t : Part A). t .next) (y .0) in

@@ -3,12 +3,12 @@ use mathlib.Core.Path.{_≡_, refl}
 use mathlib.Core.Bool.{true, false}
 use mathlib.Core.List.{List}
 use Prim.Native.Nat.{ℕ, _+_, _-_}
-use native.Mathlib.Omega.{arith}
 use Rattle.words.specs.Numbers.{bytesAt, numberAt}
 use Rattle.words.specs.declared.Order.{Order}
 use Rattle.walk.specs.Walk.{laid, Walk, give, refuse, check, number, read, skip, list, _>>=_, _>>_}
 use Rattle.walk.specs.See.{goes, gate, see}
 use Rattle.walk.proofs.Went.{goes-same}
+use Rattle.records.proofs.Opened.{halted}
 
 module _ {A : Type 0} (Q : A → Type 0) where
   abbrev pub Gives : Walk A → Type 0
@@ -23,9 +23,9 @@ module _ {A : Type 0} (Q : A → Type 0) where
   pub gives-went : (o : Order) (b : ℕ) (s : List ℕ) (at : ℕ) (w : Walk A) {a : A} {e : ℕ} → see o b s at w ≡ goes a e → Gives w → Q a
   unfolding see gate
   gives-went o b s at (give x) g h = rw (goes-same g .0) at h
-  gives-went o b s at (refuse n p) g h = absurd (let z : _≡_ {A = ℕ} 0 1 = cc in omega arith)
+  gives-went o b s at (refuse n p) g h = halted refl g
   gives-went o b s at (check true n p w) g h = gives-went o b s at w g h
-  gives-went o b s at (check false n p w) g h = absurd (let z : _≡_ {A = ℕ} 0 1 = cc in omega arith)
+  gives-went o b s at (check false n p w) g h = halted refl g
   gives-went o b s at (number n f) g h = gives-went o b s (at + n) (f (numberAt o n s (at - b))) g (h _)
   gives-went o b s at (read k n f) g h = gives-went o b s (at + n) (f (laid o k (bytesAt n s (at - b)))) g (h _)
   gives-went o b s at (skip n w) g h = gives-went o b s (at + n) w g h

@@ -2,7 +2,7 @@
 -- Assumes nothing.
 use mathlib.Core.Path.{_≡_, refl}
 use mathlib.Core.Bool.{Bool, true}
-use mathlib.Core.List.{List, [], append-assoc}
+use mathlib.Core.List.{List, [], append-assoc, append-nil}
 use Prim.Native.Nat.{ℕ}
 use Rattle.words.specs.declared.Order.{Order}
 use Rattle.walk.specs.Walk.{Walk, give, _>>=_, _>>_, require}
@@ -20,6 +20,10 @@ then-assoc x y z = rw (append-assoc, append-assoc)
 
 abbrev pub nothing : Said
 nothing = record { rows = []; events = [] }
+
+pub then-nothing : (x : Said) → x then nothing ≡ x
+unfolding _then_
+then-nothing x = rw (append-nil, append-nil)
 
 pub nothing-then : (x : Said) → nothing then x ≡ x
 unfolding _then_

@@ -1,6 +1,6 @@
 -- What the cursor's step comes to in a chain.
 -- Assumes nothing.
-use mathlib.Core.Path.{_≡_, refl, sym, _∙_}
+use mathlib.Core.Path.{_≡_, sym, ap, _∙_}
 use mathlib.Core.Bool.{Bool, true, _||_}
 use mathlib.Core.List.{List}
 use Prim.Native.Nat.{ℕ, _+_, _-_, _≤_}
@@ -13,8 +13,17 @@ use Rattle.walk.specs.Walk.{Walk, _>>=_, _>>_, require, text}
 use Rattle.walk.specs.See.{stops, goes, see}
 use Rattle.walk.proofs.Seen.{and-left, and-right, gate-true}
 use Rattle.walk.proofs.Went.{goes-same, gate-went}
+use Rattle.rules.specs.declared.Head as At
 use Rattle.rules.specs.Rules.{Head, head, admit, span, limit, basicBody, channels, channelsBody, items, itemsBody, patientCode, eventCode, frames, framesBody, makerCode, delimiter}
-use Rattle.children.specs.Children.{Said, Known, Heads, Inner, is100, is120, is130, is200, is140, isMaker, Chain, more, last, Parted, Closed}
+use Rattle.records.specs.Says.{headOf}
+use Rattle.records.proofs.Opened.{halted}
+use Rattle.children.specs.Children.{Said, Known, Heads, Inner, is100, is120, is130, is200, is140, isMaker, Chain, more, last, Parted, Closed, RecordAt, NoRecord, Visits}
+use Rattle.children.specs.declared.Direct.{Direct}
+use Rattle.children.specs.declared.Direct.the-variants as Direct
+
+-- the cursor's answer where it is a record
+pub recorded : {o : Order} {b : ℕ} {s : List ℕ} {p : ℕ} {a : Direct} {h : At.Head} {q : ℕ} → a ≡ Direct.Record h q → Visits o b s p a → RecordAt o b s p h q
+recorded e v = rw e at v
 
 low : (n m : ℕ) → 16 ≤ n → leb n m ≡ true → 16 ≤ m
 low n m z q = let l : n ≤ m = leb-true n m q in omega arith
@@ -55,21 +64,28 @@ module _ (o : Order) (b : ℕ) (s : List ℕ) where
     inner-coded (is140 q r) z = omega arith
     inner-coded (isMaker q r) z = let n : 1024 ≤ h .code = leb-true 1024 (h .code) (and-left (leb 1024 (h .code)) _ q) in omega arith
 
-  -- at byte p, where the code found the head h
+  -- what the cursor's answer at byte p says of a chain from there on
   module _ {k : Known} {p : ℕ} {l : Said} where
-    pub chain-headless : {X : Type 0} {m q : ℕ} → Chain o b s k p l → see o b s (b + p) (head (length s - p)) ≡ stops m q → X
-    chain-headless (more h own rest k₁ i d e) z = absurd (let z : _≡_ {A = ℕ} 0 1 = cc in omega arith)
-    chain-headless (last h k₁ d e) z = absurd (let z : _≡_ {A = ℕ} 0 1 = cc in omega arith)
+    pub chain-parted : {h : At.Head} {q : ℕ} → RecordAt o b s p h q → Chain o b s k p l → Parted o b s k p (headOf h) q l
+    chain-parted {h} v (more h₁ own rest k₁ i d e) =
+        let y : h₁ ≡ headOf h = goes-same (sym k₁ ∙ v .heads) .0 in
+        record { own = own; rest = rest; inner = rw y at i; on = rw (v .ends) (rw y at d); is = e }
+    chain-parted {h} v (last h₁ k₁ d e) =
+        let y : h₁ ≡ headOf h = goes-same (sym k₁ ∙ v .heads) .0 in
+        absurd (v .kind (delimiter-coded (b + (p + 16)) (headOf h) (rw y at d)))
 
-    pub chain-parted : {h : Head} {q : ℕ} → q ≡ p + span h → Chain o b s k p l → Heads o b s p h → (h .code ≡ 0 → ⊥) → Parted o b s k p h q l
-    chain-parted {h} z (more h₁ own rest k₁ i d e) j n = let y : h₁ ≡ h = goes-same (sym k₁ ∙ j) .0 in record { own = own; rest = rest; inner = rw y at i; on = rw z (rw y at d); is = e }
-    chain-parted {h} z (last h₁ k₁ d e) j n = let y : h₁ ≡ h = goes-same (sym k₁ ∙ j) .0 in absurd (n (delimiter-coded (b + (p + 16)) h (rw y at d)))
+    pub chain-closed : NoRecord o b s p → Chain o b s k p l → Closed o b s p l
+    chain-closed v (more h own rest k₁ i d e) = absurd (v .none h k₁ (inner-coded p i) (inner-admits p i))
+    chain-closed v (last h k₁ d e) = record { head = h; stands = k₁; ends = d; is = e }
 
-    pub chain-closed : {h : Head} → Chain o b s k p l → Heads o b s p h → h .code ≡ 0 → Closed o b s p l
-    chain-closed {h} (more h₁ own rest k₁ i d e) j n = let y : h₁ ≡ h = goes-same (sym k₁ ∙ j) .0 in absurd (inner-coded p (rw y at i) n)
-    chain-closed {h} (last h₁ k₁ d e) j n = record { head = h₁; stands = k₁; ends = d; is = e }
+-- the cursor's answers at byte p, by what the code found there: no head, the delimiter's, one that is not admitted
+module _ {o : Order} {b : ℕ} {s : List ℕ} {p : ℕ} where
+  pub none-headless : {m q : ℕ} → see o b s (b + p) (head (length s - p)) ≡ stops m q → NoRecord o b s p
+  none-headless z = record { none = λ h k _ _. halted z k }
 
-    pub chain-refused : {X : Type 0} {h : Head} {m q : ℕ} → Chain o b s k p l → Heads o b s p h → (h .code ≡ 0 → ⊥) → see o b s (b + (p + 16)) (admit (length s - p) 128 (leb 16) (λ _. true) h) ≡ stops m q → X
-    chain-refused d j n a =
-        let a₁ = inner-admits p (chain-parted refl d j n .inner) in
-        absurd (let z : _≡_ {A = ℕ} 0 1 = cc in omega arith)
+  module _ {h : Head} (found : Heads o b s p h) where
+    pub none-delimiter : h .code ≡ 0 → NoRecord o b s p
+    none-delimiter z = record { none = λ h₁ k n _. n (ap (λ (x : Head). x .code) (goes-same (sym k ∙ found) .0) ∙ z) }
+
+    pub none-refused : {m q : ℕ} → see o b s (b + (p + 16)) (admit (length s - p) 128 (leb 16) (λ _. true) h) ≡ stops m q → NoRecord o b s p
+    none-refused z = record { none = λ h₁ k _ a. halted z (rw (goes-same (sym k ∙ found) .0) at a) }

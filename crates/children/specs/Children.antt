@@ -1,17 +1,18 @@
--- The records that stand directly in a recording's body, one after the other, up to its delimiter.
+-- The records that stand directly in a recording's body, one after the other, up to its delimiter; and what the cursor says of the one at a byte.
 -- Assumes nothing.
 use mathlib.Core.Path.{_≡_}
 use mathlib.Core.Bool.{Bool, true}
 use mathlib.Core.List.{List, _++_}
 use Prim.Native.Nat.{ℕ, _+_, _-_, _≤_}
-use lib.Dec.{leb, eqb}
 use lib.ListN.{length}
+use Rattle.words.specs.Sizes.{Addressable}
 use Rattle.words.specs.declared.Order.{Order}
 use Rattle.walk.specs.Walk.{Row, Event, Walk, _>>_, text}
 use Rattle.walk.specs.See.{goes, see}
 use Rattle.walk.specs.Tell.{tell}
 use Rattle.walk.specs.Trace.{trace}
-use Rattle.rules.specs.Rules.{Head, Basic, Channel, Placed, head, admit, span, basicBody, channels, items, patientCode, eventCode, frames, makerCode, delimiter, padding}
+use Rattle.rules.specs.declared.Head as At
+use Rattle.rules.specs.Rules.{Head, Basic, Channel, Placed, head, basicRule, makerRule, anyRule, admitBy, span, basicBody, channels, items, patientCode, eventCode, frames, makerCode, delimiter, padding}
 use Rattle.records.specs.Says.{headOf}
 use Rattle.children.specs.declared.Direct.{Direct}
 use Rattle.children.specs.declared.Direct.the-variants as Direct
@@ -30,16 +31,19 @@ _then_ x y = record { rows = x .rows ++ y .rows; events = x .events ++ y .events
 
 -- the rest of a 100, and of a maker's record, whose head is read
 abbrev pub basicRest : ℕ → Head → Walk Basic
-basicRest room h = admit room 0 (eqb 128) (eqb 0) h >> basicBody
+basicRest room h = admitBy basicRule room h >> basicBody
 
 abbrev pub makerRest : ℕ → Head → Walk (List ℕ)
-makerRest room h = admit room 128 (leb 16) (λ _. true) h >> text (span h - 16)
+makerRest room h = admitBy makerRule room h >> text (span h - 16)
 
--- what a recording's 120 and 140 are read with, as its reading has it: its 100, whether it has a 120 of its own, the channels that hold, and how far back 100's count of channels stands
+-- what a recording's 120 and 140 are read with, as its reading has it
 pub record Known : Type 0 where
+  -- its 100
   pub basic : Basic
+  -- whether it has a 120 of its own, and the channels that hold
   pub own : Bool
   pub channels : List Channel
+  -- how far back 100's count of channels stands from its 140
   pub back : ℕ
 
 abbrev pub knownOf : Placed → Known
@@ -59,6 +63,10 @@ module _ (o : Order) (b : ℕ) (s : List ℕ) (p : ℕ) where
   abbrev pub heading : Said
   heading = said o b s (b + p) (head (length s - p))
 
+  -- what a delimiter's head, and the padding behind it, say
+  abbrev pub closing : Head → Said
+  closing h = said o b s (b + (p + 16)) (delimiter h) then said o b s (b + (p + 16)) (padding (length s - p - 16))
+
   -- a record that may stand in a recording, by its code
   pub data Inner (k : Known) (h : Head) (l : Said) : Type 0 where
     is100 : h .code ≡ 100 → Reads (basicRest (length s - p) h) l → Inner k h l
@@ -70,9 +78,10 @@ module _ (o : Order) (b : ℕ) (s : List ℕ) (p : ℕ) where
 
 -- from byte p on: records, each with its head, its rest and what follows it, and then the delimiter with what pads the recording; l is all that is said
 pub data Chain (o : Order) (b : ℕ) (s : List ℕ) (k : Known) : ℕ → Said → Type 0 where
-  more : {p : ℕ} {l : Said} (h : Head) (own rest : Said) → Heads o b s p h → Inner o b s p k h own → Chain o b s k (p + span h) rest → l ≡ heading o b s p then (own then rest) → Chain o b s k p l
+  more : {p : ℕ} {l : Said} (h : Head) (own rest : Said) → Heads o b s p h → Inner o b s p k h own → Chain o b s k (p + span h) rest →
+      l ≡ heading o b s p then (own then rest) → Chain o b s k p l
   last : {p : ℕ} {l : Said} (h : Head) → Heads o b s p h → see o b s (b + (p + 16)) (delimiter h) ≡ goes tt (b + (p + 16)) →
-      l ≡ heading o b s p then (said o b s (b + (p + 16)) (delimiter h) then said o b s (b + (p + 16)) (padding (length s - p - 16))) → Chain o b s k p l
+      l ≡ heading o b s p then closing o b s p h → Chain o b s k p l
 
 -- what a chain comes to at byte p: a record with the head h that ends at q, or the delimiter
 pub record Parted (o : Order) (b : ℕ) (s : List ℕ) (k : Known) (p : ℕ) (h : Head) (q : ℕ) (l : Said) : Type 0 where
@@ -86,9 +95,34 @@ pub record Closed (o : Order) (b : ℕ) (s : List ℕ) (p : ℕ) (l : Said) : Ty
   pub head : Head
   pub stands : Heads o b s p head
   pub ends : see o b s (b + (p + 16)) (delimiter head) ≡ goes tt (b + (p + 16))
-  pub is : l ≡ heading o b s p then (said o b s (b + (p + 16)) (delimiter head) then said o b s (b + (p + 16)) (padding (length s - p - 16)))
+  pub is : l ≡ heading o b s p then closing o b s p head
 
--- the cursor's answer at byte p of a part whose records are a chain from there on
+-- the head h is admitted, whatever its serial: what every record meets but the delimiter
+module _ (o : Order) (b : ℕ) (s : List ℕ) (p : ℕ) where
+  abbrev pub Admits : Head → Type 0
+  Admits h = see o b s (b + (p + 16)) (admitBy anyRule (length s - p) h) ≡ goes tt (b + (p + 16))
+
+  -- a record other than the delimiter stands at byte p of the part s: h is its head as the code has it, and it ends at byte q
+  pub record RecordAt (h : At.Head) (q : ℕ) : Type 0 where
+    pub place : h .at ≡ p
+    pub heads : Heads o b s p (headOf h)
+    pub kind : h .code ≡ 0 → ⊥
+    pub admits : Admits (headOf h)
+    pub ends : q ≡ p + span (headOf h)
+    -- its head is inside it, and it is inside the part
+    pub least : p + 16 ≤ q
+    pub inside : q ≤ length s
+
+  -- none stands there
+  pub record NoRecord : Type 0 where
+    pub none : (h : Head) → Heads o b s p h → (h .code ≡ 0 → ⊥) → Admits h → ⊥
+
+-- byte p is inside the part s, which stands at b, or at its end; and the bytes up to there can be counted
+pub record Inside (b : ℕ) (s : List ℕ) (p : ℕ) : Type 0 where
+  pub low : p ≤ length s
+  pub short : Addressable (b + length s)
+
+-- the cursor's answer at byte p of the part s, which stands at b
 abbrev pub Visits : Order → ℕ → List ℕ → ℕ → Direct → Type 0
-Visits o b s p (Direct.Record h q) = (h .at ≡ p) × (q ≡ p + span (headOf h)) × (p + 16 ≤ q) × (q ≤ length s) × ((k : Known) (l : Said) → Chain o b s k p l → Parted o b s k p (headOf h) q l)
-Visits o b s p Direct.Last = (k : Known) (l : Said) → Chain o b s k p l → Closed o b s p l
+Visits o b s p (Direct.Record h q) = RecordAt o b s p h q
+Visits o b s p Direct.Last = NoRecord o b s p

@@ -17,7 +17,7 @@ use Rattle.rules.specs.declared.Basic.{Basic}
 use Rattle.rules.specs.declared.Head.{Head}
 use Rattle.rules.specs.declared.Refusal.{Refusal}
 use Rattle.rules.proofs.Room.{stays-basic}
-use Rattle.records.specs.declared.Kind.the-variants as Kind
+use Rattle.records.specs.declared.items.Holder.the-variants as Holder
 use Rattle.records.specs.Says.{halts, headOf, headroom, Headroom, basicOf, okOf}
 use Rattle.rules.specs.Rules.{descriptions}
 use Rattle.descriptions.specs.Tabled.{HeldIs, HeldAs, Owned, Parts, parted, Follows, Judges, Keeps, Bounds, heldAt, channelsIn, patientIn, countIn, placeOf}
@@ -117,10 +117,10 @@ module _ (o : Order) (base : ℕ) (s : List ℕ) where
 
     -- what is left of the walk before each part
     abbrev to200 : R.Basic → R.Next → R.Part (List R.Channel) → R.Part (List R.Item) → Walk R.Descriptions
-    to200 b n c p = R.part (16 + length s) 200 (R.items (okOf Kind.Event)) (some []) (p .next) >>= λ e. give (record { basic = b; next = n; channels = c; patient = p; events = e })
+    to200 b n c p = R.part (16 + length s) 200 (R.items (okOf Holder.Event)) (some []) (p .next) >>= λ e. give (record { basic = b; next = n; channels = c; patient = p; events = e })
 
     abbrev to130 : R.Basic → R.Next → R.Part (List R.Channel) → Walk R.Descriptions
-    to130 b n c = R.part (16 + length s) 130 (R.items (okOf Kind.Patient)) (R.heldPatient held) (c .next) >>= to200 b n c
+    to130 b n c = R.part (16 + length s) 130 (R.items (okOf Holder.Patient)) (R.heldPatient held) (c .next) >>= to200 b n c
 
     abbrev to120 : R.Basic → R.Next → Walk R.Descriptions
     to120 b n = R.part (16 + length s) 120 (R.channels b) (R.heldChannels held) n >>= to130 b n
@@ -180,10 +180,10 @@ module _ (o : Order) (base : ℕ) (s : List ℕ) where
 
         -- so of the 130
         abbrev Judges₂ : Parted → Type 0
-        Judges₂ a = Judges o base s 130 (R.items (okOf Kind.Patient)) (λ _. Unit {0}) (c .next) y a
+        Judges₂ a = Judges o base s 130 (R.items (okOf Holder.Patient)) (λ _. Unit {0}) (c .next) y a
 
         abbrev seen₂ : Verdict (R.Part (List R.Item))
-        seen₂ = see o base s (base + (c .next .at + 16)) (R.part (16 + length s) 130 (R.items (okOf Kind.Patient)) (R.heldPatient held) (first .value .next))
+        seen₂ = see o base s (base + (c .next .at + 16)) (R.part (16 + length s) 130 (R.items (okOf Holder.Patient)) (R.heldPatient held) (first .value .next))
 
         judged₂ : (a : Parted) → Judges₂ a → parted (λ _. Unit {0}) (R.heldPatient held) base (length s) (c .next) y a seen₂
         judged₂ a k = k (R.heldPatient held) (first .value .next) (16 + length s) (rw ys (held-is o file before held has .1)) (first .kept .head) (first .kept .room) (omega arith)
@@ -200,10 +200,10 @@ module _ (o : Order) (base : ℕ) (s : List ℕ) where
 
           -- and of the 200
           abbrev Judges₃ : Parted → Type 0
-          Judges₃ a = Judges o base s 200 (R.items (okOf Kind.Event)) (λ _. Unit {0}) (p .next) (Held.At 0) a
+          Judges₃ a = Judges o base s 200 (R.items (okOf Holder.Event)) (λ _. Unit {0}) (p .next) (Held.At 0) a
 
           abbrev seen₃ : Verdict (R.Part (List R.Item))
-          seen₃ = see o base s (base + (p .next .at + 16)) (R.part (16 + length s) 200 (R.items (okOf Kind.Event)) (some []) (second .value .next))
+          seen₃ = see o base s (base + (p .next .at + 16)) (R.part (16 + length s) 200 (R.items (okOf Holder.Event)) (some []) (second .value .next))
 
           judged₃ : (a : Parted) → Judges₃ a → parted (λ _. Unit {0}) (some []) base (length s) (p .next) (Held.At 0) a seen₃
           judged₃ a k = k (some []) (second .value .next) (16 + length s) tt (second .kept .head) (second .kept .room) (omega arith)

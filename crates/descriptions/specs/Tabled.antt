@@ -12,10 +12,10 @@ use Rattle.walk.specs.See.{Verdict, goes, see, Goes}
 use Rattle.rules.specs.Rules as R
 use Rattle.rules.specs.declared.Head.{Head}
 use Rattle.rules.specs.declared.Refusal.{Refusal}
-use Rattle.records.specs.declared.Basiced.{Basiced}
-use Rattle.records.specs.declared.Basiced.the-variants as Basiced
-use Rattle.records.specs.declared.Kind.{Kind}
-use Rattle.records.specs.declared.Kind.the-variants as Kind
+use Rattle.records.specs.declared.basic.Basiced.{Basiced}
+use Rattle.records.specs.declared.basic.Basiced.the-variants as Basiced
+use Rattle.records.specs.declared.items.Holder.{Holder}
+use Rattle.records.specs.declared.items.Holder.the-variants as Holder
 use Rattle.records.specs.Says.{halts, headOf, Headroom, Kept}
 use Rattle.descriptions.specs.declared.Before.{Before}
 use Rattle.descriptions.specs.declared.Before.the-variants as Before
@@ -58,9 +58,9 @@ abbrev pub heldAt : Held → ℕ
 heldAt Held.Nothing = 0
 heldAt (Held.At p) = p
 
-abbrev pub codeOf : Kind → ℕ
-codeOf Kind.Patient = 130
-codeOf Kind.Event = 200
+abbrev pub codeOf : Holder → ℕ
+codeOf Holder.Patient = 130
+codeOf Holder.Event = 200
 
 -- the walk holds a value just where the code holds a place
 abbrev pub HeldIs : {A : Type 0} → Held → Option A → Type 0

@@ -10,10 +10,10 @@ ghost use Rattle.walk.specs.See.{see, over};
 ghost use Rattle.rules.specs.Rules as R;
 ghost use Rattle.records.specs.Says.{headroom, okOf};
 ghost use Rattle.descriptions.specs.Tabled.{refusalBasic, refusalPart, refusalTables, channelsIn, patientIn, countIn, codeOf, Owned, HeldAs, lacking, followed, Follows, Stood, Judges, tabled, Ready};
-use records::Basiced;
 use records::Headed;
-use records::Kind;
 use records::Step;
+use records::basic::Basiced;
+use records::items::Holder;
 use rules::Basic;
 use rules::Channels;
 use rules::Events;
@@ -142,12 +142,12 @@ fn count_of(own: bool, channels: u32, before: Before) -> u32
     held_count(before)
 }
 
-fn items_code(k: Kind) -> u32
+fn items_code(k: Holder) -> u32
     ensures { λ r. ⌜ r ≡ codeOf k ⌝ }
 {
     match k {
-        Kind::Patient => Patient::CODE,
-        Kind::Event => Events::CODE,
+        Holder::Patient => Patient::CODE,
+        Holder::Event => Events::CODE,
     }
 }
 
@@ -169,9 +169,11 @@ fn absent(base: usize, h: Head, held: Held) -> Parted
 // A part that stands at byte `at` and stops at byte `end`: the head of the next record.
 fn behind(o: Order, s: &[u8], base: usize, at: usize, end: usize) -> Parted
     requires { ⌜ (at ≤ end) × (end ≤ length (now s)) × Addressable (base + length (now s)) ⌝ }
-    ensures { λ a. ⌜ ((fuel : ℕ) → length (now (s .entry)) < end + fuel → over headroom (see o base (now (s .entry)) (base + end) (R.next fuel (length (now (s .entry)) - end))) ≡ followed base (length (now (s .entry))) a) × Stood (base + at) end (length (now (s .entry))) a ⌝ }
+    ensures { λ a. ⌜ ((fuel : ℕ) → length (now (s .entry)) < end + fuel →
+        over headroom (see o base (now (s .entry)) (base + end) (R.next fuel (length (now (s .entry)) - end)))
+        ≡ followed base (length (now (s .entry))) a) × Stood (base + at) end (length (now (s .entry))) a ⌝ }
 {
-    let found = records::next_head(o, s, base, end);
+    let found = records::makers::next_head(o, s, base, end);
     let Headed::At(next) = found else {
         return Parted::Stop(records::of_head(found));
     };
@@ -184,26 +186,28 @@ fn behind(o: Order, s: &[u8], base: usize, at: usize, end: usize) -> Parted
 
 fn channels_part(o: Order, s: &[u8], base: usize, h: Head, channels: u32, held: Held) -> Parted
     requires { ⌜ (h .at + 16 ≤ length (now s)) × Addressable (base + length (now s)) ⌝ }
-    ensures { λ a. ⌜ ((b : R.Basic) → b .channels ≡ channels → Judges o base (now (s .entry)) 120 (R.channels b) (Owned o (now (s .entry)) (h .at) channels) h held a) × Follows (h .at) (length (now (s .entry))) a ⌝ }
+    ensures { λ a. ⌜ ((b : R.Basic) → b .channels ≡ channels →
+        Judges o base (now (s .entry)) 120 (R.channels b) (Owned o (now (s .entry)) (h .at) channels) h held a) ×
+        Follows (h .at) (length (now (s .entry))) a ⌝ }
 {
     if h.code != Channels::CODE {
         return absent(base, h, held);
     }
-    let step = records::channels_at(o, s, base, h, channels);
+    let step = records::channels::channels_at(o, s, base, h, channels);
     let Step::On(end) = step else {
         return Parted::Stop(records::of_step(step));
     };
     behind(o, s, base, h.at, end)
 }
 
-fn items_part(o: Order, k: Kind, s: &[u8], base: usize, h: Head, held: Held) -> Parted
+fn items_part(o: Order, k: Holder, s: &[u8], base: usize, h: Head, held: Held) -> Parted
     requires { ⌜ (h .at + 16 ≤ length (now s)) × Addressable (base + length (now s)) ⌝ }
     ensures { λ a. ⌜ Judges o base (now (s .entry)) (codeOf k) (R.items (okOf k)) (λ _. Unit {0}) h held a × Follows (h .at) (length (now (s .entry))) a ⌝ }
 {
     if h.code != items_code(k) {
         return absent(base, h, held);
     }
-    let step = records::items_at(o, k, s, base, h);
+    let step = records::items::items_at(o, k, s, base, h);
     let Step::On(end) = step else {
         return Parted::Stop(records::of_step(step));
     };
@@ -213,13 +217,14 @@ fn items_part(o: Order, k: Kind, s: &[u8], base: usize, h: Head, held: Held) -> 
 // The tables of the recording whose body is s, which stands at `base` in the file.
 pub fn read_tables(o: Order, s: &[u8], base: usize, before: Before) -> Tabled
     requires { ⌜ (16 ≤ base) × Addressable (base + length (now s)) ⌝ }
-    ensures { λ a. ⌜ ((file : List ℕ) (held : Option R.Held) → now (s .entry) ≡ take (length (now (s .entry))) (drop base file) → HeldAs o file before held → tabled o file base held (now (s .entry)) before a) × Ready base (length (now (s .entry))) before a ⌝ }
+    ensures { λ a. ⌜ ((file : List ℕ) (held : Option R.Held) → now (s .entry) ≡ take (length (now (s .entry))) (drop base file) →
+        HeldAs o file before held → tabled o file base held (now (s .entry)) before a) × Ready base (length (now (s .entry))) before a ⌝ }
 {
-    let first = records::basic_at(o, s, base, 0);
+    let first = records::basic::basic_at(o, s, base, 0);
     let Basiced::Holds(basic) = first else {
         return Tabled::Stop(of_basic(first));
     };
-    let found = records::next_head(o, s, base, Basic::LENGTH);
+    let found = records::makers::next_head(o, s, base, Basic::LENGTH);
     let Headed::At(h) = found else {
         return Tabled::Stop(records::of_head(found));
     };
@@ -227,11 +232,11 @@ pub fn read_tables(o: Order, s: &[u8], base: usize, before: Before) -> Tabled
     let Parted::On(c) = cs else {
         return Tabled::Stop(of_part(cs));
     };
-    let ps = items_part(o, Kind::Patient, s, base, c.next, held_patient(before));
+    let ps = items_part(o, Holder::Patient, s, base, c.next, held_patient(before));
     let Parted::On(p) = ps else {
         return Tabled::Stop(of_part(ps));
     };
-    let es = items_part(o, Kind::Event, s, base, p.next, Held::At(0));
+    let es = items_part(o, Holder::Event, s, base, p.next, Held::At(0));
     let Parted::On(e) = es else {
         return Tabled::Stop(of_part(es));
     };

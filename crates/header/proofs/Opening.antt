@@ -15,11 +15,11 @@ use lib.Seq.{drop-cons, getD-take, getD-drop}
 use Rattle.words.specs.Numbers.{bytesAt}
 use Rattle.words.specs.declared.Order.{Order}
 use Rattle.words.specs.declared.Order.the-variants.{Little, Big}
-use Rattle.walk.specs.See.{gate, see, goes}
+use Rattle.walk.specs.See.{Verdict, gate, see, stops, goes}
 use Rattle.walk.specs.Walk.{pick, swap, laid, Letter, _>>=_, _>>_}
 use Rattle.walk.proofs.Laid.{laid-text}
-use Rattle.rules.specs.Rules.{between, sameBytes, identifier, version, form, allSpaces, isDigit, decimal, countOf, countFits, countIs, isScript, fileHeader, orderOf}
-use Rattle.header.specs.Opened.{lettered, names}
+use Rattle.rules.specs.Rules.{between, sameBytes, identifier, version, form, allSpaces, isDigit, decimal, countOf, countFits, countIs, isScript, FileHeader, fileHeader, orderOf}
+use Rattle.header.specs.Opened.{lettered, names, nameTests}
 use Rattle.header.specs.declared.Lettered.{Lettered}
 use Rattle.header.specs.declared.Lettered.the-variants as Lettered
 
@@ -113,16 +113,35 @@ letter-order s o h = go (eqb (getD s 16 0) 76) (eqb (getD s 16 0) 66) refl refl
     go false true e f = let l : Lettered.Names Big ≡ Lettered.Names o = rw (lettered, e, f) at h in rw (orderOf, f) (cc)
     go false false e f = let l : Lettered.Nothing ≡ Lettered.Names o = rw (lettered, e, f) at h in absurd (let z : _≡_ {A = ℕ} 0 1 = cc in omega arith)
 
--- the walk of the file header: its tests, one after the other
-pub header-open : (s : List ℕ) → see (orderOf s) 0 s 0 (fileHeader (length s)) ≡
-    gate (leb 32 (length s)) (gate (sameBytes (bytesAt 8 s 0) identifier) (gate (sameBytes (bytesAt 6 s 8) version) (gate (sameBytes (bytesAt 2 s 14) form) (gate (names (lettered (getD s 16 0))) (gate (isScript (getD s 17 0)) (gate (between 1 64 (countIs (countOf (bytesAt 4 s 18)))) (gate (allSpaces (bytesAt 10 s 22)) (goes (record { heading = record { script = getD s 17 0 }; count = countIs (countOf (bytesAt 4 s 18)) }) 32)
-    8 22)
-    7 18)
-    6 17)
-    5 16)
-    4 14)
-    3 8)
-    2 0)
-    1 0
-unfolding fileHeader see _>>=_ _>>_
-header-open s = simp (laid-text, byte-at, letter-names, count-fits)
+-- the walk of the file header: its tests, one after the other, each with those behind it
+module _ (s : List ℕ) where
+  abbrev pub walk : Verdict FileHeader
+  walk = see (orderOf s) 0 s 0 (fileHeader (length s))
+
+  abbrev pub holds : Verdict FileHeader
+  holds = goes (record { heading = record { script = getD s 17 0 }; count = countIs (countOf (bytesAt 4 s 18)) }) 32
+
+  abbrev pub fromSpaces : Verdict FileHeader
+  fromSpaces = gate (allSpaces (bytesAt 10 s 22)) holds 8 22
+
+  abbrev pub fromCount : Verdict FileHeader
+  fromCount = gate (between 1 64 (countIs (countOf (bytesAt 4 s 18)))) fromSpaces 7 18
+
+  abbrev pub fromScript : Verdict FileHeader
+  fromScript = gate (isScript (getD s 17 0)) fromCount 6 17
+
+  abbrev pub fromLetter : Verdict FileHeader
+  fromLetter = gate (names (lettered (getD s 16 0))) fromScript 5 16
+
+  pub header-open : walk ≡ gate (leb 32 (length s)) (nameTests s fromLetter) 1 0
+  unfolding fileHeader see _>>=_ _>>_
+  header-open = simp (laid-text, byte-at, letter-names, count-fits)
+
+-- a test that is passed, and one that is not
+pub passing : {A : Type 0} {w : Verdict A} (c : Bool) (v : Verdict A) (n p : ℕ) → w ≡ gate c v n p → c ≡ true → w ≡ v
+unfolding gate
+passing c v n p g e = g ∙ rw e
+
+pub stopping : {A : Type 0} {w : Verdict A} (c : Bool) (v : Verdict A) (n p : ℕ) → w ≡ gate c v n p → c ≡ false → w ≡ stops n p
+unfolding gate
+stopping c v n p g e = g ∙ rw e

@@ -1,12 +1,16 @@
--- What the answers of module `header` say, as verdicts on the walk of the file header.
+-- What the answers of crate `header` say, as verdicts on the walk of the file header.
 use mathlib.Core.Path.{_≡_}
 use mathlib.Core.Bool.{Bool, true, false}
+use mathlib.Core.List.{List}
 use Prim.Native.Nat.{ℕ, _≤_}
 use lib.Dec.{eqb}
+use lib.ListN.{length}
+use Rattle.words.specs.Numbers.{bytesAt}
 use Rattle.words.specs.declared.Order.{Order}
 use Rattle.words.specs.declared.Order.the-variants.{Little, Big}
-use Rattle.walk.specs.See.{Verdict, goes}
+use Rattle.walk.specs.See.{Verdict, goes, gate, see}
 use Rattle.walk.specs.Walk.{pick}
+use Rattle.rules.specs.declared.FileHeader.{FileHeader}
 use Rattle.rules.specs.declared.Heading.{Heading}
 use Rattle.rules.specs.declared.Refusal.{Refusal}
 use Rattle.rules.specs.Rules as R
@@ -34,10 +38,26 @@ abbrev pub opened : Opened → Verdict R.FileHeader
 opened (Opened.Holds h) = goes (record { heading = headingOf (h .heading); count = h .count }) 32
 opened (Opened.Stop r) = halts r
 
+-- the identifier, the version and the form are tested; then the verdict that follows
+abbrev pub nameTests : List ℕ → Verdict R.FileHeader → Verdict R.FileHeader
+nameTests s v =
+    gate (R.sameBytes (bytesAt 8 s 0) R.identifier) (gate (R.sameBytes (bytesAt 6 s 8) R.version) (gate (R.sameBytes (bytesAt 2 s 14) R.form) v 4 14) 3 8) 2 0
+
 -- what else holds of a header in this order, in a file of n bytes
-abbrev pub Named : Order → ℕ → Opened → Type 0
-Named o n (Opened.Holds h) = (h .order ≡ o) × (1 ≤ h .count) × (h .count ≤ 64) × (32 ≤ n)
-Named o n (Opened.Stop r) = Unit {0}
+pub record Named (o : Order) (n : ℕ) (h : FileHeader) : Type 0 where
+  pub order : h .order ≡ o
+  pub one : 1 ≤ h .count
+  pub few : h .count ≤ 64
+  pub long : 32 ≤ n
+
+abbrev pub NamedIn : Order → ℕ → Opened → Type 0
+NamedIn o n (Opened.Holds h) = Named o n h
+NamedIn o n (Opened.Stop r) = Unit {0}
+
+-- the answer of `file_header` on the file s, read in the order that its letter names
+pub record HeaderRead (s : List ℕ) (a : Opened) : Type 0 where
+  pub walk : see (R.orderOf s) 0 s 0 (R.fileHeader (length s)) ≡ opened a
+  pub named : NamedIn (R.orderOf s) (length s) a
 
 abbrev pub refusalO : Opened → Refusal
 refusalO (Opened.Holds h) = record { 0 = 0; 1 = 0 }

@@ -2,11 +2,10 @@
 ghost use mathlib.Core.Path.{_≡_};
 ghost use Prim.Native.Nat.{_≤_};
 ghost use lib.ListN.{length, drop};
-ghost use Rattle.words.specs.Numbers.{bytesAt};
-ghost use Rattle.walk.specs.See.{Verdict, gate, see};
+ghost use Rattle.walk.specs.See.{Verdict};
 ghost use Rattle.rules.specs.Rules as R;
 ghost use Rattle.records.specs.Says.{resumed};
-ghost use Rattle.header.specs.Opened.{lettered, opened, Named, refusalO};
+ghost use Rattle.header.specs.Opened.{lettered, nameTests, HeaderRead, refusalO};
 use records::Tested;
 use records::between;
 use records::same;
@@ -101,7 +100,7 @@ fn count_of(s: &[u8]) -> u32
 // The identifier, the version and the form.
 fn names_ok(s: &[u8]) -> Tested
     requires { ⌜ 32 ≤ length (now s) ⌝ }
-    ensures { λ a. ⌜ ((K : Verdict R.FileHeader) → gate (R.sameBytes (bytesAt 8 (now (s .entry)) 0) R.identifier) (gate (R.sameBytes (bytesAt 6 (now (s .entry)) 8) R.version) (gate (R.sameBytes (bytesAt 2 (now (s .entry)) 14) R.form) K 4 14) 3 8) 2 0 ≡ resumed a K) ⌝ }
+    ensures { λ a. ⌜ ((K : Verdict R.FileHeader) → nameTests (now (s .entry)) K ≡ resumed a K) ⌝ }
 {
     if !same(&s[FileHeader::IDENTIFIER..FileHeader::VERSION], b"JSSR-SPG") {
         return Tested::Stop(Refusal(2, FileHeader::IDENTIFIER));
@@ -117,7 +116,7 @@ fn names_ok(s: &[u8]) -> Tested
 
 // The file header, in the order that its letter names.
 pub fn file_header(s: &[u8]) -> Opened
-    ensures { λ a. ⌜ (see (R.orderOf (now (s .entry))) 0 (now (s .entry)) 0 (R.fileHeader (length (now (s .entry)))) ≡ opened a) × Named (R.orderOf (now (s .entry))) (length (now (s .entry))) a ⌝ }
+    ensures { λ a. ⌜ HeaderRead (now (s .entry)) a ⌝ }
 {
     if s.len() < FileHeader::LENGTH {
         return Opened::Stop(Refusal(1, 0));

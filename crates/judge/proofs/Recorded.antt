@@ -25,6 +25,7 @@ use Rattle.rules.specs.declared.Frames.{Frames}
 use Rattle.rules.specs.declared.Refusal.{Refusal}
 use Rattle.rules.proofs.Room.{stays-recordingBody}
 use Rattle.records.specs.Says.{halts}
+use Rattle.records.proofs.Opened.{admit-passed}
 use Rattle.descriptions.specs.Tabled.{Within, Room, placeOf, channelsIn, patientIn, heldAt, Keeps, Bounds, tabled}
 use Rattle.descriptions.specs.declared.Before.{Before}
 use Rattle.descriptions.specs.declared.Places.{Places}
@@ -163,17 +164,6 @@ module _ (at n L : ℕ) (before : Before) (t : Tables) (b : Bounds (at + 16) n b
 pub body-continues : (at n L : ℕ) (before : Before) (t : Tables) → Bounds (at + 16) n before t → at + 16 + n ≤ L → Within L before → (frame seconds : ℕ) → Continues at L (Recorded.On (placesFor at n t frame seconds))
 body-continues at n L before t b fits within frame seconds = (omega arith, fits, b .room L fits within)
 
--- what an admitted head says; it is admitted with any serial
-pub admit-passed : (o : Order) (b : ℕ) (s : List ℕ) (at room most : ℕ) (fits serial : ℕ → Bool) (h : R.Head) {e : ℕ} → see o b s at (R.admit room most fits serial h) ≡ goes tt e →
-    (e ≡ at) × (fits (R.span h) ≡ true) × (serial (h .serial) ≡ true) × (R.span h ≤ room) × (see o b s at (R.admit room most fits (λ _. true) h) ≡ goes tt at)
-unfolding admit see _>>=_ _>>_
-admit-passed o b s at room most fits serial h g =
-    let g₁ = gate-went _ _ _ _ g in
-    let g₂ = gate-went _ _ _ _ (g₁ .1) in
-    let g₃ = gate-went _ _ _ _ (g₂ .1) in
-    let y : fits (R.span h) && leb (R.span h) room ≡ true = and-right (ltb (h .size) R.limit) _ (g₂ .0) in
-    (sym (goes-same (g₃ .1) .1), and-left (fits (R.span h)) _ y, g₃ .0, leb-true (R.span h) room (and-right (fits (R.span h)) _ y), simp (g₁ .0, g₂ .0, gate-true))
-
 -- a recording at byte p of the file
 module _ (o : Order) (file : List ℕ) (p i : ℕ) (held : Option R.Held) where
   abbrev walk : Verdict R.Placed
@@ -231,12 +221,12 @@ module _ (o : Order) (file : List ℕ) (p i : ℕ) (held : Option R.Held) where
       admits = onward-went _ _ (tested .1)
 
       pub admitted : see o 0 file (0 + (k + 16)) (R.admit (length file - k) 128 (leb 16) (eqb i) h) ≡ goes tt (0 + (k + 16))
-      admitted = rw (zero-add, is) (admits .is ∙ ap (λ (m : ℕ). goes tt m) (admit-passed o 0 file (p + 16) _ _ _ _ h (admits .is) .0))
+      admitted = rw (zero-add, is) (admits .is ∙ ap (λ (m : ℕ). goes tt m) (admit-passed o 0 file (p + 16) _ _ _ _ h (admits .is) .stays))
 
       pub not-refused : {n q : ℕ} → see o 0 file (0 + (k + 16)) (R.admit (length file - k) 128 (leb 16) (λ _. true) h) ≡ stops n q → ⊥
       not-refused a =
           let u = rw (zero-add, is) at a in
-          let v = admit-passed o 0 file (p + 16) _ _ _ _ h (admits .is) .4 in
+          let v = admit-passed o 0 file (p + 16) _ _ _ _ h (admits .is) .any in
           let z : _≡_ {A = ℕ} 0 1 = cc in
           omega arith
 

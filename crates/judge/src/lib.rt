@@ -36,7 +36,8 @@ pub fn of_recording(a: Recorded) -> Refusal
 // So many recordings from byte 32 of the file on: where they end.
 fn recordings_from(o: Order, file: &[u8], count: u32) -> Step
     requires { ⌜ (32 ≤ length (now file)) × Addressable (length (now file)) ⌝ }
-    ensures { λ a. ⌜ (ends (see o 0 (now (file .entry)) 32 (R.recordings count none (length (now (file .entry)) - 32) 1)) ≡ stepped 0 a) × Beyond 32 (length (now (file .entry))) a ⌝ }
+    ensures { λ a. ⌜ (ends (see o 0 (now (file .entry)) 32 (R.recordings count none (length (now (file .entry)) - 32) 1)) ≡ stepped 0 a) ×
+        Beyond 32 (length (now (file .entry))) a ⌝ }
 {
     let mut p: usize = FileHeader::LENGTH;
     let mut i: u32 = 0;

@@ -16,12 +16,11 @@ use descriptions::Tables;
 use descriptions::channels_of;
 use descriptions::of_tables;
 use descriptions::read_tables;
-use records::Fits;
 use records::Headed;
-use records::Serial;
 use records::Step;
 use rules::Frames;
 use rules::Head;
+use rules::Kind;
 use rules::Recording;
 use rules::Refusal;
 use signals::frames::Framed;
@@ -68,8 +67,12 @@ fn recording_body(
     multiplier: u32,
     before: Before,
 ) -> Recorded
-    requires { ⌜ (now s ≡ take (length (now s)) (drop (at + 16) (now file))) × (at + 16 + length (now s) ≤ length (now file)) × Addressable (length (now file)) × Within (length (now file)) before ⌝ }
-    ensures { λ a. ⌜ ((held : Option R.Held) (h : R.Head) → HeldAs o (now (file .entry)) before held → R.span h ≡ 16 + length (now (s .entry)) → h .multiplier ≡ multiplier → recorded o (now (file .entry)) at before (see o (at + 16) (now (s .entry)) (at + 16) (R.recordingBody held h)) a) × Continues at (length (now (file .entry))) a ⌝ }
+    requires { ⌜ (now s ≡ take (length (now s)) (drop (at + 16) (now file))) × (at + 16 + length (now s) ≤ length (now file)) ×
+        Addressable (length (now file)) × Within (length (now file)) before ⌝ }
+    ensures { λ a. ⌜ ((held : Option R.Held) (h : R.Head) → HeldAs o (now (file .entry)) before held →
+        R.span h ≡ 16 + length (now (s .entry)) → h .multiplier ≡ multiplier →
+        recorded o (now (file .entry)) at before (see o (at + 16) (now (s .entry)) (at + 16) (R.recordingBody held h)) a) ×
+        Continues at (length (now (file .entry))) a ⌝ }
 {
     let base = at + Head::LENGTH;
     let tabled = read_tables(o, s, base, before);
@@ -89,23 +92,18 @@ fn recording_body(
 // The recording at byte p of the file, with the serial i.
 pub fn recording_at(o: Order, file: &[u8], p: usize, i: u32, before: Before) -> Recorded
     requires { ⌜ (p ≤ length (now file)) × Addressable (length (now file)) × Within (length (now file)) before ⌝ }
-    ensures { λ a. ⌜ ((held : Option R.Held) → HeldAs o (now (file .entry)) before held → recorded o (now (file .entry)) p before (see o 0 (now (file .entry)) p (R.recording held (length (now (file .entry)) - p) i)) a) × Continues p (length (now (file .entry))) a ⌝ }
+    ensures { λ a. ⌜ ((held : Option R.Held) → HeldAs o (now (file .entry)) before held →
+        recorded o (now (file .entry)) p before (see o 0 (now (file .entry)) p (R.recording held (length (now (file .entry)) - p) i)) a) ×
+        Continues p (length (now (file .entry))) a ⌝ }
 {
-    let found = records::head_at(o, file, 0, p);
+    let found = records::head::head_at(o, file, 0, p);
     let Headed::At(h) = found else {
         return Recorded::Stop(records::of_head(found));
     };
     if h.code != Recording::CODE {
         return Recorded::Stop(Refusal(9, p + Head::CODE));
     }
-    let room = records::admit(
-        h,
-        0,
-        file.len(),
-        Head::MOST,
-        Fits::AtLeast(Recording::LEAST),
-        Serial::Is(i),
-    );
+    let room = records::kinds::admit(h, 0, file.len(), Kind::Recording(i));
     let Step::On(end) = room else {
         return Recorded::Stop(records::of_step(room));
     };
@@ -122,16 +120,23 @@ pub fn recording_at(o: Order, file: &[u8], p: usize, i: u32, before: Before) -> 
 // The body of a recording that the judge accepted.
 fn body_again(o: Order, s: &[u8], at: usize, before: Before) -> Recorded
     requires { ⌜ Addressable (at + 16 + length (now s)) ⌝ }
-    ensures { λ a. ⌜ ((file : List ℕ) (held : Option R.Held) (h : R.Head) (x : R.Placed) (e : ℕ) → now (s .entry) ≡ take (length (now (s .entry))) (drop (at + 16) file) → HeldAs o file before held → R.span h ≡ 16 + length (now (s .entry)) → see o (at + 16) (now (s .entry)) (at + 16) (R.recordingBody held h) ≡ goes x e → recorded o file at before (see o (at + 16) (now (s .entry)) (at + 16) (R.recordingBody held h)) a) × ((n : ℕ) → at + 16 + length (now (s .entry)) ≤ n → Within n before → Continues at n a) ⌝ }
+    ensures { λ a. ⌜ ((file : List ℕ) (held : Option R.Held) (h : R.Head) (x : R.Placed) (e : ℕ) →
+        now (s .entry) ≡ take (length (now (s .entry))) (drop (at + 16) file) → HeldAs o file before held →
+        R.span h ≡ 16 + length (now (s .entry)) → see o (at + 16) (now (s .entry)) (at + 16) (R.recordingBody held h) ≡ goes x e →
+        recorded o file at before (see o (at + 16) (now (s .entry)) (at + 16) (R.recordingBody held h)) a) × ((n : ℕ) →
+        at + 16 + length (now (s .entry)) ≤ n → Within n before → Continues at n a) ⌝ }
 {
-    let tabled = read_tables(o, s, at + Head::LENGTH, before);
+    let base = at + Head::LENGTH;
+    let tabled = read_tables(o, s, base, before);
     let Tabled::On(t) = tabled else {
         return Recorded::Stop(of_tables(tabled));
     };
     let next = t.next;
     let p = next.at;
+    let place = base + p;
+    // A 140 without room for its own fields: as `frames_at` refuses it.
     if s.len() < p + Frames::FIRST {
-        return Recorded::Stop(Refusal(0, 0));
+        return Recorded::Stop(Refusal(10, place));
     }
     let seconds = number4(o, s, p + Frames::SECONDS);
     let frame = number4(o, s, p + Frames::FRAME_LENGTH) as usize;
@@ -141,20 +146,16 @@ fn body_again(o: Order, s: &[u8], at: usize, before: Before) -> Recorded
 // Where a recording stands that the judge accepted: its tables are read again, its frames are not.
 pub fn recording_again(o: Order, file: &[u8], p: usize, before: Before) -> Recorded
     requires { ⌜ (p ≤ length (now file)) × Addressable (length (now file)) × Within (length (now file)) before ⌝ }
-    ensures { λ a. ⌜ ((held : Option R.Held) (i : ℕ) (x : R.Placed) (e : ℕ) → HeldAs o (now (file .entry)) before held → see o 0 (now (file .entry)) p (R.recording held (length (now (file .entry)) - p) i) ≡ goes x e → recorded o (now (file .entry)) p before (see o 0 (now (file .entry)) p (R.recording held (length (now (file .entry)) - p) i)) a) × Continues p (length (now (file .entry))) a ⌝ }
+    ensures { λ a. ⌜ ((held : Option R.Held) (i : ℕ) (x : R.Placed) (e : ℕ) → HeldAs o (now (file .entry)) before held →
+        see o 0 (now (file .entry)) p (R.recording held (length (now (file .entry)) - p) i) ≡ goes x e →
+        recorded o (now (file .entry)) p before (see o 0 (now (file .entry)) p (R.recording held (length (now (file .entry)) - p) i)) a) ×
+        Continues p (length (now (file .entry))) a ⌝ }
 {
-    let found = records::head_at(o, file, 0, p);
+    let found = records::head::head_at(o, file, 0, p);
     let Headed::At(h) = found else {
         return Recorded::Stop(records::of_head(found));
     };
-    let room = records::admit(
-        h,
-        0,
-        file.len(),
-        Head::MOST,
-        Fits::AtLeast(Recording::LEAST),
-        Serial::Any,
-    );
+    let room = records::kinds::admit(h, 0, file.len(), Kind::Any);
     let Step::On(end) = room else {
         return Recorded::Stop(records::of_step(room));
     };

@@ -7,15 +7,15 @@ use mathlib.Core.Option.{Option, none, some}
 use Prim.Native.Nat.{ℕ, zero, suc, _+_, _≤_}
 use lib.Dec.{eqb}
 use lib.ListN.{length}
-use Rattle.words.specs.Numbers.{numberAt}
 use Rattle.words.specs.declared.Order.{Order}
-use Rattle.walk.specs.See.{goes, see}
-use Rattle.walk.specs.Tell.{tell}
 use Rattle.walk.specs.Walk.{pick, Row}
-use Rattle.rules.specs.Rules.{Head, Held, Placed, span, makerCode, recordingBody}
-use Rattle.children.specs.Children.{Said, said, Known, knownOf, Chain, Parted, Closed}
+use Rattle.rules.specs.declared.Head as At
+use Rattle.rules.specs.Rules.{Head, makerCode, recordingBody}
+use Rattle.children.specs.Children.{Said, said, Known, knownOf, Chain, Parted, Closed, RecordAt, NoRecord}
+use Rattle.children.specs.Recordings.{OfBody}
 use Rattle.children.proofs.Chained.{body-chain}
-use Rattle.rows.specs.Rows.{seriesRows, heldRows}
+use Rattle.children.proofs.Visiting.{chain-parted, chain-closed}
+use Rattle.rows.specs.Rows.{seriesRows, channelRows, frameRows, heldRows}
 use Rattle.rows.proofs.Body.{inner-rows, parted-rows, closed-rows}
 use Rattle.makers.specs.Makers.{firstMaker}
 
@@ -23,6 +23,9 @@ use Rattle.makers.specs.Makers.{firstMaker}
 abbrev pub else : Option ℕ → Option ℕ → Option ℕ
 else none y = y
 else (some p) y = some p
+
+pub first-some : (x y : Option ℕ) {p : ℕ} → x ≡ some p → else x y ≡ x
+first-some x y e = rw e
 
 pub first-append : (xs ys : List Row) → firstMaker (xs ++ ys) ≡ else (firstMaker xs) (firstMaker ys)
 unfolding firstMaker
@@ -49,7 +52,7 @@ module _ (o : Order) (b : ℕ) (s : List ℕ) (p : ℕ) where
   unfolding heldRows firstMaker makerCode
   held-first code = go (eqb code 120) (eqb code 140)
     where
-      go : (x y : Bool) → firstMaker (pick x (seriesRows (numberAt o 4 s (p + 16)) 1 (b + p + 32) 256 125) (pick y (seriesRows (numberAt o 4 s (p + 24)) 1 (b + p + 32) (numberAt o 4 s (p + 20)) 145) [])) ≡ none
+      go : (x y : Bool) → firstMaker (pick x (channelRows o b s p) (pick y (frameRows o b s p) [])) ≡ none
       go true y = first-series _ 1 _ 256 125 refl
       go false true = first-series _ 1 _ _ 145 refl
       go false false = refl
@@ -57,7 +60,7 @@ module _ (o : Order) (b : ℕ) (s : List ℕ) (p : ℕ) where
   parted-first : {k : Known} {h : Head} {q : ℕ} {l : Said} → p ≤ length s → (c : Parted o b s k p h q l) → firstMaker (l .rows) ≡ else (pick (makerCode (h .code)) (some (b + p + 4)) none) (firstMaker (c .rest .rows))
   unfolding firstMaker
   parted-first {h} fit c =
-      let i : firstMaker (c .own .rows) ≡ pick (makerCode (h .code)) (some (b + p + 4)) none = ap firstMaker (inner-rows o b s p fit (c .inner) .1) ∙ rw (held-first (h .code)) in
+      let i : firstMaker (c .own .rows) ≡ pick (makerCode (h .code)) (some (b + p + 4)) none = ap firstMaker (inner-rows o b s p fit (c .inner) .rows) ∙ rw (held-first (h .code)) in
       ap firstMaker (parted-rows o b s p fit c) ∙ rw (first-append, i)
 
   closed-first : {l : Said} → p ≤ length s → Closed o b s p l → firstMaker (l .rows) ≡ none
@@ -72,17 +75,17 @@ pub record Sought (o : Order) (b : ℕ) (s : List ℕ) (p : ℕ) (m : Option ℕ
   pub first : m ≡ firstMaker (left .rows)
 
 module _ {o : Order} {b : ℕ} {s : List ℕ} where
-  pub sought-all : (held : Option Held) (h : Head) (x : Placed) (e : ℕ) → span h ≡ 16 + length s → see o b s b (recordingBody held h) ≡ goes x e → Sought o b s 0 (firstMaker (tell o b s b (recordingBody held h)))
+  pub sought-all : OfBody o b s (λ rs. Sought o b s 0 (firstMaker rs))
   unfolding said
   sought-all held h x e n g = record { left = said o b s b (recordingBody held h); known = knownOf x; chain = body-chain o b s held h n g; first = refl }
 
   module _ {p : ℕ} {m : Option ℕ} (g : Sought o b s p m) where
-    pub sought-none : p ≤ length s → ((y : Known) (l : Said) → Chain o b s y p l → Closed o b s p l) → none ≡ m
-    sought-none fit k = sym (g .first ∙ closed-first o b s p fit (k (g .known) (g .left) (g .chain)))
+    pub sought-none : p ≤ length s → NoRecord o b s p → none ≡ m
+    sought-none fit v = sym (g .first ∙ closed-first o b s p fit (chain-closed o b s v (g .chain)))
 
-    module _ {h : Head} {q : ℕ} (fit : p ≤ length s) (k : (y : Known) (l : Said) → Chain o b s y p l → Parted o b s y p h q l) where
+    module _ {h : At.Head} {q : ℕ} (fit : p ≤ length s) (v : RecordAt o b s p h q) where
       pub sought-found : makerCode (h .code) ≡ true → some (b + p + 4) ≡ m
-      sought-found i = sym (g .first ∙ parted-first o b s p fit (k (g .known) (g .left) (g .chain)) ∙ rw i)
+      sought-found i = sym (g .first ∙ parted-first o b s p fit (chain-parted o b s v (g .chain)) ∙ rw i)
 
       pub sought-next : makerCode (h .code) ≡ false → Sought o b s q m
-      sought-next i = let c = k (g .known) (g .left) (g .chain) in record { left = c .rest; known = g .known; chain = c .on; first = g .first ∙ parted-first o b s p fit c ∙ rw i }
+      sought-next i = let c = chain-parted o b s v (g .chain) in record { left = c .rest; known = g .known; chain = c .on; first = g .first ∙ parted-first o b s p fit c ∙ rw i }

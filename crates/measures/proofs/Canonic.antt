@@ -11,22 +11,26 @@ use lib.ListN.{length, drop, length-drop}
 use lib.Seq.{length-take-le, drop-drop}
 use Rattle.words.specs.Numbers.{bytesAt, numberAt}
 use Rattle.words.specs.declared.Order.{Order}
-use Rattle.walk.specs.See.{Verdict, goes, gate, see}
+use Rattle.walk.specs.See.{Verdict, stops, goes, gate, see}
 use Rattle.walk.specs.Trace.{trace}
 use Rattle.walk.specs.Walk.{laid, Text, Event, numeral, cleared, Walk, give, refuse, check, number, read, skip, list, _>>=_, _>>_}
 use Rattle.walk.proofs.Seen.{stays-goes, yields, length-bytesAt, and-left, and-right}
 use Rattle.walk.proofs.Tracing.{trace-bind, trace-give, cleared-append}
 use Rattle.walk.proofs.Went.{gate-went, went-first, goes-same}
 use Rattle.rules.specs.Canonical.{numerals, rowOf, plainHead, recordOf, basicFields, channelFields, channelEvents, channelsHead, channelsWritten, itemEvents, itemsHead, itemsWritten, sampleEvents, blanks}
-use Rattle.rules.specs.Rules.{limit, lengthOf, Head, head, span, admit, coded, fixed, Basic, basicBody, basic, Channel, channelBody, channel, series, channelsBody, channels, Item, item, itemSize, itemBytes, itemList, itemsBody, items, numberList, samples, samplesIn, width, Frame}
+use Rattle.rules.specs.Rules.{limit, lengthOf, Head, head, span, admit, coded, exactly, fixed, Basic, basicBody, basic, Channel, channelBody, channel, series, channelsBody, channels, Item, item, itemSize, itemBytes, itemList, itemsBody, items, numberList, samples, samplesIn, width, Frame}
 use Rattle.rules.proofs.Room.{stays-channel, stays-item}
-use Rattle.rows.proofs.Lists.{admit-went, require-went, head-went}
+use Rattle.records.proofs.Opened.{admit-went, require-went, head-went}
 use Rattle.bodies.specs.Copy.{filling}
-use Rattle.measures.specs.Shapes.{FrameIn}
+use Rattle.measures.specs.Measures.{FrameIn}
 
 -- the events of a walk over a part, with every byte that is not judged zero
 abbrev pub bare : {A : Type 0} → Order → ℕ → List ℕ → ℕ → Walk A → List Event
 bare o b s at w = cleared (trace o b s at w)
+
+-- a walk that goes on does not stop
+pub goes-stops : {A : Type 0} {a : A} {e n p : ℕ} → goes a e ≡ stops n p → ⊥
+goes-stops h = let z : _≡_ {A = ℕ} 0 1 = cc in omega arith
 
 module _ {A B : Type 0} (o : Order) (b : ℕ) (s : List ℕ) (at : ℕ) where
   -- one walk after the other, where the first goes on
@@ -98,7 +102,7 @@ module _ (o : Order) (b : ℕ) (s : List ℕ) where
   -- a record of a fixed size, from its body's events
   pub fixed-bare : {A : Type 0} (n code serial : ℕ) (body : Walk A) (fields : A → List Event) → 16 ≤ n →
       ((at : ℕ) (a : A) (e : ℕ) → b ≤ at → at + (n - 16) ≤ b + length s → see o b s at body ≡ goes a e → bare o b s at body ≡ fields a) →
-      (at room : ℕ) {a : A} {e : ℕ} → b ≤ at → at + room ≤ b + length s → see o b s at (fixed n code serial body room) ≡ goes a e → bare o b s at (fixed n code serial body room) ≡ recordOf (plainHead n code serial) (fields a)
+      (at room : ℕ) {a : A} {e : ℕ} → b ≤ at → at + room ≤ b + length s → see o b s at (fixed (exactly n code serial) body room) ≡ goes a e → bare o b s at (fixed (exactly n code serial) body room) ≡ recordOf (plainHead n code serial) (fields a)
   unfolding fixed recordOf
   fixed-bare {A} n code serial body fields k inside at room {a} {e} low fit g =
       let v : Head → Walk A = λ h. admit room 0 (eqb n) (eqb serial) h >> body in

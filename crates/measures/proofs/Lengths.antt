@@ -25,9 +25,10 @@ use Rattle.rules.specs.Canonical.{recordOf, framesBytes, framesHead, framesWrit
 use Rattle.rules.proofs.Room.{Behind, stays-basic, stays-next, stays-part, stays-channelsRest, stays-itemsRest, stays-framesRest}
 use Rattle.rules.proofs.Renew.{FramesOk, frames-ok, frames-size, next-ok}
 use Rattle.rules.proofs.Sized.{sized}
-use Rattle.rows.proofs.Lists.{require-went}
-use Rattle.rows.proofs.Recorded.{Within}
-use Rattle.measures.specs.Shapes.{limit}
+use Rattle.records.proofs.Opened.{require-went}
+use Rattle.children.proofs.Recordings.{Within}
+use Rattle.measures.specs.Measures.{mostServed}
+use Rattle.measures.proofs.Canonic.{goes-stops}
 use Rattle.measures.proofs.Chained.{Stands, tablesEvents, tables-bare, content-tables}
 
 -- a walk that went on over bytes: what holds of its answer, and that it accepts the events that it read
@@ -40,7 +41,7 @@ heard : {A : Type 0} (o : Order) (b : ℕ) (s : List ℕ) (L : ℕ) → L ≤ b 
 heard {A} o b s L fit bytes w at Q {a} {e} g h k = go (run o at (drop (at - b) s) w) refl
   where
     go : (y : Outcome A) → run o at (drop (at - b) s) w ≡ y → Heard w Q a e
-    go (refused n p) i = absurd (let v = rw i at (seen o b s L fit w at Q g h) ∙ k in let z : _≡_ {A = ℕ} 0 1 = cc in omega arith)
+    go (refused n p) i = absurd (goes-stops (sym (rw i at (seen o b s L fit w at Q g h) ∙ k)))
     go (passed x r t) i =
         let v = rw i at (seen o b s L fit w at Q g h) ∙ k in
         record { holds = stays-goes o b s L fit w at Q g h k; events = t; plays = rw (← goes-same v .0) (read-of w o at (drop (at - b) s) (bytes-drop (at - b) s bytes) i .plays) }
@@ -124,11 +125,11 @@ pub record Accepted (o : Order) (b : ℕ) (s : List ℕ) (x : Placed) : Type 0 w
       content (x .recording) ≡
       tablesEvents before ++ (recordOf (framesHead (x .recording .seconds) (x .recording .channels) (x .recording .frames)) (framesWritten (x .recording .seconds) (x .recording .channels) (x .recording .frames)) ++ (makerEvents (after .makers) ++ delimiterEvents))
   pub long : size (content (x .recording)) ≡ at + span (framesHead (x .recording .seconds) (x .recording .channels) (x .recording .frames)) + (makers + 16)
-  pub few : framesBytes (x .recording .seconds) (x .recording .channels) (x .recording .frames) ≤ limit
-  pub total : 16 + size (content (x .recording)) ≤ limit
+  pub few : framesBytes (x .recording .seconds) (x .recording .channels) (x .recording .frames) ≤ mostServed
+  pub total : 16 + size (content (x .recording)) ≤ mostServed
 
--- the limit counts no padding: the canonical form has that of its 140 alone
-total-sum : (B len room at bytes pad span f k d all : ℕ) → B ≡ 16 + len → at + room ≡ len → bytes + pad ≡ span → span ≤ room → k + d ≡ room - span → 16 ≤ d → B - (d - 16) - pad ≤ contentLimit → all ≡ at + f + (k + 16) → f < bytes + 128 → 16 + all ≤ limit
+-- the mostServed counts no padding: the canonical form has that of its 140 alone
+total-sum : (B len room at bytes pad span f k d all : ℕ) → B ≡ 16 + len → at + room ≡ len → bytes + pad ≡ span → span ≤ room → k + d ≡ room - span → 16 ≤ d → B - (d - 16) - pad ≤ contentLimit → all ≡ at + f + (k + 16) → f < bytes + 128 → 16 + all ≤ mostServed
 total-sum B len room at bytes pad span f k d all h₁ h₂ h₃ h₄ h₅ h₆ h₇ h₈ h₉ =
     let i : B - (d - 16) - pad ≡ 32 + at + bytes + k = omega (arith, h₁, h₂, h₃, h₄, h₅, h₆) in
     let j : 32 + at + bytes + k ≤ contentLimit = rw i at h₇ in
@@ -219,7 +220,7 @@ module _ (o : Order) (b : ℕ) (s : List ℕ) (bytes : Bytes s) (h : Head) (fill
       signals-told t m (tables-told o b s held (span h) (omega arith) t₀) g₁
 
 -- a recording that the walk accepted: its 140 stands inside it
-pub within-at : {o : Order} {s : List ℕ} {p q : ℕ} {held : Option Held} {x : Placed} → Bytes s → q ≤ length s → Within o s p q held x → (frames : ℕ) → frames ≡ p + x .layout .at140 → (p + 16 ≤ frames) × (frames ≤ q)
+pub within-at : {o : Order} {s : List ℕ} {p q : ℕ} {held : Option Held} {i : ℕ} {x : Placed} → Bytes s → q ≤ length s → Within o s p q held i x → (frames : ℕ) → frames ≡ p + x .layout .at140 → (p + 16 ≤ frames) × (frames ≤ q)
 within-at {o} {s} {p} {q} {held} bytes inside w frames e =
     let v = accepted o (p + 16) _ (bytes-take (q - (p + 16)) (drop (p + 16) s) (bytes-drop (p + 16) s bytes)) (w .top) (w .fills) held (w .body) in
     (omega (arith, v .place), omega (arith, v .place, v .inside, w .starts, body-length p q s (w .starts) inside))

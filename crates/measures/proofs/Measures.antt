@@ -1,4 +1,4 @@
--- The sizes of the canonical form, and that the code measures the shape of the recording that the walk accepted.
+-- The sizes of the canonical form, and that the code measures the measure of the recording that the walk accepted.
 -- Assumes nothing.
 use mathlib.Core.Path.{_≡_, refl, sym, ap, _∙_}
 use mathlib.Core.Bool.{Bool, true, false, _&&_, _||_}
@@ -24,39 +24,38 @@ use Rattle.rules.proofs.Sized.{sized, length-times, length-once, none-where-it-
 use Rattle.records.specs.Says.{headOf, Headroom, headroom}
 use Rattle.records.proofs.Facts.{both-false}
 use Rattle.signals.proofs.FramesBody.{Fields, yields-framesBody}
-use Rattle.rows.proofs.Lists.{admit-went, require-went, frames-refused}
-use Rattle.measures.specs.Shapes.{sizedFor, limit, shapeFor, measure, Bounds, Each, Given, ShapeOf}
+use Rattle.records.proofs.Opened.{admit-went, require-went}
+use Rattle.rows.proofs.Lists.{frames-refused}
+use Rattle.measures.specs.Measures.{sizedFor, mostServed, Large, Serves, measureFor, measuredFor, Bounds, Each, Given, MeasureOf}
 use Rattle.measures.specs.declared.Sized.{Sized}
-use Rattle.measures.specs.declared.Shape.{Shape}
-use Rattle.measures.specs.declared.Shaped.{Shaped}
-use Rattle.measures.specs.declared.Shaped.the-variants as Shaped
+use Rattle.measures.specs.declared.Measure.{Measure}
+use Rattle.measures.specs.declared.Measured.{Measured}
+use Rattle.measures.specs.declared.Measured.the-variants as Measured
+use Rattle.measures.proofs.Canonic.{goes-stops}
 use Rattle.measures.proofs.Lengths.{Accepted}
 
 -- sizes
-
-abbrev Serves : ℕ → Sized → Type 0
-Serves n r = (r ≡ sizedFor n) × (n ≤ r .length) × (r .length < n + 128)
 
 pub serves-once : (n : ℕ) → n ≤ C.most → Serves n (record { size = n; multiplier = 0; length = n })
 unfolding C.sizeFor
 serves-once n h =
     let s : C.sizeFor n ≡ n = rw (C.sizeFor, le-leb n C.most h) in
-    (rw (none-where-it-fits n h, s, length-once), omega arith, omega arith)
+    record { is = rw (none-where-it-fits n h, s, length-once); enough = omega arith; close = omega arith }
 
-module _ (n : ℕ) (h : C.most < n) (k : n ≤ limit) where
+module _ (n : ℕ) (large : Large n) where
   abbrev times : ℕ
   times = C.shares n C.most
 
   pub is-times : C.multiplierFor n ≡ times
   unfolding C.multiplierFor
-  is-times = rw (C.multiplierFor, lt-leb n C.most h)
+  is-times = rw (C.multiplierFor, lt-leb n C.most (large .more))
 
   is-share : C.sizeFor n ≡ C.shares n times
   unfolding C.sizeFor
-  is-share = rw (C.sizeFor, lt-leb n C.most h, is-times)
+  is-share = rw (C.sizeFor, lt-leb n C.most (large .more), is-times)
 
   pub times-low : (1 ≤ times) × (times ≤ 128)
-  times-low = (omega arith, rw (← is-times) (sized n .low k))
+  times-low = (omega (arith, large .more), rw (← is-times) (sized n .low (large .served)))
 
   is-product : R.lengthOf (C.sizeFor n) (C.multiplierFor n) ≡ C.shares n times * times
   is-product = rw (is-times, is-share) (length-times (C.shares n times) times (times-low .0))
@@ -71,7 +70,7 @@ module _ (n : ℕ) (h : C.most < n) (k : n ≤ limit) where
         let z = sized n in
         let e = is-product in
         let l = times-low .1 in
-        rw (is ∙ is-times) (rw (e, is-times, is-share), omega (arith, z .serves, is-times), omega (arith, z .close, is-times))
+        rw (is ∙ is-times) (record { is = rw (e, is-times, is-share); enough = omega (arith, z .serves, is-times); close = omega (arith, z .close, is-times) })
 
 -- what is measured
 
@@ -82,43 +81,44 @@ module _ (at end last seconds size filled count : ℕ) where
   abbrev whole : ℕ
   whole = 16 + (at + sizedFor frames .length + (last - end))
 
-  pub measure-long : limit < frames → Shaped.Nothing ≡ measure at end last seconds size filled count
-  unfolding measure
-  measure-long h = rw (measure, lt-leb frames limit h)
+  pub measure-long : mostServed < frames → Measured.Nothing ≡ measuredFor at end last seconds size filled count
+  unfolding measuredFor
+  measure-long h = rw (measuredFor, lt-leb frames mostServed h)
 
-  pub measure-over : (s : Sized) → s ≡ sizedFor frames → frames ≤ limit → limit < 16 + (at + s .length + (last - end)) → Shaped.Nothing ≡ measure at end last seconds size filled count
-  unfolding measure
-  measure-over s e h k = rw (measure, le-leb frames limit h, lt-leb whole limit (rw e at k))
+  pub measure-over : (s : Sized) → s ≡ sizedFor frames → frames ≤ mostServed → mostServed < 16 + (at + s .length + (last - end)) → Measured.Nothing ≡ measuredFor at end last seconds size filled count
+  unfolding measuredFor
+  measure-over s e h k = rw (measuredFor, le-leb frames mostServed h, lt-leb whole mostServed (rw e at k))
 
-  pub measure-on : (s w : Sized) → s ≡ sizedFor frames → w ≡ sizedFor (16 + (at + s .length + (last - end))) → frames ≤ limit → 16 + (at + s .length + (last - end)) ≤ limit →
-      Shaped.On (record { at = at; end = end; last = last; seconds = seconds; size = size; filled = filled; count = count; signals = s; whole = w }) ≡ measure at end last seconds size filled count
-  unfolding measure
-  measure-on s w e g h k = rw (measure, g, e, le-leb frames limit h, le-leb whole limit (rw e at k))
+  pub measure-on : (s w : Sized) → s ≡ sizedFor frames → w ≡ sizedFor (16 + (at + s .length + (last - end))) → frames ≤ mostServed → 16 + (at + s .length + (last - end)) ≤ mostServed →
+      Measured.On (record { at = at; end = end; last = last; seconds = seconds; size = size; filled = filled; count = count; signals = s; whole = w }) ≡ measuredFor at end last seconds size filled count
+  unfolding measuredFor
+  measure-on s w e g h k = rw (measuredFor, g, e, le-leb frames mostServed h, le-leb whole mostServed (rw e at k))
 
   -- its bounds, whatever the bytes are
-  pub measure-bounded : (n : ℕ) → seconds ≤ 3600 → 24 ≤ filled → filled ≤ size → size < 4294967296 → at + 32 + size * count ≤ end → end ≤ last → last ≤ n → Each (measure at end last seconds size filled count) (Bounds n)
-  unfolding measure
-  measure-bounded n h₁ h₂ h₃ h₄ h₅ h₆ h₇ = go (leb frames limit) (leb whole limit) refl refl
+  pub measure-bounded : (n : ℕ) → seconds ≤ 3600 → 24 ≤ filled → filled ≤ size → size < 4294967296 → at + 32 + size * count ≤ end → end ≤ last → last ≤ n →
+      Each (measuredFor at end last seconds size filled count) (Bounds n)
+  unfolding measuredFor
+  measure-bounded n h₁ h₂ h₃ h₄ h₅ h₆ h₇ = go (leb frames mostServed) (leb whole mostServed) refl refl
     where
-      go : (x y : Bool) → leb frames limit ≡ x → leb whole limit ≡ y → Each (measure at end last seconds size filled count) (Bounds n)
+      go : (x y : Bool) → leb frames mostServed ≡ x → leb whole mostServed ≡ y → Each (measuredFor at end last seconds size filled count) (Bounds n)
       go true true p q =
           let w = sized whole in
-          let l = leb-true whole limit q in
-          rw (measure, p, q) (record { seconds = h₁; low = h₂; fits = h₃; small = h₄; frames = h₅; end = h₆; last = h₇; signals = sized frames .serves; whole = w .serves; most = omega (arith, l, w .close, w .low l) })
-      go true false p q = rw (measure, p, q) tt
-      go false y p q = rw (measure, p) tt
+          let l = leb-true whole mostServed q in
+          rw (measuredFor, p, q) (record { seconds = h₁; low = h₂; fits = h₃; small = h₄; frames = h₅; end = h₆; last = h₇; signals = sized frames .serves; whole = w .serves; most = omega (arith, l, w .close, w .low l) })
+      go true false p q = rw (measuredFor, p, q) tt
+      go false y p q = rw (measuredFor, p) tt
 
-  pub measure-each : (P : Shape → Type 0) → P (shapeFor at end last seconds size filled count) → Each (measure at end last seconds size filled count) P
-  unfolding measure
-  measure-each P p = go (leb frames limit && leb whole limit) refl
+  pub measure-each : (P : Measure → Type 0) → P (measureFor at end last seconds size filled count) → Each (measuredFor at end last seconds size filled count) P
+  unfolding measuredFor
+  measure-each P p = go (leb frames mostServed && leb whole mostServed) refl
     where
-      go : (x : Bool) → (leb frames limit && leb whole limit) ≡ x → Each (measure at end last seconds size filled count) P
-      go true e = rw (measure, e) p
-      go false e = rw (measure, e) tt
+      go : (x : Bool) → (leb frames mostServed && leb whole mostServed) ≡ x → Each (measuredFor at end last seconds size filled count) P
+      go true e = rw (measuredFor, e) p
+      go false e = rw (measuredFor, e) tt
 
-  pub measure-given : (P : Shape → Type 0) → frames ≤ limit → whole ≤ limit → P (shapeFor at end last seconds size filled count) → Given (measure at end last seconds size filled count) P
-  unfolding measure
-  measure-given P h k p = rw (measure, le-leb frames limit h, le-leb whole limit k) p
+  pub measure-given : (P : Measure → Type 0) → frames ≤ mostServed → whole ≤ mostServed → P (measureFor at end last seconds size filled count) → Given (measuredFor at end last seconds size filled count) P
+  unfolding measuredFor
+  measure-given P h k p = rw (measuredFor, le-leb frames mostServed h, le-leb whole mostServed k) p
 
 -- what the three numbers say of a 140 whose body is s
 fields-told : (o : Order) (b : ℕ) (s : List ℕ) (c : R.Basic) (cs : List R.Channel) (h : R.Head) {f : R.Frames} {e : ℕ} → see o b s b (R.framesBody c cs h) ≡ goes f e → Fields (numberAt o 4 s 0) (numberAt o 4 s 4) (numberAt o 4 s 8) cs c f (R.span h)
@@ -134,8 +134,8 @@ module _ {o : Order} {base : ℕ} {s : List ℕ} {x : R.Placed} (v : Accepted o 
   stands = let e : v .at ≡ at = omega (arith, v .place) in rw e at (v .stands)
 
   -- its head is read
-  pub shape-unread : {n p : ℕ} → see o base s (base + at) (R.head (length s - at)) ≡ stops n p → ⊥
-  shape-unread g = let k = stands in let z : _≡_ {A = ℕ} 0 1 = cc in omega arith
+  pub measure-unread : {n p : ℕ} → see o base s (base + at) (R.head (length s - at)) ≡ stops n p → ⊥
+  measure-unread g = goes-stops (sym stands ∙ g)
 
   -- h: the code's head
   module _ (h : At.Head) (found : see o base s (base + at) (R.head (length s - at)) ≡ goes (headOf h) (base + (h .at + 16))) (here : h .at ≡ at) where
@@ -146,8 +146,8 @@ module _ {o : Order} {base : ℕ} {s : List ℕ} {x : R.Placed} (v : Accepted o 
     went = let e : v .at ≡ h .at = omega (arith, v .place) in rw (e, same-head) at (v .went)
 
     -- it is admitted
-    pub shape-refused : {n p : ℕ} → see o base s (base + (h .at + 16)) (R.admit (length s - h .at) 128 (leb 32) (eqb 0) (headOf h)) ≡ stops n p → ⊥
-    shape-refused g = frames-refused o base s (v .counts) (v .own) (x .recording .channels) (v .back) (base + (h .at + 16)) (length s - h .at) (headOf h) g went
+    pub measure-refused : {n p : ℕ} → see o base s (base + (h .at + 16)) (R.admit (length s - h .at) 128 (leb 32) (eqb 0) (headOf h)) ≡ stops n p → ⊥
+    measure-refused g = frames-refused o base s (v .counts) (v .own) (x .recording .channels) (v .back) (base + (h .at + 16)) (length s - h .at) (headOf h) g went
 
     -- the 140 stops at q, and another head follows
     module _ (q : ℕ) (stop : q ≡ h .at + R.span (headOf h)) where
@@ -159,8 +159,8 @@ module _ {o : Order} {base : ℕ} {s : List ℕ} {x : R.Placed} (v : Accepted o 
       enough : length s < q + v .fuel
       enough = omega (arith, v .enough, v .place, ap (λ (t : R.Head). R.span t) same-head)
 
-      pub shape-alone : {n p : ℕ} → ((fuel : ℕ) → length s < q + fuel → over headroom (see o base s (base + q) (R.next fuel (length s - q))) ≡ stops n p) → ⊥
-      shape-alone g = let k = sym (g (v .fuel) enough) ∙ behind in let z : _≡_ {A = ℕ} 0 1 = cc in omega arith
+      pub measure-alone : {n p : ℕ} → ((fuel : ℕ) → length s < q + fuel → over headroom (see o base s (base + q) (R.next fuel (length s - q))) ≡ stops n p) → ⊥
+      measure-alone g = goes-stops (sym behind ∙ g (v .fuel) enough)
 
       module _ (inside : q ≤ length s) (least : 32 ≤ R.span (headOf h)) where
         abbrev body : List ℕ
@@ -176,26 +176,26 @@ module _ {o : Order} {base : ℕ} {s : List ℕ} {x : R.Placed} (v : Accepted o 
             see-body o base at q s w _ (omega arith) inside (rw z at (stays-framesBody (v .counts) (x .recording .channels) (headOf h) (base + at + 16) least)) ∙ (ap (λ (y : ℕ). see o base s (base + (y + 16)) w) (sym here) ∙ (t .1 ∙ ap (λ (y : ℕ). goes (v .value) (base + y)) (sym stop)))
 
         module _ (t size n : ℕ) (e₁ : t ≡ numberAt o 4 body 0) (e₂ : size ≡ numberAt o 4 body 4) (e₃ : n ≡ numberAt o 4 body 8) where
-          pub shape-fields : Fields t size n (x .recording .channels) (v .counts) (v .value) (R.span (headOf h))
-          shape-fields = rw (e₁, e₂, e₃) (fields-told o (base + at + 16) body (v .counts) (x .recording .channels) (headOf h) in-body)
+          pub measure-fields : Fields t size n (x .recording .channels) (v .counts) (v .value) (R.span (headOf h))
+          measure-fields = rw (e₁, e₂, e₃) (fields-told o (base + at + 16) body (v .counts) (x .recording .channels) (headOf h) in-body)
 
           -- the code's test of these numbers passes
-          pub shape-fits : (bytes : ℕ) (r : Bool) → bytes ≡ R.sampleBytes t (x .recording .channels) → r ≡ leb (24 + bytes) size && leb (16 + size * n) (length body) → r ≡ false → ⊥
-          shape-fits bytes r i e f₀ =
-              let f = shape-fields in
+          pub measure-fits : (bytes : ℕ) (r : Bool) → bytes ≡ R.sampleBytes t (x .recording .channels) → r ≡ leb (24 + bytes) size && leb (16 + size * n) (length body) → r ≡ false → ⊥
+          measure-fits bytes r i e f₀ =
+              let f = measure-fields in
               let l : 16 + length body ≡ q - at = body-length at q s (omega arith) inside in
               both-false (24 + bytes) size (16 + size * n) (length body) r e f₀ (rw i (f .long)) (omega (arith, f .fits, mul-comm n size))
 
-          -- and what is measured is the recording's shape; d: the head that follows
+          -- and what is measured is the recording's measure; d: the head that follows
           module _ (d : At.Head) (follows : (fuel : ℕ) → length s < q + fuel → over headroom (see o base s (base + q) (R.next fuel (length s - q))) ≡ goes (record { head = headOf d; room = length s - d .at }) (base + (d .at + 16))) (last : d .at + 16 ≤ length s) (bytes : ℕ) (many : bytes ≡ R.sampleBytes t (x .recording .channels)) where
             abbrev frames-bytes : ℕ
             frames-bytes = C.framesBytes (x .recording .seconds) (x .recording .channels) (x .recording .frames)
 
             seconds-is : x .recording .seconds ≡ t
-            seconds-is = v .seconds ∙ shape-fields .seconds
+            seconds-is = v .seconds ∙ measure-fields .seconds
 
             frames-is : 32 + (24 + bytes) * n ≡ frames-bytes
-            frames-is = rw (seconds-is, v .count, ← shape-fields .count, many, mul-comm n (24 + R.sampleBytes t (x .recording .channels)))
+            frames-is = rw (seconds-is, v .count, ← measure-fields .count, many, mul-comm n (24 + R.sampleBytes t (x .recording .channels)))
 
             rest-is : d .at + 16 - q ≡ v .makers + 16
             rest-is =
@@ -205,7 +205,7 @@ module _ {o : Order} {base : ℕ} {s : List ℕ} {x : R.Placed} (v : Accepted o 
             whole-is : 16 + (at + sizedFor (32 + (24 + bytes) * n) .length + (d .at + 16 - q)) ≡ 16 + W.size (C.content (x .recording))
             whole-is = rw (frames-is, rest-is) (omega (arith, v .long, v .place))
 
-            pub shape-told : Given (measure at q (d .at + 16) t size (24 + bytes) n) (λ f. ShapeOf f x)
-            shape-told =
-                measure-given at q (d .at + 16) t size (24 + bytes) n (λ f. ShapeOf f x) (rw frames-is (v .few)) (rw whole-is (v .total))
-                (record { at = is; seconds = sym seconds-is; count = shape-fields .count ∙ sym (v .count); filled = rw (seconds-is, many); signals = ap sizedFor frames-is; whole = ap sizedFor whole-is })
+            pub measure-told : Given (measuredFor at q (d .at + 16) t size (24 + bytes) n) (λ f. MeasureOf f x)
+            measure-told =
+                measure-given at q (d .at + 16) t size (24 + bytes) n (λ f. MeasureOf f x) (rw frames-is (v .few)) (rw whole-is (v .total))
+                (record { at = is; seconds = sym seconds-is; count = measure-fields .count ∙ sym (v .count); filled = rw (seconds-is, many); signals = ap sizedFor frames-is; whole = ap sizedFor whole-is })

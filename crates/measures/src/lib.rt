@@ -1,23 +1,15 @@
 // How long a recording's canonical form is, and what its records 10 and 140 then say.
 ghost use mathlib.Core.Path.{_≡_};
-ghost use mathlib.Core.Option.{Option};
-ghost use Prim.Native.Nat.{ℕ, _+_, _*_, _≤_, _<_};
-ghost use lib.ListN.{length};
-ghost use Rattle.words.specs.Sizes.{Addressable};
-ghost use Rattle.walk.specs.See.{see, goes};
-ghost use Rattle.rules.specs.Rules as R;
-ghost use Rattle.rules.specs.Canonical as C;
-ghost use Rattle.records.specs.Says.{Kept};
-ghost use Rattle.measures.specs.Shapes.{sizedFor, measure, ShapeOf, ShapeIn, Bounds, Each, Given};
+ghost use Prim.Native.Nat.{_≤_};
+ghost use Rattle.measures.specs.Measures.{mostServed, Large, Smallest, Serves, InOrder, measuredFor, Measurable, MeasuredAs};
 use bodies::fits;
-use records::Fits;
 use records::Headed;
-use records::Serial;
 use records::Step;
 use rules::Channels;
 use rules::Frame;
 use rules::Frames;
 use rules::Head;
+use rules::Kind;
 use words::Order;
 
 // The size and the multiplier of a record, and the length that they make.
@@ -38,16 +30,16 @@ impl Sized {
 
 // The smallest multiplier that serves a record of n bytes, where the size alone does not.
 fn multiplier_for(n: usize) -> usize
-    requires { ⌜ (2147483647 < n) × (n ≤ 274877906816) ⌝ }
-    ensures { λ r. ⌜ (r ≡ C.multiplierFor n) × (1 ≤ r) × (r ≤ 128) ⌝ }
+    requires { ⌜ Large n ⌝ }
+    ensures { λ r. ⌜ Smallest n r ⌝ }
 {
     (n + Sized::ROUND) / Sized::MOST
 }
 
 // The size and the multiplier of a record of n bytes: no multiplier where the size serves.
 pub fn size_for(n: usize) -> Sized
-    requires { ⌜ n ≤ 274877906816 ⌝ }
-    ensures { λ r. ⌜ (r ≡ sizedFor n) × (n ≤ r .length) × (r .length < n + 128) ⌝ }
+    requires { ⌜ n ≤ mostServed ⌝ }
+    ensures { λ r. ⌜ Serves n r ⌝ }
 {
     if n <= Sized::MOST {
         return Sized {
@@ -67,7 +59,7 @@ pub fn size_for(n: usize) -> Sized
 
 // A recording's 140, which stands at byte `at` of the body and stops at byte `end`; `last` is where the delimiter behind it stops.
 // `filled` is a frame's length without padding, `signals` and `whole` the sizes of the canonical 140 and 10.
-pub struct Shape {
+pub struct Measure {
     pub at: usize,
     pub end: usize,
     pub last: usize,
@@ -79,13 +71,13 @@ pub struct Shape {
     pub whole: Sized,
 }
 
-pub enum Shaped {
-    On(Shape),
+pub enum Measured {
+    On(Measure),
     Nothing,
 }
 
-// The shape of a 140 of which these things are known.
-fn measured(
+// The measure of a 140 of which these things are known.
+fn measure_for(
     at: usize,
     end: usize,
     last: usize,
@@ -93,21 +85,21 @@ fn measured(
     size: usize,
     filled: usize,
     count: u32,
-) -> Shaped
-    requires { ⌜ (at ≤ end) × (end ≤ last) × Addressable last × (filled < 4294967296) ⌝ }
-    ensures { λ a. ⌜ a ≡ measure at end last seconds size filled count ⌝ }
+) -> Measured
+    requires { ⌜ InOrder at end last filled ⌝ }
+    ensures { λ a. ⌜ a ≡ measuredFor at end last seconds size filled count ⌝ }
 {
     let n = Frames::FIRST + filled * count as usize;
     if Sized::LIMIT < n {
-        return Shaped::Nothing;
+        return Measured::Nothing;
     }
     let signals = size_for(n);
     let padded = signals.length;
     let whole = Head::LENGTH + (at + padded + (last - end));
     if Sized::LIMIT < whole {
-        return Shaped::Nothing;
+        return Measured::Nothing;
     }
-    Shaped::On(Shape {
+    Measured::On(Measure {
         at,
         end,
         last,
@@ -120,41 +112,34 @@ fn measured(
     })
 }
 
-// The shape of the recording whose body is s, with the 140 at byte `at` of it and the records 125 that hold for it in the file.
-pub fn read_shape(o: Order, file: &[u8], cs: Channels, at: usize, s: &[u8], base: usize) -> Shaped
-    requires { ⌜ (cs .subs + 256 * cs .count ≤ length (now file)) × (cs .count ≤ 128) × (at ≤ length (now s)) × Addressable (base + length (now s)) ⌝ }
-    ensures { λ a. ⌜ Each a (Bounds (length (now (s .entry)))) × Each a (ShapeIn o base (now (s .entry))) × ((held : Option R.Held) (h : R.Head) (x : R.Placed) (e : ℕ) → R.span h ≡ 16 + length (now (s .entry)) → length (x .recording .channels) ≡ cs .count → Kept o (now (file .entry)) (cs .subs) (x .recording .channels) → 16 + at ≡ x .layout .at140 → see o base (now (s .entry)) base (R.recordingBody held h) ≡ goes x e → Given a (λ f. ShapeOf f x)) ⌝ }
+// The measure of the recording whose body is s, with the 140 at byte `at` of it and the records 125 that hold for it in the file.
+pub fn measure_of(o: Order, file: &[u8], cs: Channels, at: usize, s: &[u8], base: usize) -> Measured
+    requires { ⌜ Measurable (now file) (now s) cs at base ⌝ }
+    ensures { λ a. ⌜ MeasuredAs o (now (file .entry)) (now (s .entry)) cs at base a ⌝ }
 {
-    let found = records::head_at(o, s, base, at);
+    let found = records::head::head_at(o, s, base, at);
     let Headed::At(h) = found else {
-        return Shaped::Nothing;
+        return Measured::Nothing;
     };
-    let room = records::admit(
-        h,
-        base,
-        s.len(),
-        Head::MOST,
-        Fits::AtLeast(Frames::LEAST),
-        Serial::Is(0),
-    );
+    let room = records::kinds::admit(h, base, s.len(), Kind::Frames);
     let Step::On(end) = room else {
-        return Shaped::Nothing;
+        return Measured::Nothing;
     };
-    let behind = records::next_head(o, s, base, end);
+    let behind = records::makers::next_head(o, s, base, end);
     let Headed::At(d) = behind else {
-        return Shaped::Nothing;
+        return Measured::Nothing;
     };
     let body = &s[at + Head::LENGTH..end];
     let t = records::field(o, body, Frames::SECONDS);
     let size = records::field(o, body, Frames::FRAME_LENGTH) as usize;
     let count = records::field(o, body, Frames::COUNT);
     if Frames::MOST_SECONDS < t {
-        return Shaped::Nothing;
+        return Measured::Nothing;
     }
-    let bytes = records::sample_bytes(o, file, cs.subs, cs.count, t);
+    let bytes = records::channels::sample_bytes(o, file, cs.subs, cs.count, t);
     if !fits(bytes, size, count, body.len()) {
-        return Shaped::Nothing;
+        return Measured::Nothing;
     }
     let filled = Frame::SAMPLES + bytes;
-    measured(at, end, d.at + Head::LENGTH, t, size, filled, count)
+    measure_for(at, end, d.at + Head::LENGTH, t, size, filled, count)
 }

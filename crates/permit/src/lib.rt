@@ -2,7 +2,7 @@
 ghost use mathlib.Core.Path.{_≡_};
 ghost use Rattle.makers.specs.Makers.{found};
 ghost use Rattle.permit.specs.Permit.{meaning, barring, within, earlier, permitted};
-use makers::Found;
+use makers::MakerField;
 use rules::Refusal;
 
 // How many bytes are written, or the refusal.
@@ -12,11 +12,11 @@ pub enum Written {
 }
 
 // 18 where a maker's record was found.
-fn barred(made: Found, need: usize) -> Written
+fn barred(made: MakerField, need: usize) -> Written
     ensures { λ a. ⌜ meaning a ≡ barring (found made) need ⌝ }
 {
-    let Found::Nothing = made else {
-        return Written::Refused(makers::of_found(made));
+    let MakerField::Nothing = made else {
+        return Written::Refused(makers::of_field(made));
     };
     Written::Bytes(need)
 }
@@ -35,14 +35,14 @@ fn short(need: usize, room: usize) -> Written
 fn first(a: Written, b: Written) -> Written
     ensures { λ r. ⌜ meaning r ≡ earlier (meaning a) (meaning b) ⌝ }
 {
-    match a {
-        Written::Refused(r) => Written::Refused(r),
-        Written::Bytes(_) => b,
-    }
+    let Written::Bytes(_) = a else {
+        return a;
+    };
+    b
 }
 
 // The bytes that may be written, or the first refusal of 18 and 17.
-pub fn permit(made: Found, need: usize, room: usize) -> Written
+pub fn permit(made: MakerField, need: usize, room: usize) -> Written
     ensures { λ a. ⌜ meaning a ≡ permitted (found made) need room ⌝ }
 {
     let maker = barred(made, need);

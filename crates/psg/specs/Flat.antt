@@ -1,5 +1,7 @@
 -- Answers taken apart into numbers. Whatever a refusal does not say is 0.
 -- Assumes nothing.
+use mathlib.Core.Path.{_≡_}
+use mathlib.Core.List.{List}
 use Prim.Native.Nat.{ℕ}
 use lib.IntN.{pos}
 use Rattle.words.specs.Floats.{bitsOf}
@@ -24,6 +26,11 @@ use Rattle.psg.specs.declared.answers.Item.{Item}
 use Rattle.psg.specs.declared.answers.Patterns.{Patterns}
 use Rattle.psg.specs.declared.answers.Sample.{Sample}
 use Rattle.psg.specs.declared.answers.View.{View}
+
+-- a call that writes: the answer a is x, and its buffer holds xs afterwards
+pub record Leaves {A : Type 0} (x : Counted) (xs : List A) (a : Counted) (out : List A) : Type 0 where
+  pub answers : a ≡ x
+  pub holds : out ≡ xs
 
 abbrev pub counted : ℕ → Counted
 counted n = record { refusal = 0; position = 0; count = n }
@@ -50,7 +57,13 @@ areFloats (Calibration.Numbers a b c d) = 0
 areFloats (Calibration.Patterns a b c d) = 1
 
 abbrev pub patternsOf : Calibration → Patterns
-patternsOf x = record { «is_float» = areFloats x; cal = wordsOf x .cal; «cal_ad» = wordsOf x .calAD; «offset_ad» = wordsOf x .offsetAD; «offset_cal» = wordsOf x .offsetCal }
+patternsOf x = record {
+  «is_float» = areFloats x;
+  cal = wordsOf x .cal;
+  «cal_ad» = wordsOf x .calAD;
+  «offset_ad» = wordsOf x .offsetAD;
+  «offset_cal» = wordsOf x .offsetCal;
+}
 
 abbrev pub flatChannel : Answer Descriptor → Channel
 flatChannel (value x) = record {

@@ -8,14 +8,14 @@ ghost use Rattle.questions.specs.Meanings.{meaningF, meaningD, meaningI, meanin
 ghost use Rattle.psg.specs.Flat.{counted, stopped, countedBytes, flatFacts, patternsOf, flatChannel, flatItem, flatClock, flatCount, flatSample};
 use permit::Written;
 use questions::channels::Calibration;
-use questions::channels::Described;
+use questions::channels::ChannelTold;
 use questions::channels::Descriptor;
-use questions::items::Itemed;
-use recordings::Told;
+use questions::items::ItemTold;
+use recordings::FactsTold;
 use rules::Refusal;
+use samples::ClockTold;
 use samples::Number;
-use samples::Sampled;
-use samples::Timed;
+use samples::SampleTold;
 
 // How many rows, bytes or samples.
 #[repr(C)]
@@ -149,18 +149,18 @@ fn word(z: i32) -> u32
     4294967295 - ((-1 - z) as u32)
 }
 
-pub fn facts_of(a: Told) -> Facts
+pub fn facts_of(a: FactsTold) -> Facts
     ensures { λ r. ⌜ r ≡ flatFacts (meaningF a) ⌝ }
 {
     match a {
-        Told::Facts(x) => Facts {
+        FactsTold::Facts(x) => Facts {
             refusal: 0,
             position: 0,
             channels: x.channels,
             frames: x.frames,
             seconds: x.seconds,
         },
-        Told::Refused(r) => Facts {
+        FactsTold::Refused(r) => Facts {
             refusal: r.0,
             position: r.1 as u64,
             channels: 0,
@@ -258,27 +258,27 @@ fn channel_refused(r: Refusal) -> Channel
     }
 }
 
-pub fn channel_of(a: Described) -> Channel
+pub fn channel_of(a: ChannelTold) -> Channel
     ensures { λ r. ⌜ r ≡ flatChannel (meaningD a) ⌝ }
 {
     match a {
-        Described::Channel(x) => channel_told(x),
-        Described::Refused(r) => channel_refused(r),
+        ChannelTold::Channel(x) => channel_told(x),
+        ChannelTold::Refused(r) => channel_refused(r),
     }
 }
 
-pub fn item_of(a: Itemed) -> Item
+pub fn item_of(a: ItemTold) -> Item
     ensures { λ r. ⌜ r ≡ flatItem (meaningI a) ⌝ }
 {
     match a {
-        Itemed::Item(x) => Item {
+        ItemTold::Item(x) => Item {
             refusal: 0,
             position: 0,
             code: x.code,
             text: x.text.at as u64,
             text_length: x.text.length as u64,
         },
-        Itemed::Refused(r) => Item {
+        ItemTold::Refused(r) => Item {
             refusal: r.0,
             position: r.1 as u64,
             code: 0,
@@ -288,18 +288,18 @@ pub fn item_of(a: Itemed) -> Item
     }
 }
 
-pub fn clock_of(a: Timed) -> Clock
+pub fn clock_of(a: ClockTold) -> Clock
     ensures { λ r. ⌜ r ≡ flatClock (meaningT a) ⌝ }
 {
     match a {
-        Timed::At(x) => Clock {
+        ClockTold::At(x) => Clock {
             refusal: 0,
             position: 0,
             hour: x.hour,
             minute: x.minute,
             second: x.second,
         },
-        Timed::Refused(r) => Clock {
+        ClockTold::Refused(r) => Clock {
             refusal: r.0,
             position: r.1 as u64,
             hour: 0,
@@ -318,12 +318,12 @@ pub fn written_of(a: Written) -> Counted
     }
 }
 
-pub fn count_of(a: samples::Counted) -> Counted
+pub fn count_of(a: samples::CountTold) -> Counted
     ensures { λ r. ⌜ r ≡ flatCount (meaningC a) ⌝ }
 {
     match a {
-        samples::Counted::Samples(n) => answered(n),
-        samples::Counted::Refused(r) => refused(r),
+        samples::CountTold::Samples(n) => answered(n),
+        samples::CountTold::Refused(r) => refused(r),
     }
 }
 
@@ -355,12 +355,12 @@ fn sample_told(x: Number) -> Sample
     }
 }
 
-pub fn sample_of(a: Sampled) -> Sample
+pub fn sample_of(a: SampleTold) -> Sample
     ensures { λ r. ⌜ r ≡ flatSample (meaningS a) ⌝ }
 {
     match a {
-        Sampled::Value(x) => sample_told(x),
-        Sampled::Refused(r) => Sample {
+        SampleTold::Value(x) => sample_told(x),
+        SampleTold::Refused(r) => Sample {
             refusal: r.0,
             position: r.1 as u64,
             is_float: 0,

@@ -7,7 +7,7 @@ ghost use Rattle.table.specs.Table as Table;
 ghost use Rattle.turn.specs.Turn as Turn;
 ghost use Rattle.rewrite.specs.Rewrite as Rewrite;
 ghost use Rattle.questions.specs.Questions.{factsOf, channelOf, patientItemOf, eventItemOf, clockOf, countOf, sampleOf, viewOf};
-ghost use Rattle.psg.specs.Flat.{countedRows, countedBytes, flatFacts, flatChannel, flatItem, flatClock, flatCount, flatSample, flatView};
+ghost use Rattle.psg.specs.Flat.{Leaves, countedRows, countedBytes, flatFacts, flatChannel, flatItem, flatClock, flatCount, flatSample, flatView};
 use crate::answers::Channel;
 use crate::answers::Clock;
 use crate::answers::Counted;
@@ -15,13 +15,16 @@ use crate::answers::Facts;
 use crate::answers::Item;
 use crate::answers::Sample;
 use crate::answers::View;
-use samples::Ran;
 use table::Listed;
 
 // The table: how many rows of four numbers were written.
 #[no_mangle]
 pub extern "C" fn psg_table(file: &[u8], rows: &mut [i64]) -> Counted
-    ensures { λ a. ⌜ (a ≡ countedRows (Table.answerOf (now (file .entry)) (length (now (rows .entry))))) × (now (rows .exit) ≡ Table.afterwards (now (file .entry)) (now (rows .entry))) ⌝ }
+    ensures { λ a. ⌜ Leaves
+        (countedRows (Table.answerOf (now (file .entry)) (length (now (rows .entry)))))
+        (Table.afterwards (now (file .entry)) (now (rows .entry)))
+        a
+        (now (rows .exit)) ⌝ }
 {
     let listed = table::table(file, rows);
     match listed {
@@ -33,7 +36,11 @@ pub extern "C" fn psg_table(file: &[u8], rows: &mut [i64]) -> Counted
 // The file in the other byte order: how many bytes were written.
 #[no_mangle]
 pub extern "C" fn psg_turn(file: &[u8], out: &mut [u8]) -> Counted
-    ensures { λ a. ⌜ (a ≡ countedBytes (Turn.answerOf (now (file .entry)) (length (now (out .entry))))) × (now (out .exit) ≡ Turn.afterwards (now (file .entry)) (now (out .entry))) ⌝ }
+    ensures { λ a. ⌜ Leaves
+        (countedBytes (Turn.answerOf (now (file .entry)) (length (now (out .entry)))))
+        (Turn.afterwards (now (file .entry)) (now (out .entry)))
+        a
+        (now (out .exit)) ⌝ }
 {
     answers::written_of(turn::turn(file, out))
 }
@@ -41,7 +48,11 @@ pub extern "C" fn psg_turn(file: &[u8], out: &mut [u8]) -> Counted
 // The canonical form of the file, in the order that a letter names: how many bytes were written.
 #[no_mangle]
 pub extern "C" fn psg_rewrite(file: &[u8], order: u8, out: &mut [u8]) -> Counted
-    ensures { λ a. ⌜ (a ≡ countedBytes (Rewrite.answerOf (now (file .entry)) order (length (now (out .entry))))) × (now (out .exit) ≡ Rewrite.afterwards (now (file .entry)) order (now (out .entry))) ⌝ }
+    ensures { λ a. ⌜ Leaves
+        (countedBytes (Rewrite.answerOf (now (file .entry)) order (length (now (out .entry)))))
+        (Rewrite.afterwards (now (file .entry)) order (now (out .entry)))
+        a
+        (now (out .exit)) ⌝ }
 {
     answers::written_of(rewrite::rewrite(file, order, out))
 }
@@ -102,26 +113,14 @@ pub extern "C" fn psg_sample(
     answers::sample_of(questions::sample(file, recording, frame, channel, sample))
 }
 
-// Where a slice lies in the file cannot be read off it, so the part is worked out here once more.
+// The part that `questions::view` shows.
 #[no_mangle]
 pub extern "C" fn psg_view(file: &[u8], recording: usize, frame: usize, channel: usize) -> View
     ensures { λ a. ⌜ a ≡ flatView (viewOf (now (file .entry)) recording frame channel) ⌝ }
 {
-    let ran = samples::samples_asked(file, recording, frame, channel);
-    let Ran::At(_, run) = ran else {
-        return View {
-            start: 0,
-            length: 0,
-        };
-    };
-    if run.count == 0 {
-        return View {
-            start: 0,
-            length: 0,
-        };
-    }
+    let part = questions::view_part(file, recording, frame, channel);
     View {
-        start: run.at as u64,
-        length: (records::width(run.format) * run.count) as u64,
+        start: part.at as u64,
+        length: part.length as u64,
     }
 }

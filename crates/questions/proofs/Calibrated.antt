@@ -1,9 +1,8 @@
 -- Four calibration words: whether one is a NaN's pattern, and that each keeps its 32 bits, whatever the four are answered as.
 -- Assumes nothing.
 use mathlib.Core.Path.{_≡_, refl}
-use mathlib.Core.Bool.{Bool, true, false, _||_}
+use mathlib.Core.Bool.{Bool, true, false, true≢false, _||_}
 use Prim.Native.Nat.{ℕ, _^_, _<_}
-use native.Mathlib.Omega.{arith}
 use lib.Dec.{eqb}
 use Rattle.words.specs.Floats.{isNan, floatOf}
 use Rattle.words.proofs.Floats.{bitsOf-floatOf}
@@ -24,7 +23,7 @@ or-left true b e = e
 or-left false b e = refl
 
 or-right : (a b : Bool) → a || b ≡ false → b ≡ false
-or-right true b e = absurd (let z : _≡_ {A = ℕ} 0 1 = cc in omega arith)
+or-right true b e = absurd (true≢false e)
 or-right false b e = e
 
 module _ (a b c d : ℕ) where

@@ -1,7 +1,7 @@
 -- The items of a 130 or a 200 that a walk passed: how many there are, where each stands, and what its bytes say.
 -- Assumes nothing.
 use mathlib.Core.Path.{_≡_, refl, sym, ap, _∙_}
-use mathlib.Core.Bool.{Bool, true, false}
+use mathlib.Core.Bool.{Bool, true, false, false≢true}
 use mathlib.Core.List.{List, [], _∷_}
 use Prim.Native.Nat.{ℕ, zero, suc, _+_, _-_, _≤_, _<_}
 use native.Mathlib.Nat.{add-zero, add-assoc}
@@ -19,6 +19,7 @@ use Rattle.rules.specs.Rules.{between, Head, span, admit, Item, item, itemSize,
 use Rattle.records.proofs.Facts.{between-in}
 use Rattle.recordings.specs.Answers.{value, refusal}
 use Rattle.recordings.proofs.Chosen.{numbered-in, numbered-out}
+use Rattle.questions.specs.Holding.{Reaches}
 use Rattle.questions.specs.Questions.{itemIn}
 
 -- what a walk gives, and where it ends, is what `see` comes to
@@ -27,7 +28,7 @@ unfolding see gate
 yields-self o b s (give x) at = refl
 yields-self o b s (refuse n p) at = tt
 yields-self o b s (check true n p w) at = λ e. yields-self o b s w at
-yields-self o b s (check false n p w) at = λ e. absurd (let z : _≡_ {A = ℕ} 0 1 = cc in omega arith)
+yields-self o b s (check false n p w) at = λ e. absurd (false≢true e)
 yields-self o b s (number n f) at = yields-self o b s (f (numberAt o n s (at - b))) (at + n)
 yields-self o b s (read k n f) at = yields-self o b s (f (laid o k (bytesAt n s (at - b)))) (at + n)
 yields-self o b s (skip n w) at = yields-self o b s w (at + n)
@@ -105,9 +106,7 @@ module _ (o : Order) (s : List ℕ) (ok : ℕ → Bool) (n room p : ℕ) {is : L
     pub list-item : (d : Item) (j : ℕ) → j < n → ItemAt o s (p + itemBytes (take j is)) (getD is j d)
     list-item = lines .1 ends .1
 
--- for the loop over items: i of the n items asked to pass are passed at p, in each list of so many that stands at `first`
-abbrev pub Reaches : Order → List ℕ → ℕ → ℕ → ℕ → ℕ → Type 0
-Reaches o s first n i p = (ok : ℕ → Bool) (count room : ℕ) (is : List Item) (e : ℕ) → n ≤ count → e ≤ length s → see o 0 s first (itemList ok count room) ≡ goes is e → p ≡ first + itemBytes (take i is)
+-- for the loop over items
 
 pub reaches-none : (o : Order) (s : List ℕ) (first n : ℕ) → Reaches o s first n 0 first
 unfolding itemBytes

@@ -14,8 +14,8 @@ use Rattle.walk.specs.See.{goes, see}
 use Rattle.rules.specs.Rules as R
 use Rattle.rules.proofs.Asked.{Rest, event-rest}
 use Rattle.rules.proofs.Held.{patient-rest-holds}
-use Rattle.records.specs.declared.Kind.{Kind}
-use Rattle.records.specs.declared.Kind.the-variants as Kind
+use Rattle.records.specs.declared.items.Holder.{Holder}
+use Rattle.records.specs.declared.items.Holder.the-variants as Holder
 use Rattle.descriptions.specs.declared.Held.{Held}
 use Rattle.descriptions.specs.declared.Held.the-variants as Held
 use Rattle.descriptions.specs.declared.Places.{Places}
@@ -64,13 +64,17 @@ module _ (s : List ℕ) (b : Bytes s) {v : R.File} {t : List Event} (h : R.judge
   event-items own = rest-items R.eventCode _ _ (rw (one .is d) at (event-rest s b h d k (one .inside) (rw (one .is d) own)))
 
 -- a recording that was refused
-pub asked-refused : (k : Kind) (s : List ℕ) (i j : ℕ) {n p : ℕ} → recordingOf s i ≡ refusal n p → refusal n p ≡ itemOf k s i j
+pub asked-refused : (k : Holder) (s : List ℕ) (i j : ℕ) {n p : ℕ} → recordingOf s i ≡ refusal n p → refusal n p ≡ itemOf k s i j
 asked-refused k s i j h = rw h
 
 numbered-none : {A : Type 0} (j : ℕ) → numbered {A = A} [] j ≡ outside
 unfolding numbered indexed
 numbered-none zero = refl
 numbered-none (suc j) = refl
+
+-- a place that is held is not nothing
+no-place : {at : ℕ} → Held.At at ≡ Held.Nothing → ⊥
+no-place h = let z : _≡_ {A = ℕ} 0 1 = cc in omega arith
 
 -- a recording that was found
 module _ {s : List ℕ} {i : ℕ} {o : Order} {q : Places} {r : Chosen} (f : FoundIn s i o q r) where
@@ -91,32 +95,32 @@ module _ {s : List ℕ} {i : ℕ} {o : Order} {q : Places} {r : Chosen} (f : Fou
       (rw (f .order) (event-items s (f .bytes) (chosen .judged) (r .index) (r .this) (chosen .one) own))
 
   -- where the code holds a place, the items that hold stand there
-  holds-at : (k : Kind) (at : ℕ) → holdingOf k q ≡ Held.At at → ItemsSeen o s at (itemsOf k r) × (at ≡ itemsAt k r)
-  holds-at Kind.Patient at h = let e : at ≡ at130 r = cc in (rw e patient-held, e)
-  holds-at Kind.Event at h = go (r .this .recording .ownEvents) refl (sym (ap (holdingOf Kind.Event) (f .same)) ∙ h)
+  holds-at : (k : Holder) (at : ℕ) → holdingOf k q ≡ Held.At at → ItemsSeen o s at (itemsOf k r) × (at ≡ itemsAt k r)
+  holds-at Holder.Patient at h = let e : at ≡ at130 r = cc in (rw e patient-held, e)
+  holds-at Holder.Event at h = go (r .this .recording .ownEvents) refl (sym (ap (holdingOf Holder.Event) (f .same)) ∙ h)
     where
       go : (b : Bool) → r .this .recording .ownEvents ≡ b → eventsIn b (pick b (startOf r + r .this .layout .at200) 0) ≡ Held.At at →
           ItemsSeen o s at (pick b (r .this .recording .events) []) × (at ≡ startOf r + r .this .layout .at200)
       go true own g = let e : at ≡ startOf r + r .this .layout .at200 = cc in (rw e (events-held own), e)
-      go false own g = absurd (let z : _≡_ {A = ℕ} 0 1 = cc in omega arith)
+      go false own g = absurd (no-place (sym g))
 
   -- where it holds none, there are none
-  holds-nothing : (k : Kind) → holdingOf k q ≡ Held.Nothing → itemsOf k r ≡ []
-  holds-nothing Kind.Patient h = absurd (let z : _≡_ {A = ℕ} 0 1 = cc in omega arith)
-  holds-nothing Kind.Event h = go (r .this .recording .ownEvents) (sym (ap (holdingOf Kind.Event) (f .same)) ∙ h)
+  holds-nothing : (k : Holder) → holdingOf k q ≡ Held.Nothing → itemsOf k r ≡ []
+  holds-nothing Holder.Patient h = absurd (no-place h)
+  holds-nothing Holder.Event h = go (r .this .recording .ownEvents) (sym (ap (holdingOf Holder.Event) (f .same)) ∙ h)
     where
       go : (b : Bool) → eventsIn b (pick b (startOf r + r .this .layout .at200) 0) ≡ Held.Nothing → pick b (r .this .recording .events) [] ≡ []
-      go true g = absurd (let z : _≡_ {A = ℕ} 0 1 = cc in omega arith)
+      go true g = absurd (no-place g)
       go false g = refl
 
-  pub asked-nothing : (k : Kind) (j : ℕ) → holdingOf k q ≡ Held.Nothing → refusal 19 0 ≡ itemOf k s i j
+  pub asked-nothing : (k : Holder) (j : ℕ) → holdingOf k q ≡ Held.Nothing → refusal 19 0 ≡ itemOf k s i j
   unfolding itemIn
   asked-nothing k j h = rw (f .is, itemIn, holds-nothing k h, numbered-none j)
 
-  pub asked-inside : (k : Kind) (at : ℕ) → holdingOf k q ≡ Held.At at → at ≤ length s
+  pub asked-inside : (k : Holder) (at : ℕ) → holdingOf k q ≡ Held.At at → at ≤ length s
   asked-inside k at h = items-seen-inside (holds-at k at h .0)
 
   -- what is said of the items at a place
-  pub asked-item : (k : Kind) (at j : ℕ) (a : Answer Entry) → holdingOf k q ≡ Held.At at →
+  pub asked-item : (k : Holder) (at j : ℕ) (a : Answer Entry) → holdingOf k q ≡ Held.At at →
       ((ok : ℕ → Bool) (room : ℕ) (h : R.Head) (is : List R.Item) (e : ℕ) → e ≤ length s → see o 0 s (at + 16) (R.items ok room h) ≡ goes is e → a ≡ itemIn is at j) → a ≡ itemOf k s i j
   asked-item k at j a h says = let x = holds-at k at h in rw (f .is, ← x .1) (says (x .0 .ok) (x .0 .room) (x .0 .head) (itemsOf k r) (x .0 .end) (x .0 .ends) (x .0 .seen))

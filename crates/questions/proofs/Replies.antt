@@ -37,6 +37,9 @@ use Rattle.questions.specs.declared.channels.Descriptor.{Descriptor}
 use Rattle.questions.specs.declared.channels.Text.{Text}
 
 -- M, F and T
+pub facts-refused : (s : List ℕ) (i : ℕ) {n p : ℕ} → recordingOf s i ≡ refusal n p → refusal n p ≡ factsOf s i
+facts-refused s i h = rw h
+
 pub facts-found : {s : List ℕ} {i : ℕ} {o : Order} {q : Places} {r : Chosen} → FoundIn s i o q r → value (countsOf q) ≡ factsOf s i
 facts-found {q} {r} f =
     let m : q .count ≡ length (r .this .recording .channels) = ap (λ (y : Places). y .count) (f .same) in
@@ -105,13 +108,19 @@ pub shown : (file : RefT (List ℕ)) (a e γ : ℕ) {p : Text} → p ≡ textAt 
 unfolding bytesAt
 shown file a e γ h = rw h (record { bytes = refl; block = refl; offset = omega arith })
 
+pub part-back : (a n : ℕ) → textAt a n ≡ textAt a (a + n - a)
+part-back a n = let d : n ≡ a + n - a = omega arith in ap (textAt a) d
+
 -- the answer of one of them
 abbrev said : Answer Value → Answer Number
 said a = a >>= λ v. value (numberIn v)
 
--- sample m stands among them
-pub among : (at w m n L : ℕ) → m < n → at + w * n ≤ L → at + w * m + w ≤ L
-among at w m n L h l = omega (arith, mul-le-mul-left w h)
+-- they lie in the file, at the width w that the code has; and sample m among them
+pub ended-at : (at w v n L : ℕ) → w ≡ v → at + v * n ≤ L → at + w * n ≤ L
+ended-at at w v n L e l = rw e l
+
+pub among : (at w v m n L : ℕ) → w ≡ v → m < n → at + v * n ≤ L → at + w * m + w ≤ L
+among at w v m n L e h l = omega (arith, mul-le-mul-left w h, ended-at at w v n L e l)
 
 module _ {s : List ℕ} {i j k : ℕ} {o : Order} {run : Run} {x : Samples} (h : RunIn s i j k o run x) where
   pub count-told : value (run .count) ≡ countOf s i j k
@@ -130,7 +139,5 @@ module _ {s : List ℕ} {i j k : ℕ} {o : Order} {run : Run} {x : Samples} (h :
   pub view-none : run .count ≡ 0 → viewOf s i j k ≡ textAt 0 0
   view-none e = rw (h .is, eq-eqb (length (x .values)) 0 (many ∙ e))
 
-  pub view-told : (w : ℕ) → w ≡ R.width (run .format) → (run .count ≡ 0 → ⊥) → viewOf s i j k ≡ textAt (run .at) (run .at + w * run .count - run .at)
-  view-told w e z =
-      let d : run .at + w * run .count - run .at ≡ R.width (run .format) * run .count = rw e (omega arith) in
-      rw (h .is, ne-eqb (length (x .values)) 0 (λ y. z (sym many ∙ y)), d) (sym (ap (λ (r : Run). textAt (r .at) (R.width (r .format) * r .count)) (h .same)))
+  pub view-told : (w : ℕ) → w ≡ R.width (run .format) → (run .count ≡ 0 → ⊥) → viewOf s i j k ≡ textAt (run .at) (w * run .count)
+  view-told w e z = rw (h .is, ne-eqb (length (x .values)) 0 (λ y. z (sym many ∙ y)), e) (sym (ap (λ (r : Run). textAt (r .at) (R.width (r .format) * r .count)) (h .same)))

@@ -3,43 +3,43 @@
 use Prim.Native.Nat.{ℕ}
 use Rattle.recordings.specs.Answers.{Answer, value, refusal}
 use Rattle.recordings.specs.declared.Counts.{Counts}
-use Rattle.recordings.specs.declared.Told.{Told}
-use Rattle.recordings.specs.declared.Told.the-variants as Told
-use Rattle.samples.specs.declared.Counted.{Counted}
-use Rattle.samples.specs.declared.Counted.the-variants as Counted
+use Rattle.recordings.specs.declared.FactsTold.{FactsTold}
+use Rattle.recordings.specs.declared.FactsTold.the-variants as FactsTold
+use Rattle.samples.specs.declared.CountTold.{CountTold}
+use Rattle.samples.specs.declared.CountTold.the-variants as CountTold
 use Rattle.samples.specs.declared.Number.{Number}
-use Rattle.samples.specs.declared.Sampled.{Sampled}
-use Rattle.samples.specs.declared.Sampled.the-variants as Sampled
+use Rattle.samples.specs.declared.SampleTold.{SampleTold}
+use Rattle.samples.specs.declared.SampleTold.the-variants as SampleTold
 use Rattle.samples.specs.declared.Time.{Time}
-use Rattle.samples.specs.declared.Timed.{Timed}
-use Rattle.samples.specs.declared.Timed.the-variants as Timed
-use Rattle.questions.specs.declared.channels.Described.{Described}
-use Rattle.questions.specs.declared.channels.Described.the-variants as Described
+use Rattle.samples.specs.declared.ClockTold.{ClockTold}
+use Rattle.samples.specs.declared.ClockTold.the-variants as ClockTold
+use Rattle.questions.specs.declared.channels.ChannelTold.{ChannelTold}
+use Rattle.questions.specs.declared.channels.ChannelTold.the-variants as ChannelTold
 use Rattle.questions.specs.declared.channels.Descriptor.{Descriptor}
 use Rattle.questions.specs.declared.items.Entry.{Entry}
-use Rattle.questions.specs.declared.items.Itemed.{Itemed}
-use Rattle.questions.specs.declared.items.Itemed.the-variants as Itemed
+use Rattle.questions.specs.declared.items.ItemTold.{ItemTold}
+use Rattle.questions.specs.declared.items.ItemTold.the-variants as ItemTold
 
-abbrev pub meaningF : Told → Answer Counts
-meaningF (Told.Facts x) = value x
-meaningF (Told.Refused r) = refusal (r .0) (r .1)
+abbrev pub meaningF : FactsTold → Answer Counts
+meaningF (FactsTold.Facts x) = value x
+meaningF (FactsTold.Refused r) = refusal (r .0) (r .1)
 
-abbrev pub meaningD : Described → Answer Descriptor
-meaningD (Described.Channel x) = value x
-meaningD (Described.Refused r) = refusal (r .0) (r .1)
+abbrev pub meaningD : ChannelTold → Answer Descriptor
+meaningD (ChannelTold.Channel x) = value x
+meaningD (ChannelTold.Refused r) = refusal (r .0) (r .1)
 
-abbrev pub meaningI : Itemed → Answer Entry
-meaningI (Itemed.Item x) = value x
-meaningI (Itemed.Refused r) = refusal (r .0) (r .1)
+abbrev pub meaningI : ItemTold → Answer Entry
+meaningI (ItemTold.Item x) = value x
+meaningI (ItemTold.Refused r) = refusal (r .0) (r .1)
 
-abbrev pub meaningT : Timed → Answer Time
-meaningT (Timed.At x) = value x
-meaningT (Timed.Refused r) = refusal (r .0) (r .1)
+abbrev pub meaningT : ClockTold → Answer Time
+meaningT (ClockTold.At x) = value x
+meaningT (ClockTold.Refused r) = refusal (r .0) (r .1)
 
-abbrev pub meaningC : Counted → Answer ℕ
-meaningC (Counted.Samples n) = value n
-meaningC (Counted.Refused r) = refusal (r .0) (r .1)
+abbrev pub meaningC : CountTold → Answer ℕ
+meaningC (CountTold.Samples n) = value n
+meaningC (CountTold.Refused r) = refusal (r .0) (r .1)
 
-abbrev pub meaningS : Sampled → Answer Number
-meaningS (Sampled.Value x) = value x
-meaningS (Sampled.Refused r) = refusal (r .0) (r .1)
+abbrev pub meaningS : SampleTold → Answer Number
+meaningS (SampleTold.Value x) = value x
+meaningS (SampleTold.Refused r) = refusal (r .0) (r .1)

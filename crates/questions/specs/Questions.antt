@@ -1,16 +1,17 @@
--- The answer to each question about a file, by the rules' outcome for the file: its refusal, then 19 outside a range, then the values of the reading and where they stand.
+-- The answer to each question about a file, by the rules' outcome for the file: its refusal, then 19 outside a range, then the values of the
+-- reading and where they stand.
 -- Assumes nothing.
 use mathlib.Core.Path.{_≡_}
 use mathlib.Core.List.{List, []}
-use Prim.Native.Nat.{ℕ, _+_, _-_, _*_}
+use Prim.Native.Nat.{ℕ, _+_, _-_, _*_, _≤_}
 use lib.Dec.{eqb}
 use lib.ListN.{length, take}
 use denote.Ref.{RefT}
 use Rattle.words.specs.Numbers.{bytesAt}
 use Rattle.walk.specs.Walk.{pick}
 use Rattle.rules.specs.Rules as R
-use Rattle.records.specs.declared.Kind.{Kind}
-use Rattle.records.specs.declared.Kind.the-variants as Kind
+use Rattle.records.specs.declared.items.Holder.{Holder}
+use Rattle.records.specs.declared.items.Holder.the-variants as Holder
 use Rattle.recordings.specs.Answers.{Answer, value, refusal, _>>=_, indexed, numbered}
 use Rattle.recordings.specs.Recordings.{Chosen, recordingOf, startOf, at120, at130}
 use Rattle.recordings.specs.declared.Counts.{Counts}
@@ -39,26 +40,26 @@ channelOf s i j = do
 
 -- the items of a 130 or a 200, and where it stands
 
-abbrev pub itemsOf : Kind → Chosen → List R.Item
-itemsOf Kind.Patient r = r .this .recording .patient
-itemsOf Kind.Event r = pick (r .this .recording .ownEvents) (r .this .recording .events) []
+abbrev pub itemsOf : Holder → Chosen → List R.Item
+itemsOf Holder.Patient r = r .this .recording .patient
+itemsOf Holder.Event r = pick (r .this .recording .ownEvents) (r .this .recording .events) []
 
-abbrev pub itemsAt : Kind → Chosen → ℕ
-itemsAt Kind.Patient r = at130 r
-itemsAt Kind.Event r = startOf r + r .this .layout .at200
+abbrev pub itemsAt : Holder → Chosen → ℕ
+itemsAt Holder.Patient r = at130 r
+itemsAt Holder.Event r = startOf r + r .this .layout .at200
 
 -- an item of the record at p with these items
 unfoldable pub itemIn : List R.Item → ℕ → ℕ → Answer Entry
 itemIn is p j = numbered is j >>= λ x. value (entryOf x (p + (24 + R.itemBytes (take (j - 1) is))))
 
-abbrev pub itemOf : Kind → List ℕ → ℕ → ℕ → Answer Entry
+abbrev pub itemOf : Holder → List ℕ → ℕ → ℕ → Answer Entry
 itemOf k s i j = recordingOf s i >>= λ r. itemIn (itemsOf k r) (itemsAt k r) j
 
 abbrev pub patientItemOf : List ℕ → ℕ → ℕ → Answer Entry
-patientItemOf = itemOf Kind.Patient
+patientItemOf = itemOf Holder.Patient
 
 abbrev pub eventItemOf : List ℕ → ℕ → ℕ → Answer Entry
-eventItemOf = itemOf Kind.Event
+eventItemOf = itemOf Holder.Event
 
 -- the clock time of a frame
 
@@ -84,8 +85,18 @@ partOf (value x) = pick (eqb (length (x .values)) 0) (textAt 0 0) (textAt (x .at
 abbrev pub viewOf : List ℕ → ℕ → ℕ → ℕ → Text
 viewOf s i j k = partOf (samplesOf s i j k)
 
+-- the code's part r of the file s is the part p, and lies in the file
+pub record PartIs (s : List ℕ) (p r : Text) : Type 0 where
+  -- its first byte and its length
+  pub same : r ≡ p
+  -- no byte of it beyond the file's end
+  pub inside : r .at + r .length ≤ length s
+
 -- a slice is this part of the file: its bytes, and where its first byte lies in memory
 pub record Shows (file : RefT (List ℕ)) (p : Text) (r : RefT (List ℕ)) : Type 0 where
+  -- what it holds
   pub bytes : r .now ≡ bytesAt (p .length) (file .now) (p .at)
+  -- it lies in the same block of memory
   pub block : r .ptr .0 ≡ file .ptr .0
+  -- and there so many bytes behind the file's first
   pub offset : r .ptr .1 ≡ file .ptr .1 + p .at

@@ -1,5 +1,6 @@
 -- The values of the answers, by what the walk of the rules gives and where it stands.
 -- Assumes nothing.
+use mathlib.Core.Path.{_≡_}
 use mathlib.Core.Bool.{Bool, cond, _||_}
 use mathlib.Core.List.{List}
 use Prim.Native.Nat.{ℕ, _+_}
@@ -10,6 +11,7 @@ use Rattle.words.specs.Numbers.{numberAt}
 use Rattle.words.specs.Floats.{isNan, floatOf, bitsOf}
 use Rattle.words.specs.Values.{signed, unsigned}
 use Rattle.walk.specs.Walk.{pick}
+use Rattle.walk.specs.See.{see, goes}
 use Rattle.rules.specs.Rules as R
 use Rattle.rules.specs.Reading.{channelReading, itemReading}
 use Rattle.questions.specs.declared.channels.Calibration.{Calibration}
@@ -38,9 +40,13 @@ calibrationAt o s p format = calibrationOf format (numberAt o 4 s (p + 36)) (num
 
 -- the 32 bits of each of the four
 pub record Words : Type 0 where
+  -- CAL
   pub cal : ℕ
+  -- CAL AD
   pub calAD : ℕ
+  -- Offset AD
   pub offsetAD : ℕ
+  -- Offset CAL
   pub offsetCal : ℕ
 
 abbrev pub wordsOf : Calibration → Words
@@ -68,6 +74,10 @@ descriptorOf c p = record {
   unit = textAt (p + 88) 16;
   comment = textAt (p + 196) 60;
 }
+
+-- the descriptor r is that of the channel that a walk gives at p
+abbrev pub DescriptorAt : Order → List ℕ → ℕ → Descriptor → Type 0
+DescriptorAt o s p r = (room i : ℕ) (c : R.Channel) (e : ℕ) → see o 0 s p (R.channel room i) ≡ goes c e → r ≡ descriptorOf c p
 
 -- an item that stands at p
 abbrev pub entryOf : R.Item → ℕ → Entry

@@ -1,10 +1,8 @@
 // The descriptor of a channel: record 125.
 ghost use mathlib.Core.Path.{_≡_};
-ghost use Prim.Native.Nat.{ℕ, _+_, _≤_};
+ghost use Prim.Native.Nat.{_+_, _≤_};
 ghost use lib.ListN.{length};
-ghost use Rattle.walk.specs.See.{see, goes};
-ghost use Rattle.rules.specs.Rules as R;
-ghost use Rattle.questions.specs.Values.{someNan, floatsOf, calibrationAt, descriptorOf};
+ghost use Rattle.questions.specs.Values.{someNan, floatsOf, calibrationAt, DescriptorAt};
 use rules::Channel;
 use rules::Refusal;
 use words::Order;
@@ -42,7 +40,7 @@ pub struct Descriptor {
     pub comment: Text,
 }
 
-pub enum Described {
+pub enum ChannelTold {
     Channel(Descriptor),
     Refused(Refusal),
 }
@@ -102,7 +100,7 @@ fn calibration_at(o: Order, s: &[u8], p: usize, format: u32) -> Calibration
 // What the record 125 at byte p of s says.
 pub fn descriptor_at(o: Order, s: &[u8], p: usize) -> Descriptor
     requires { ⌜ p + 256 ≤ length (now s) ⌝ }
-    ensures { λ r. ⌜ ((room i : ℕ) (c : R.Channel) (e : ℕ) → see o 0 (now (s .entry)) p (R.channel room i) ≡ goes c e → r ≡ descriptorOf c p) ⌝ }
+    ensures { λ r. ⌜ DescriptorAt o (now (s .entry)) p r ⌝ }
 {
     let calibration = calibration_at(o, s, p, number4(o, s, p + Channel::FORMAT));
     Descriptor {

@@ -1,7 +1,7 @@
 -- The recordings of an accepted file, one after the other, up to the one asked for: where each stands, and which 120 and 130 hold for it.
 -- Assumes nothing.
 use mathlib.Core.Path.{_≡_, refl, sym, ap, _∙_}
-use mathlib.Core.Bool.{Bool, true, false}
+use mathlib.Core.Bool.{Bool, true, false, true≢false}
 use mathlib.Core.List.{List, [], _∷_}
 use mathlib.Core.Option.{Option, none}
 use Prim.Native.Nat.{ℕ, zero, suc, _+_, _-_, _≤_, _<_}
@@ -32,7 +32,9 @@ use Rattle.descriptions.specs.declared.Before.the-variants as Before
 use Rattle.descriptions.specs.declared.Held.{Held}
 use Rattle.descriptions.specs.declared.Places.{Places}
 use Rattle.judge.specs.Judged.{AcceptedAs}
-use Rattle.judge.specs.Recorded.{placesOf, leaves, Places-of}
+use Rattle.judge.specs.Recorded.{placesOf, leaves, Places-of, recorded, Continues}
+use Rattle.judge.specs.declared.recording.Recorded.{Recorded}
+use Rattle.judge.specs.declared.recording.Recorded.the-variants as Recorded
 use Rattle.judge.proofs.Led.{Led, led, led-stop}
 use Rattle.judge.proofs.Verdicts.{accepted-seen}
 use Rattle.recordings.specs.Answers.{value, refusal}
@@ -102,12 +104,17 @@ module _ (own : R.Recording → Bool) where
         go : (c : Bool) → own (x .recording) ≡ c → (k : ℕ) → One ps k x → (k ≡ 0 → own (x .recording) ≡ true) → ((j : ℕ) (y : R.Placed) → k ≡ suc j → One ps j y → before ≡ heldAt own place (chosen ps j y)) →
             pick c (32 + bytesBefore k ps + place (x .layout)) before ≡ heldAt own place (chosen ps k x)
         go true e k o first later = sym (held-own k x o e)
-        go false e zero o first later = absurd (let f = first refl in let z : _≡_ {A = ℕ} 0 1 = cc in omega arith)
+        go false e zero o first later = absurd (true≢false (sym (first refl) ∙ e))
         go false e (suc j) o first later =
             let q : One ps j (getD ps j x) = record { inside = omega (arith, o .inside); is = λ d. getD-any d x ps j (omega (arith, o .inside)) } in
             later j (getD ps j x) refl q ∙ sym (held-before j x (getD ps j x) o q e)
 
 -- The walk over the recordings, from one of them on
+
+-- i recordings are read: the code has the last of them, or there is none
+abbrev Behind : Order → List ℕ → List R.Placed → ℕ → Before → Type 0
+Behind o s ps i Before.Nothing = i ≡ 0
+Behind o s ps i (Before.These q) = Standing o s ps i q
 
 -- i of the recordings are read, and the walk goes on at byte p of the file
 pub record Going (o : Order) (s : List ℕ) (ps : List R.Placed) (p i : ℕ) (before : Before) : Type 0 where
@@ -115,7 +122,7 @@ pub record Going (o : Order) (s : List ℕ) (ps : List R.Placed) (p i : ℕ) (be
   pub holds : HeldAs o s before held
   pub place : p ≡ 32 + bytesBefore i ps
   pub walk : see o 0 s p (R.recordings (length ps - i) held (length s - p) (i + 1)) ≡ goes (drop i ps) (length s)
-  pub reached : Reached o s ps i before
+  pub reached : Behind o s ps i before
 
 tail-one : {A : Type 0} {a x : A} {l : List A} {i : ℕ} → One (a ∷ l) (suc i) x → One l i x
 tail-one o = record { inside = omega (arith, o .inside); is = o .is }
@@ -148,7 +155,7 @@ first-own ps own first k x o e =
     rw i at (first (x .recording) (omega (arith, o .inside, length-map ps (λ (p : R.Placed). p .recording))))
 
 -- the places that the code has of the recording before
-reached-before : (o : Order) (s : List ℕ) (ps : List R.Placed) (i : ℕ) (before : Before) → Reached o s ps i before → (j : ℕ) (y : R.Placed) → i ≡ suc j → One ps j y → (q : Places) × (before ≡ Before.These q) × (q ≡ placesAt (chosen ps j y))
+reached-before : (o : Order) (s : List ℕ) (ps : List R.Placed) (i : ℕ) (before : Before) → Behind o s ps i before → (j : ℕ) (y : R.Placed) → i ≡ suc j → One ps j y → (q : Places) × (before ≡ Before.These q) × (q ≡ placesAt (chosen ps j y))
 reached-before o s ps i Before.Nothing r j y e q = absurd (omega arith)
 reached-before o s ps i (Before.These b) r j y e q =
     let d : i - 1 ≡ j = omega arith in
@@ -156,7 +163,7 @@ reached-before o s ps i (Before.These b) r j y e q =
     (b, refl, r .same ∙ rw (d, t))
 
 -- where the next one stands
-module _ (o : Order) (s : List ℕ) (ps : List R.Placed) (ok : RecordingsOk none (readings ps)) (i : ℕ) (before : Before) (r : Reached o s ps i before) (x : R.Placed) (one : One ps i x) where
+module _ (o : Order) (s : List ℕ) (ps : List R.Placed) (ok : RecordingsOk none (readings ps)) (i : ℕ) (before : Before) (r : Behind o s ps i before) (x : R.Placed) (one : One ps i x) where
   -- the record that holds: its own, or what `held` has of the recording before, whose places have it at `at`
   next-held : (own : R.Recording → Bool) (place : R.Layout → ℕ) (held : Before → Held) (at : Places → ℕ) → ((b : Places) → Tabled.heldAt (held (Before.These b)) ≡ at b) → ((y : Chosen) → at (placesAt y) ≡ heldAt own place y) →
       ((d : R.Recording) → 0 < length (readings ps) → own (getD (readings ps) (holder own d 0 (readings ps)) d) ≡ true) → pick (own (x .recording)) (32 + bytesBefore i ps + place (x .layout)) (Tabled.heldAt (held before)) ≡ heldAt own place (chosen ps i x)
@@ -213,6 +220,32 @@ module _ {o : Order} {s : List ℕ} {ps : List R.Placed} {p i : ℕ} {before : B
         walk = rw (v .0, ← m, add-one (i + 1), next-rest) (next-led .on);
         reached = next-standing o s ps ok i before (g .reached) (h .value) one p (g .place) q (h .kept .same) (h .kept .held) room;
       }
+
+-- The answer of the code for recording i
+
+abbrev pub Met : Order → List ℕ → List R.Placed → ℕ → Recorded → Type 0
+Met o s ps i (Recorded.On q) = Going o s ps (q .end) i (Before.These q)
+Met o s ps i (Recorded.Stop r) = ⊥
+
+module _ {o : Order} {s : List ℕ} {ps : List R.Placed} {p i : ℕ} {before : Before} (g : Going o s ps p i before) (l : i < length ps) (f : p ≤ length s) (ok : RecordingsOk none (readings ps)) where
+  met-next : (a : Recorded) → recorded o s p before (see o 0 s p (R.recording (g .held) (length s - p) (i + 1))) a → Continues p (length s) a → Met o s ps (i + 1) a
+  met-next (Recorded.On q) h k = going-on g l f ok h (k .2)
+  met-next (Recorded.Stop r) h k = absurd (going-stop g l f h)
+
+  -- by what `recording_again` says of it
+  pub met : (a : Recorded) → ((held : Option R.Held) (j : ℕ) (x : R.Placed) (e : ℕ) → HeldAs o s before held → see o 0 s p (R.recording held (length s - p) j) ≡ goes x e → recorded o s p before (see o 0 s p (R.recording held (length s - p) j)) a) → Continues p (length s) a → Met o s ps (i + 1) a
+  met a h k = let v = next-led g l f in met-next a (h (g .held) (i + 1) (v .one) (v .mid) (g .holds) (v .is)) k
+
+pub met-reached : (o : Order) (s : List ℕ) (ps : List R.Placed) (n : ℕ) (a : Recorded) → Met o s ps n a → Reached o s ps n a
+met-reached o s ps n (Recorded.On q) g = g .reached
+met-reached o s ps n (Recorded.Stop r) g = g
+
+-- the code has the answer for recording i, on the way to recording n
+pub record Walked (o : Order) (s : List ℕ) (n i : ℕ) (a : Recorded) : Type 0 where
+  pub within : i ≤ n
+  pub start : ℕ
+  pub bounds : Continues start (length s) a
+  pub meets : (h : FileHeader) (x : AcceptedAs s h) → o ≡ h .order → n ≤ h .count → Met o s (x .file .recordings) i a
 
 -- The recording asked for
 

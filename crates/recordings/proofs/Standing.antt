@@ -23,10 +23,14 @@ use Rattle.rules.proofs.Places.{Found}
 use Rattle.rules.proofs.Turn.{tiled}
 
 module _ {A : Type 0} where
+  -- what was refused did not pass
+  no-pass : {n p : ℕ} {a : A} {r : List ℕ} {t : List Event} → _≡_ {A = Outcome A} (refused n p) (passed a r t) → ⊥
+  no-pass h = let z : _≡_ {A = ℕ} 0 1 = cc in omega arith
+
   -- a step that passed had room
   roomy : {X : Type 0} (c : Bool) (y : Outcome A) {a : A} {r : List ℕ} {t : List Event} → _≡_ {A = Outcome A} (elim c [ true ↦ y | false ↦ refused 0 0 ]) (passed a r t) → (c ≡ true → y ≡ passed a r t → X) → X
   roomy true y h k = k refl h
-  roomy false y h k = absurd (let z : _≡_ {A = ℕ} 0 1 = cc in omega arith)
+  roomy false y h k = absurd (no-pass h)
 
   -- behind an event of n bytes
   behind : (o : Order) (b : ℕ) (s : List ℕ) (at n : ℕ) (w : Walk A) (v : Event) (u : List Event) {a : A} {t : List Event} → t ≡ v ∷ u → size (v ∷ []) ≡ n → see o b s (at + n) w ≡ goes a (at + n + size u) → see o b s (at + n) w ≡ goes a (at + size t)
@@ -39,9 +43,9 @@ module _ {A : Type 0} where
         let i : x ≡ a = cc in
         let j : t ≡ [] = cc in
         rw (i, j, add-zero)
-    run-seen (refuse n p) at g q = absurd (let z : _≡_ {A = ℕ} 0 1 = cc in omega arith)
+    run-seen (refuse n p) at g q = absurd (no-pass q)
     run-seen (check true n p w) at g q = run-seen w at g q
-    run-seen (check false n p w) at g q = absurd (let z : _≡_ {A = ℕ} 0 1 = cc in omega arith)
+    run-seen (check false n p w) at g q = absurd (no-pass q)
     run-seen (number n f) at g q =
         let d : at - b + n ≡ at + n - b = omega arith in
         let v : ℕ = numberAt o n s (at - b) in

@@ -1,4 +1,5 @@
--- The recording that a question asks about, by the rules' outcome for the file: its refusal, then 19 outside the range, then the recording and where the records stand that hold for it.
+-- The recording that a question asks about, by the rules' outcome for the file: its refusal, then 19 outside the range, then the recording and
+-- where the records stand that hold for it.
 -- Assumes nothing.
 use mathlib.Core.Bool.{Bool}
 use mathlib.Core.List.{List, map}
@@ -9,11 +10,14 @@ use Rattle.rules.specs.Rules as R
 use Rattle.rules.specs.Places.{bytesBefore, holder}
 use Rattle.recordings.specs.Answers.{Answer, value, refusal, _>>=_, numbered}
 
--- A recording: the file's recordings, which of them it is, from 0, and what it is
+-- A recording of a file
 
 pub record Chosen : Type 0 where
+  -- the file's recordings
   pub all : List R.Placed
+  -- which of them it is, from 0
   pub index : ℕ
+  -- what it is
   pub this : R.Placed
 
 abbrev pub judged : Outcome R.File → ℕ → Answer Chosen

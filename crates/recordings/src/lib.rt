@@ -1,22 +1,18 @@
 // The recording that a question asks about, in a file that is judged first.
 ghost use mathlib.Core.Path.{_≡_};
-ghost use Prim.Native.Nat.{_≤_, _<_};
-ghost use lib.ListN.{length};
-ghost use Rattle.words.specs.Sizes.{Addressable};
 ghost use Rattle.rules.specs.Rules as R;
-ghost use Rattle.rules.specs.declared.FileHeader.{FileHeader};
-ghost use Rattle.judge.specs.Judged.{AcceptedAs};
-ghost use Rattle.recordings.specs.Found.{refusalF, countsOf, Reached, FoundAs};
+ghost use Rattle.recordings.specs.Found.{refusalRecording, countsOf, Walkable, ReachedAs, RecordingFoundAs};
 use descriptions::Before;
 use descriptions::Places;
 use judge::Judged;
 use judge::recording::Recorded;
+use judge::recording::recording_again;
 use rules::FileHeader;
 use rules::Refusal;
 use words::Order;
 
 // The file's byte order and where the recording stands, or the refusal.
-pub enum Found {
+pub enum RecordingFound {
     At(Order, Places),
     Refused(Refusal),
 }
@@ -28,17 +24,17 @@ pub struct Counts {
     pub seconds: u32,
 }
 
-pub enum Told {
+pub enum FactsTold {
     Facts(Counts),
     Refused(Refusal),
 }
 
-pub fn of_found(a: Found) -> Refusal
-    ensures { λ r. ⌜ r ≡ refusalF a ⌝ }
+pub fn of_recording_found(a: RecordingFound) -> Refusal
+    ensures { λ r. ⌜ r ≡ refusalRecording a ⌝ }
 {
     match a {
-        Found::At(_, _) => Refusal(0, 0),
-        Found::Refused(r) => r,
+        RecordingFound::At(_, _) => Refusal(0, 0),
+        RecordingFound::Refused(r) => r,
     }
 }
 
@@ -62,41 +58,38 @@ pub fn within(n: usize, count: u32) -> bool
     n <= count as usize
 }
 
-// The first n recordings of an accepted file, one after the other: where the last of them stands.
-fn recordings_to(o: Order, file: &[u8], n: u32) -> Before
-    requires { ⌜ (32 ≤ length (now file)) × Addressable (length (now file)) ⌝ }
-    ensures { λ a. ⌜ ((h : FileHeader) (x : AcceptedAs (now (file .entry)) h) → o ≡ h .order → n ≤ h .count → Reached o (now (file .entry)) (x .file .recordings) n a) ⌝ }
+// The recordings of an accepted file, one after the other: where recording n stands, or the refusal that was met on the way.
+fn recordings_to(o: Order, file: &[u8], n: u32) -> Recorded
+    requires { ⌜ Walkable (now file) n ⌝ }
+    ensures { λ a. ⌜ ReachedAs o (now (file .entry)) n a ⌝ }
 {
-    let mut p: usize = FileHeader::LENGTH;
-    let mut i: u32 = 0;
-    let mut before = Before::Nothing;
+    let mut step = recording_again(o, file, FileHeader::LENGTH, Before::Nothing);
+    let mut i: u32 = 1;
     while i < n {
-        let step = judge::recording::recording_again(o, file, p, before);
         let Recorded::On(places) = step else {
-            return Before::Nothing;
+            return step;
         };
-        p = places.end;
-        before = Before::These(places);
+        step = recording_again(o, file, places.end, Before::These(places));
         i += 1;
     }
-    before
+    step
 }
 
 // Judges the file, and finds the recording asked for.
-pub fn recording_asked(file: &[u8], recording: usize) -> Found
-    ensures { λ a. ⌜ FoundAs (now (file .entry)) recording a ⌝ }
+pub fn recording_asked(file: &[u8], recording: usize) -> RecordingFound
+    ensures { λ a. ⌜ RecordingFoundAs (now (file .entry)) recording a ⌝ }
 {
     let judged = judge::judge(file);
     let Judged::Accepted(h) = judged else {
-        return Found::Refused(judge::of_judged(judged));
+        return RecordingFound::Refused(judge::of_judged(judged));
     };
     if !within(recording, h.count) {
-        return Found::Refused(Refusal(19, 0));
+        return RecordingFound::Refused(Refusal(19, 0));
     }
     let order = h.order;
     let last = recordings_to(order, file, recording as u32);
-    match last {
-        Before::Nothing => Found::Refused(Refusal(19, 0)),
-        Before::These(q) => Found::At(order, q),
-    }
+    let Recorded::On(q) = last else {
+        return RecordingFound::Refused(judge::of_recording(last));
+    };
+    RecordingFound::At(order, q)
 }

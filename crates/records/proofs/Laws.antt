@@ -1,27 +1,62 @@
 -- What the proofs of the judge's functions share. Assumes nothing.
 use Prim.Native.Nat.{ℕ, suc, _+_, _-_, _≤_, _<_}
 use native.Mathlib.Omega.{arith}
-use mathlib.Core.Path.{_≡_, refl, sym, ap, _∙_}
+use mathlib.Core.Path.{_≡_, refl, sym, ap, _∙_, subst⁻¹}
 use mathlib.Core.Bool.{true, false}
 use borrow.Author.Tests.{leb-true, eqb-true}
 use lib.Dec.{leb, eqb}
 use mathlib.Core.List.{List}
 use lib.ListN.{length}
 use Rattle.words.specs.declared.Order.{Order}
-use Rattle.walk.specs.See.{see, over, ends, onward, stops, goes}
+use Rattle.walk.specs.See.{Verdict, see, over, ends, onward, stops, goes}
 use Rattle.walk.proofs.Seen.{and-left}
 use Rattle.rules.specs.Rules as R
-use Rattle.records.specs.Says.{headroom, fitsOf, FitsIn, tested}
+use Rattle.rules.specs.declared.Head.{Head}
+use Rattle.rules.specs.declared.Kind.{Kind}
+use Rattle.rules.specs.declared.Kind.the-variants as Kind
+use Rattle.records.specs.Says.{headroom, fitsOf, serialOf, asRule, ruleOf, Spans, Fitting, Admits, tested}
+use Rattle.records.specs.declared.kinds.Rule.{Rule}
+use Rattle.records.specs.declared.Step.{Step}
+use Rattle.records.specs.declared.Step.the-variants as Step
 use Rattle.records.specs.declared.Tested.{Tested}
 use Rattle.records.specs.declared.Tested.the-variants as Tested
-use Rattle.records.specs.declared.Fits.{Fits}
-use Rattle.records.specs.declared.Fits.the-variants as Fits
 use Rattle.records.proofs.Steps.{next-stop, next-done, next-refused, next-more}
 
-pub fits-in : (f : Fits) (n : ℕ) → fitsOf f n ≡ true → FitsIn f n
-fits-in (Fits.Exactly m) n e = sym (eqb-true m n e)
-fits-in (Fits.AtLeast m) n e = leb-true m n e
-fits-in (Fits.Frame size filled multiplier) n e = eqb-true n size (and-left (eqb n size) (R.padded multiplier (n - filled)) e)
+-- no kind's multiplier is larger than 128, and a length that fits is the kind's
+most-small : (k : Kind) → ruleOf k .most ≤ 128
+most-small (Kind.Recording i) = omega arith
+most-small Kind.Basic = omega arith
+most-small Kind.Channels = omega arith
+most-small (Kind.Channel i) = omega arith
+most-small (Kind.Items code) = omega arith
+most-small Kind.Frames = omega arith
+most-small (Kind.Frame size filled i) = omega arith
+most-small Kind.Maker = omega arith
+most-small Kind.Any = omega arith
+
+spans : (k : Kind) (multiplier n : ℕ) → ruleOf k .fits multiplier n ≡ true → Spans k n
+spans (Kind.Recording i) m n e = leb-true 16 n e
+spans Kind.Basic m n e = sym (eqb-true 128 n e)
+spans Kind.Channels m n e = leb-true 32 n e
+spans (Kind.Channel i) m n e = sym (eqb-true 256 n e)
+spans (Kind.Items code) m n e = leb-true 24 n e
+spans Kind.Frames m n e = leb-true 32 n e
+spans (Kind.Frame size filled i) m n e = eqb-true n size (and-left (eqb n size) (R.padded m (n - filled)) e)
+spans Kind.Maker m n e = leb-true 16 n e
+spans Kind.Any m n e = leb-true 16 n e
+
+-- a rule of the code that is the kind's
+pub rule-small : (r : Rule) (k : Kind) → asRule r ≡ ruleOf k → r .most ≤ 128
+rule-small r k e = let m : r .most ≡ ruleOf k .most = ap (λ (x : R.Rule). x .most) e in subst⁻¹ (λ (n : ℕ). n ≤ 128) m (most-small k)
+
+pub admits-by : (r : Rule) (k : Kind) → asRule r ≡ ruleOf k → (o : Order) (b : ℕ) (s : List ℕ) (at room : ℕ) (h : R.Head) {v : Verdict (Unit {0})} →
+    see o b s at (R.admit room (r .most) (fitsOf (r .fits) (h .multiplier)) (serialOf (r .serial)) h) ≡ v → see o b s at (R.admitBy (ruleOf k) room h) ≡ v
+admits-by r k e o b s at room h g = ap (λ (x : R.Rule). see o b s at (R.admitBy x room h)) (sym e) ∙ g
+
+pub admits : (h : Head) (k : Kind) (n : ℕ) (r : Rule) → asRule r ≡ ruleOf k → (a : Step) → Fitting h (r .fits) n a → Admits h k n a
+admits h k n r e (Step.On q) f =
+    (f .0, f .1, spans k (h .multiplier) _ (ap (λ (x : R.Rule). x .fits (h .multiplier) (R.lengthOf (h .size) (h .multiplier))) (sym e) ∙ f .2))
+admits h k n r e (Step.Stop x) f = tt
 
 -- tests that end a walk whose answer is given
 pub tested-give : {A : Type 0} (a : Tested) (x : ℕ) (r : A) → ends (onward (tested a x) (λ _ e. goes r e)) ≡ tested a x

@@ -2,3 +2,5 @@ pub mod Facts
 pub mod Steps
 pub mod Laws
 pub mod Heads
+pub mod Opened
+pub mod Bodies

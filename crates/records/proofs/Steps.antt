@@ -12,12 +12,13 @@ use lib.Seq.{drop-cons, length-take-le}
 use lib.Dec.{leb, eqb}
 use borrow.Author.Tests.{eq-eqb, ne-eqb}
 use Rattle.words.specs.Numbers.{numberAt, bytesAt}
+use Rattle.words.specs.Runs.{firstNonzero}
 use Rattle.words.specs.declared.Order.{Order}
 use Rattle.walk.specs.See.{Yields, gate, ends, Verdict, stops, goes, Goes, see, over, onward}
 use Rattle.walk.specs.Walk.{laid, Text, Walk, give, number, _>>=_, _>>_}
 use Rattle.walk.proofs.Laid.{laid-padding}
 use Rattle.walk.proofs.Seen.{yields-bind, yields-then, places, back, add-sub-add, eqb-add, then-gate, over-gate, over-goes, see-bind, then-skip, over-then, went, stopped, stays-goes, walks, see-read, see-check, over-give}
-use Rattle.rules.specs.Rules.{itemsBody, Head, head, admit, span, makerCode, next, zeros, padding, more, series, Item, item, itemSize, itemBytes, itemList, between, dated, daysIn, isMains, basicBody, Channel, width, samplesIn, samplesOf, sampleBytes, numberList, samples, coded, fixed, channelBody, channel, channels, frames, padOk, channelsBody, items, frameBody, frame, Basic}
+use Rattle.rules.specs.Rules.{itemsBody, Head, head, admit, span, makerCode, next, zeros, padding, more, series, Item, item, itemSize, itemBytes, itemList, between, dated, daysIn, isMains, basicBody, Channel, width, samplesIn, samplesOf, sampleBytes, numberList, samples, coded, fixed, channelBody, channel, channels, frames, channelsBody, items, Basic}
 use Rattle.rules.proofs.Room.{stays-item, stays-itemList}
 use Rattle.records.specs.Says.{Kept, headroom}
 
@@ -78,36 +79,51 @@ module _ {A : Type 0} (o : Order) (b : ℕ) (s : List ℕ) (step : ℕ) (w : ℕ
       let g : Goes (see o b s (b + p) (w (length s - p) (i + 1))) (λ _ x. (tt ≡ tt) × (x ≡ b + q)) = went (λ _. tt) (see o b s (b + p) (w (length s - p) (i + 1))) k in
       rw (d, add-one (i + 1), series-suc (b + p) (n - (i + 1)) (i + 1) (length s - p), g .is, e, g .kept .1)
 
--- padding, byte by byte: the walk stands behind it, and each byte is so many back
-module _ (o : Order) (b p to : ℕ) (s : List ℕ) where
-  pad-open : see o b s (b + p) (padding (to - p)) ≡ see o b s (b + p + (to - p)) (zeros (take (to - p) (drop p s)))
-  unfolding bytesAt padding
-  pad-open = rw (see-read, laid-padding, add-sub-cancel-left b p)
+-- padding: the walk stands behind it, and the first byte that is not zero is so many back
+module _ (o : Order) (b : ℕ) (s : List ℕ) where
+  zeros-cons : (a : ℕ) (l : List ℕ) (t : Bool) → eqb a 0 ≡ t → ((x : ℕ) → firstNonzero l < length l → see o b s (x + length l) (zeros l) ≡ stops 15 (x + firstNonzero l)) →
+      (x : ℕ) → firstNonzero (a ∷ l) < length (a ∷ l) → see o b s (x + length (a ∷ l)) (zeros (a ∷ l)) ≡ stops 15 (x + firstNonzero (a ∷ l))
+  unfolding zeros firstNonzero see gate
+  zeros-cons a l true e on x h =
+      let k : firstNonzero l < length l = omega (arith, rw e at h) in
+      let d : x + length (a ∷ l) ≡ x + 1 + length l = omega arith in
+      let f : x + 1 + firstNonzero l ≡ x + suc (firstNonzero l) = omega arith in
+      rw e (ap (λ (y : ℕ). see o b s y (zeros l)) d ∙ (on (x + 1) k ∙ ap (λ (y : ℕ). stops 15 y) f))
+  zeros-cons a l false e on x h = let d : x + length (a ∷ l) - suc (length l) ≡ x + 0 = omega arith in rw e (ap (λ (y : ℕ). stops 15 y) d)
 
-  pub pad-none : to ≤ p → p ≤ to → see o b s (b + p) (padding (to - p)) ≡ goes tt (b + to)
+  zeros-found : (l : List ℕ) (x : ℕ) → firstNonzero l < length l → see o b s (x + length l) (zeros l) ≡ stops 15 (x + firstNonzero l)
+  zeros-found [] x h = absurd (omega (arith, h))
+  zeros-found (a ∷ l) x h = zeros-cons a l (eqb a 0) refl (zeros-found l) x h
+
+  clear-cons : (a : ℕ) (l : List ℕ) (t : Bool) → eqb a 0 ≡ t → ((x : ℕ) → length l ≤ firstNonzero l → see o b s x (zeros l) ≡ goes tt x) →
+      (x : ℕ) → length (a ∷ l) ≤ firstNonzero (a ∷ l) → see o b s x (zeros (a ∷ l)) ≡ goes tt x
+  unfolding zeros firstNonzero see gate
+  clear-cons a l true e on x h = rw e (on x (omega (arith, rw e at h)))
+  clear-cons a l false e on x h = absurd (omega (arith, rw e at h))
+
+  zeros-clear : (l : List ℕ) (x : ℕ) → length l ≤ firstNonzero l → see o b s x (zeros l) ≡ goes tt x
   unfolding zeros see
-  pad-none h k =
-      let d : to - p ≡ 0 = omega arith in
-      let e : p ≡ to = omega arith in
-      rw (pad-open, d, add-zero, e)
+  zeros-clear [] x h = refl
+  zeros-clear (a ∷ l) x h = clear-cons a l (eqb a 0) refl (zeros-clear l) x h
 
-  left-over : p < to → to ≤ length s → length (take (to - (p + 1)) (drop (suc p) s)) ≡ to - (p + 1)
-  left-over h k = length-take-le (to - (p + 1)) (drop (suc p) s) (rw length-drop (omega arith))
+  -- k: what the code found
+  module _ (p to k : ℕ) (low : p ≤ to) (high : to ≤ length s) (is : k ≡ firstNonzero (take (to - p) (drop p s))) where
+    pad-open : see o b s (b + p) (padding (to - p)) ≡ see o b s (b + p + (to - p)) (zeros (take (to - p) (drop p s)))
+    unfolding bytesAt padding
+    pad-open = rw (see-read, laid-padding, add-sub-cancel-left b p)
 
-  pub pad-stop : p < to → to ≤ length s → (getD s p 0 ≡ 0 → ⊥) → see o b s (b + p) (padding (to - p)) ≡ stops 15 (b + p)
-  unfolding zeros see gate
-  pad-stop h k x =
-      let d : to - p ≡ suc (to - (p + 1)) = omega arith in
-      let l : p < length s = omega arith in
-      rw (pad-open, d, drop-cons s p 0 l, ne-eqb (getD s p 0) 0 x, left-over h k) (ap (λ (y : ℕ). stops 15 y) (omega arith))
+    pad-length : length (take (to - p) (drop p s)) ≡ to - p
+    pad-length = length-take-le (to - p) (drop p s) (rw length-drop (omega arith))
 
-pub pad-more : (o : Order) (b p to : ℕ) (s : List ℕ) → p < to → to ≤ length s → getD s p 0 ≡ 0 → see o b s (b + p) (padding (to - p)) ≡ see o b s (b + (p + 1)) (padding (to - (p + 1)))
-unfolding zeros gate
-pad-more o b p to s h k x =
-    let d : to - p ≡ suc (to - (p + 1)) = omega arith in
-    let l : p < length s = omega arith in
-    let r : b + p + (to - p) ≡ b + (p + 1) + (to - (p + 1)) = omega arith in
-    rw (pad-open o b p to s, pad-open o b (p + 1) to s, r, d, drop-cons s p 0 l, see-check, eq-eqb (getD s p 0) 0 x, add-one p)
+    pub pad-stop : k < length (take (to - p) (drop p s)) → see o b s (b + p) (padding (to - p)) ≡ stops 15 (b + p + k)
+    pad-stop h =
+        pad-open ∙ (ap (λ (y : ℕ). see o b s (b + p + y) (zeros (take (to - p) (drop p s)))) (sym pad-length) ∙
+        (zeros-found (take (to - p) (drop p s)) (b + p) (omega (arith, is)) ∙ ap (λ (y : ℕ). stops 15 (b + p + y)) (sym is)))
+
+    pub pad-clear : length (take (to - p) (drop p s)) ≤ k → see o b s (b + p) (padding (to - p)) ≡ goes tt (b + to)
+    pad-clear h =
+        let d : b + p + (to - p) ≡ b + to = omega arith in
+        pad-open ∙ (zeros-clear (take (to - p) (drop p s)) (b + p + (to - p)) (omega (arith, is)) ∙ ap (λ (y : ℕ). goes tt y) d)
 
 -- what the body of the record 100 at `at` comes to: its tests, one after the other
 pub basic-open : (o : Order) (at : ℕ) (s : List ℕ) → see o (at + 16) s (at + 16) basicBody ≡
@@ -258,12 +274,7 @@ module _ (o : Order) (b at room f : ℕ) (s : List ℕ) where
     unfolding next
     next-more m a = simp (walks, found, m, a) (over-give headroom (more _) (see o b s (e + (span h - 16)) (next f (room - span h))))
 
--- a record with a body of its own: its head is read, then admitted, and the body follows
-pub frame-split : (size t : ℕ) (cs : List Channel) (room i : ℕ) → frame size t cs room i ≡
-    (head room >>= λ h. coded h 145 >> (admit room 128 (λ n. eqb n size && padOk h (n - (24 + sampleBytes t cs))) (eqb i) h >> frameBody size t cs))
-unfolding frame
-frame-split size t cs room i = refl
-
+-- the rest of a record whose head is read: it is admitted, and the body follows
 pub channels-split : (b : Basic) (room : ℕ) (h : Head) → channels b room h ≡ (admit room 0 (leb 32) (eqb 0) h >> channelsBody b (span h))
 unfolding channels
 channels-split b room h = refl

@@ -1,30 +1,39 @@
 -- What the answers of the judge's functions say, as verdicts on the walks of the rules.
-use Prim.Native.Nat.{ℕ, _+_, _-_, _≤_}
+use Prim.Native.Nat.{ℕ, _+_, _-_, _≤_, _<_}
+use lib.ListN.{length}
 use mathlib.Core.Path.{_≡_}
 use mathlib.Core.Bool.{Bool, true, _&&_}
 use mathlib.Core.List.{List, [], _∷_}
 use Rattle.words.specs.Numbers.{numberAt}
 use lib.Dec.{leb, eqb}
 use Rattle.words.specs.declared.Order.{Order}
-use Rattle.walk.specs.See.{Verdict, stops, goes}
+use Rattle.walk.specs.Walk.{Walk, give, _>>=_, _>>_}
+use Rattle.walk.specs.See.{Verdict, stops, goes, gate, see, over, ends}
 use Rattle.rules.specs.declared.Refusal.{Refusal}
 use Rattle.rules.specs.Rules as R
 use Rattle.rules.specs.declared.Head.{Head}
+use Rattle.rules.specs.declared.Kind.{Kind}
+use Rattle.rules.specs.declared.Kind.the-variants as Kind
 use Rattle.rules.specs.declared.Basic.{Basic}
 use Rattle.records.specs.declared.Headed.{Headed}
 use Rattle.records.specs.declared.Headed.the-variants as Headed
 use Rattle.records.specs.declared.Step.{Step}
 use Rattle.records.specs.declared.Step.the-variants as Step
-use Rattle.records.specs.declared.Basiced.{Basiced}
-use Rattle.records.specs.declared.Basiced.the-variants as Basiced
+use Rattle.records.specs.declared.basic.Basiced.{Basiced}
+use Rattle.records.specs.declared.basic.Basiced.the-variants as Basiced
 use Rattle.records.specs.declared.Tested.{Tested}
 use Rattle.records.specs.declared.Tested.the-variants as Tested
-use Rattle.records.specs.declared.Kind.{Kind}
-use Rattle.records.specs.declared.Kind.the-variants as Kind
-use Rattle.records.specs.declared.Fits.{Fits}
-use Rattle.records.specs.declared.Fits.the-variants as Fits
-use Rattle.records.specs.declared.Serial.{Serial}
-use Rattle.records.specs.declared.Serial.the-variants as Serial
+use Rattle.records.specs.declared.items.Holder.{Holder}
+use Rattle.records.specs.declared.items.Holder.the-variants as Holder
+use Rattle.records.specs.declared.kinds.Rule.{Rule}
+use Rattle.records.specs.declared.kinds.Opened.{Opened}
+use Rattle.records.specs.declared.kinds.Opened.the-variants as Opened
+use Rattle.records.specs.declared.kinds.Code.{Code}
+use Rattle.records.specs.declared.kinds.Code.the-variants as Code
+use Rattle.records.specs.declared.kinds.Fits.{Fits}
+use Rattle.records.specs.declared.kinds.Fits.the-variants as Fits
+use Rattle.records.specs.declared.kinds.Serial.{Serial}
+use Rattle.records.specs.declared.kinds.Serial.the-variants as Serial
 
 -- a refusal, as a verdict
 abbrev pub halts : {A : Type 0} → Refusal → Verdict A
@@ -70,20 +79,51 @@ abbrev pub Found : ℕ → ℕ → Headed → Type 0
 Found p n (Headed.At h) = (p ≤ h .at) × (h .at + 16 ≤ n)
 Found p n (Headed.Stop r) = Unit {0}
 
--- the rules on a length and on a serial
-abbrev pub fitsOf : Fits → ℕ → Bool
-fitsOf (Fits.Exactly n) = eqb n
-fitsOf (Fits.AtLeast n) = leb n
-fitsOf (Fits.Frame size filled multiplier) = λ n. eqb n size && R.padded multiplier (n - filled)
+-- the rules on a code, on a length and on a serial, as the rules have them
+abbrev pub codesOf : Code → ℕ → Bool
+codesOf (Code.Is n) = λ c. eqb c n
+codesOf Code.Makers = R.makerCode
+codesOf Code.Any = λ _. true
 
-abbrev pub FitsIn : Fits → ℕ → Type 0
-FitsIn (Fits.Exactly m) n = n ≡ m
-FitsIn (Fits.AtLeast m) n = m ≤ n
-FitsIn (Fits.Frame size filled multiplier) n = n ≡ size
+abbrev pub fitsOf : Fits → ℕ → ℕ → Bool
+fitsOf (Fits.Exactly n) = λ _. eqb n
+fitsOf (Fits.AtLeast n) = λ _. leb n
+fitsOf (Fits.Frame size filled) = λ multiplier n. eqb n size && R.padded multiplier (n - filled)
 
 abbrev pub serialOf : Serial → ℕ → Bool
 serialOf Serial.Any = λ _. true
 serialOf (Serial.Is i) = eqb i
+
+abbrev pub asRule : Rule → R.Rule
+asRule r = record { code = codesOf (r .code); most = r .most; fits = fitsOf (r .fits); serial = serialOf (r .serial) }
+
+-- a maker's rule, with these codes
+abbrev pub loose : (ℕ → Bool) → R.Rule
+loose codes = record { code = codes; most = 128; fits = λ _. leb 16; serial = λ _. true }
+
+-- the rule of each kind
+abbrev pub ruleOf : Kind → R.Rule
+ruleOf (Kind.Recording i) = R.recordingRule i
+ruleOf Kind.Basic = R.basicRule
+ruleOf Kind.Channels = R.channelsRule
+ruleOf (Kind.Channel i) = R.channelRule i
+ruleOf (Kind.Items code) = R.itemsRule code
+ruleOf Kind.Frames = R.framesRule
+ruleOf (Kind.Frame size filled i) = R.frameRule size filled i
+ruleOf Kind.Maker = R.makerRule
+ruleOf Kind.Any = R.anyRule
+
+-- what a record of each kind measures
+abbrev pub Spans : Kind → ℕ → Type 0
+Spans (Kind.Recording i) n = 16 ≤ n
+Spans Kind.Basic n = n ≡ 128
+Spans Kind.Channels n = 32 ≤ n
+Spans (Kind.Channel i) n = n ≡ 256
+Spans (Kind.Items code) n = 24 ≤ n
+Spans Kind.Frames n = 32 ≤ n
+Spans (Kind.Frame size filled i) n = n ≡ size
+Spans Kind.Maker n = 16 ≤ n
+Spans Kind.Any n = 16 ≤ n
 
 -- a step goes on at byte q of a part that stands at `base`, or stops
 abbrev pub stepped : ℕ → Step → Verdict (Unit {0})
@@ -104,9 +144,14 @@ abbrev pub admitted : Step → ℕ → Verdict (Unit {0})
 admitted (Step.On q) e = goes tt e
 admitted (Step.Stop r) e = halts r
 
-abbrev pub Admits : Head → Fits → ℕ → Step → Type 0
-Admits h f n (Step.On q) = (q ≡ h .at + R.lengthOf (h .size) (h .multiplier)) × (q ≤ n) × FitsIn f (R.lengthOf (h .size) (h .multiplier))
-Admits h f n (Step.Stop r) = Unit {0}
+abbrev pub Fitting : Head → Fits → ℕ → Step → Type 0
+Fitting h f n (Step.On q) =
+    (q ≡ h .at + R.lengthOf (h .size) (h .multiplier)) × (q ≤ n) × (fitsOf f (h .multiplier) (R.lengthOf (h .size) (h .multiplier)) ≡ true)
+Fitting h f n (Step.Stop r) = Unit {0}
+
+abbrev pub Admits : Head → Kind → ℕ → Step → Type 0
+Admits h k n (Step.On q) = (q ≡ h .at + R.lengthOf (h .size) (h .multiplier)) × (q ≤ n) × Spans k (R.lengthOf (h .size) (h .multiplier))
+Admits h k n (Step.Stop r) = Unit {0}
 
 -- tests that read nothing: the same wherever the walk stands
 abbrev pub tested : Tested → ℕ → Verdict (Unit {0})
@@ -126,6 +171,15 @@ abbrev pub refusalH : Headed → Refusal
 refusalH (Headed.At h) = record { 0 = 0; 1 = 0 }
 refusalH (Headed.Stop r) = r
 
+-- where a record stops whose body was tested
+abbrev pub ended : Tested → ℕ → Step
+ended Tested.Fine q = Step.On q
+ended (Tested.Stop r) q = Step.Stop r
+
+abbrev pub refusalO : Opened → Refusal
+refusalO (Opened.On h q) = record { 0 = 0; 1 = 0 }
+refusalO (Opened.Stop r) = r
+
 abbrev pub refusalS : Step → Refusal
 refusalS (Step.On x) = record { 0 = 0; 1 = 0 }
 refusalS (Step.Stop r) = r
@@ -138,6 +192,88 @@ abbrev pub basiced : ℕ → Basiced → Verdict Basic
 basiced at (Basiced.Holds x) = goes x (at + 128)
 basiced at (Basiced.Stop r) = halts r
 
-unfoldable pub okOf : Kind → ℕ → Bool
-okOf Kind.Patient = R.patientCode
-okOf Kind.Event = R.eventCode
+unfoldable pub okOf : Holder → ℕ → Bool
+okOf Holder.Patient = R.patientCode
+okOf Holder.Event = R.eventCode
+
+-- the tests of a 100 at `at`, whose body is s, and a verdict that follows them: the form and the counts, the date, the time
+abbrev pub countsTested : Order → List ℕ → ℕ → Verdict R.Basic → Verdict R.Basic
+countsTested o s at K =
+    gate (eqb 1 (numberAt o 4 s 0))
+    (gate (R.between 1 128 (numberAt o 4 s 4))
+    (gate (R.between 1 1_000_000 (numberAt o 4 s 8)) K 13 (at + 24)) 13 (at + 20)) 13 (at + 16)
+
+abbrev pub dateTested : Order → List ℕ → ℕ → Verdict R.Basic → Verdict R.Basic
+dateTested o s at K =
+    gate (leb (numberAt o 4 s 16) 9999)
+    (gate (R.dated (numberAt o 4 s 16) 12 (numberAt o 4 s 20))
+    (gate (R.dated (numberAt o 4 s 16) (R.daysIn (numberAt o 4 s 16) (numberAt o 4 s 20)) (numberAt o 4 s 24)) K 13 (at + 40)) 13 (at + 36)) 13 (at + 32)
+
+abbrev pub timeTested : Order → List ℕ → ℕ → Verdict R.Basic → Verdict R.Basic
+timeTested o s at K =
+    gate (leb (numberAt o 4 s 28) 23)
+    (gate (leb (numberAt o 4 s 32) 59)
+    (gate (leb (numberAt o 4 s 36) 59) K 13 (at + 52)) 13 (at + 48)) 13 (at + 44)
+
+-- what the functions promise. In each, `seen`: the answer is what the rules' walk comes to over the part s, which stands at `base` in the file;
+-- `stands`: where the answer lies in the part
+
+-- a record's head at byte p
+pub record HeadAt (o : Order) (base : ℕ) (s : List ℕ) (p : ℕ) (a : Headed) : Type 0 where
+  pub seen : see o base s (base + p) (R.head (length s - p)) ≡ headed base a
+  pub stands : Placed p (length s) a
+
+-- the head of the first record from byte `from` on that is no maker's own
+pub record NextHead (o : Order) (base : ℕ) (s : List ℕ) (from : ℕ) (a : Headed) : Type 0 where
+  pub seen : (fuel : ℕ) → length s < from + fuel → over headroom (see o base s (base + from) (R.next fuel (length s - from))) ≡ nexted base (length s) a
+  pub stands : Found from (length s) a
+
+-- a head, admitted by its kind's rule in a part of n bytes. The walk reads nothing, so it is the same over any bytes
+pub record AdmittedBy (h : Head) (base n : ℕ) (kind : Kind) (a : Step) : Type 0 where
+  pub seen : (o : Order) (b : ℕ) (s : List ℕ) → see o b s (base + (h .at + 16)) (R.admitBy (ruleOf kind) (n - h .at) (headOf h)) ≡ admitted a (base + (h .at + 16))
+  pub stands : Admits h kind n a
+
+-- a step from byte p over what the walk w reads
+pub record StepOver {A : Type 0} (o : Order) (base : ℕ) (s : List ℕ) (p : ℕ) (w : Walk A) (Stands : Step → Type 0) (a : Step) : Type 0 where
+  pub seen : ends (see o base s (base + p) w) ≡ stepped base a
+  pub stands : Stands a
+
+-- the rest of a 120 whose head is h, for any 100 with so many channels
+pub record ChannelsAt (o : Order) (base : ℕ) (s : List ℕ) (h : Head) (channels : ℕ) (a : Step) : Type 0 where
+  pub seen : (b : R.Basic) → b .channels ≡ channels → ends (see o base s (base + (h .at + 16)) (R.channels b (length s - h .at) (headOf h))) ≡ stepped base a
+  pub stands : Beyond (h .at + 32) (length s) a
+
+-- a step from byte p over frames whose samples end at byte `filled` of each, for any T and channels that come to that
+pub record FramesOver {A : Type 0} (o : Order) (base : ℕ) (s : List ℕ) (p filled : ℕ) (w : ℕ → List R.Channel → Walk A) (Stands : Step → Type 0) (a : Step) : Type 0 where
+  pub seen : (t : ℕ) (cs : List R.Channel) → filled ≡ 24 + R.sampleBytes t cs → ends (see o base s (base + p) (w t cs)) ≡ stepped base a
+  pub stands : Stands a
+
+-- a record by its rule, up to its body: its head is read, has one of the rule's codes, and is admitted
+unfoldable pub opened : R.Rule → ℕ → Walk R.Head
+opened r room = do
+  h ← R.head room
+  R.codedBy r h
+  R.admitBy r room h
+  give h
+
+abbrev pub opening : ℕ → Opened → Verdict R.Head
+opening base (Opened.On h q) = goes (headOf h) (base + (h .at + 16))
+opening base (Opened.Stop r) = halts r
+
+-- the record with the head h, of this kind, in a part of n bytes
+pub record Reaches (p : ℕ) (kind : Kind) (n : ℕ) (h : Head) (q : ℕ) : Type 0 where
+  -- it stands at p
+  pub at : h .at ≡ p
+  -- and stops at q
+  pub end : q ≡ p + R.lengthOf (h .size) (h .multiplier)
+  pub inside : q ≤ n
+  pub spans : Spans kind (R.lengthOf (h .size) (h .multiplier))
+
+abbrev pub Opens : ℕ → Kind → ℕ → Opened → Type 0
+Opens p kind n (Opened.On h q) = Reaches p kind n h q
+Opens p kind n (Opened.Stop r) = Unit {0}
+
+-- a record of this kind at byte p, up to its body
+pub record OpenAt (o : Order) (base : ℕ) (s : List ℕ) (p : ℕ) (kind : Kind) (a : Opened) : Type 0 where
+  pub seen : see o base s (base + p) (opened (ruleOf kind) (length s - p)) ≡ opening base a
+  pub stands : Opens p kind (length s) a

@@ -2,7 +2,7 @@
 -- Assumes nothing.
 use mathlib.Core.Path.{_≡_, refl, sym, ap, _∙_}
 use mathlib.Core.List.{List, _++_, map}
-use mathlib.Core.Option.{Option, none}
+use mathlib.Core.Option.{Option}
 use Prim.Native.Nat.{ℕ, _+_, _-_, _≤_, _<_}
 use native.Mathlib.Omega.{arith}
 use borrow.Author.Tests.{leb-true}
@@ -11,8 +11,7 @@ use lib.ListN.{length, length-map, length-append}
 use Rattle.words.specs.Numbers.{Bytes}
 use Rattle.words.specs.Runs.{pasted}
 use Rattle.words.specs.declared.Order.{Order}
-use Rattle.walk.specs.Walk.{Walk, refused, render, size}
-use Rattle.walk.specs.Tell.{tell}
+use Rattle.walk.specs.Walk.{refused, render, size}
 use Rattle.walk.proofs.Laws.{length-render}
 use Rattle.walk.proofs.Tracing.{render-append}
 use Rattle.rules.specs.Rules as R
@@ -26,17 +25,15 @@ use Rattle.header.specs.Opened.{lettered, headingOf}
 use Rattle.header.specs.declared.Lettered.{Lettered}
 use Rattle.header.specs.declared.Lettered.the-variants as Lettered
 use Rattle.judge.specs.Judged.{AcceptedAs}
+use Rattle.children.specs.Recordings.{rowsOf}
 use Rattle.judge.proofs.Accepted.{listed}
 use Rattle.makers.specs.Makers.{firstMaker}
-use Rattle.permit.specs.Permit.{Answer, bytes, refusal, meaning, permitted, Writes}
+use Rattle.permit.specs.Permit.{Answer, bytes, refusal, meaning, permitted}
 use Rattle.permit.specs.declared.Written.{Written}
 use Rattle.permit.specs.declared.Written.the-variants as Written
 use Rattle.permit.proofs.Settled.{stopped, wrote}
-use Rattle.rewrite.specs.Rewrite.{barrier, answerOf, rewrittenIn}
-
--- what the contract of `rewrite` says
-abbrev pub Rewrites : List ℕ → ℕ → List ℕ → List ℕ → Written → Type 0
-Rewrites s order out out′ a = Writes (answerOf s order (length out)) (rewrittenIn (lettered order) s) out out′ a
+use Rattle.rewrite.specs.RecordingsAnew.{fileAnew, lengthAnew}
+use Rattle.rewrite.specs.Rewrite.{barrier, answerOf, rewrittenIn, Rewrites}
 
 -- a file that is refused
 pub rewrites-refused : (s : List ℕ) (order : ℕ) (out : List ℕ) {n p : ℕ} → R.judge s ≡ refused n p → Rewrites s order out out (Written.Refused (record { 0 = n; 1 = p }))
@@ -44,9 +41,6 @@ rewrites-refused s order out h = rw h (refl, refl)
 
 -- a file that is accepted
 module _ (s : List ℕ) (b : Bytes s) (h : FileHeader) (x : AcceptedAs s h) where
-  abbrev walked : Walk (List R.Placed)
-  walked = R.recordings (h .count) none (length s - 32) 1
-
   abbrev recorded : List R.Recording
   recorded = map (λ p. p .recording) (x .file .recordings)
 
@@ -68,13 +62,14 @@ module _ (s : List ℕ) (b : Bytes s) (h : FileHeader) (x : AcceptedAs s h) wher
   rewrites-unnamed order out e = rw (x .judged, e) (refl, refl)
 
   -- the canonical file: its header and its recordings
-  anew : (to : Order) → render to (C.headerEvents (headingOf (h .heading)) (h .count)) ++ render to (C.recordingEvents 1 recorded) ≡ C.rewritten to s
+  anew : (to : Order) → fileAnew to (h .heading) (h .count) (x .file .recordings) ≡ C.rewritten to s
   unfolding C.anew
   anew to =
       let e = rewritten-of to s (x .judged) ∙ ap (λ (v : R.Contents). render to (C.anew v)) (reading-words s b (x .judged)) in
       sym (e ∙ rw (← x .heading, counted) (render-append to (C.headerEvents (headingOf (h .heading)) (h .count)) (C.recordingEvents 1 recorded)))
 
-  module _ (order : ℕ) (to : Order) (names : lettered order ≡ Lettered.Names to) (need : ℕ) (long : need ≡ 32 + size (C.recordingEvents 1 recorded)) (out : List ℕ) {m : Option ℕ} (made : m ≡ barrier (h .order) to (firstMaker (tell (h .order) 0 s 32 walked))) where
+  module _ (order : ℕ) (to : Order) (names : lettered order ≡ Lettered.Names to) (need : ℕ) (long : need ≡ lengthAnew (x .file .recordings))
+      (out : List ℕ) {m : Option ℕ} (made : m ≡ barrier (h .order) to (firstMaker (rowsOf (h .order) s (h .count)))) where
     pub length-anew : length (C.rewritten to s) ≡ need
     length-anew =
         let e = length-append (render to (C.headerEvents (headingOf (h .heading)) (h .count))) (render to (C.recordingEvents 1 recorded)) in
@@ -88,5 +83,5 @@ module _ (s : List ℕ) (b : Bytes s) (h : FileHeader) (x : AcceptedAs s h) wher
     pub rewrites-stopped : (a : Written) {n p : ℕ} → meaning a ≡ permitted m need (length out) → meaning a ≡ refusal n p → Rewrites s order out out a
     rewrites-stopped a e r = stopped (answerOf s order (length out)) (rewrittenIn (lettered order) s) out a (answers e) r
 
-    pub rewrites-room : (a : Written) {n : ℕ} (out′ : List ℕ) → meaning a ≡ permitted m need (length out) → meaning a ≡ bytes n → out′ ≡ pasted out 0 (render to (C.headerEvents (headingOf (h .heading)) (h .count)) ++ render to (C.recordingEvents 1 recorded)) → Rewrites s order out out′ a
+    pub rewrites-room : (a : Written) {n : ℕ} (out′ : List ℕ) → meaning a ≡ permitted m need (length out) → meaning a ≡ bytes n → out′ ≡ pasted out 0 (fileAnew to (h .heading) (h .count) (x .file .recordings)) → Rewrites s order out out′ a
     rewrites-room a out′ e r w = wrote (answerOf s order (length out)) (rewrittenIn (lettered order) s) out out′ a (answers e) r (w ∙ ap (pasted out 0) (anew to ∙ rw names refl))

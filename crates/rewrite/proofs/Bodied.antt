@@ -10,7 +10,7 @@ use borrow.Author.Tests.{leb-true}
 use lib.Dec.{leb, eqb}
 use lib.ListN.{length, take, drop, replicate, length-append, length-drop}
 use lib.Seq.{take-at, length-take-le}
-use Rattle.words.specs.Numbers.{Bytes, numberAt}
+use Rattle.words.specs.Numbers.{Bytes}
 use Rattle.words.specs.Runs.{pasted}
 use Rattle.words.specs.declared.Order.{Order}
 use Rattle.words.proofs.Fronts.{put, front-more, front-all}
@@ -21,20 +21,22 @@ use Rattle.walk.proofs.Laws.{length-render, size-append}
 use Rattle.walk.proofs.Seen.{body-length}
 use Rattle.walk.proofs.Tracing.{render-append}
 use Rattle.rules.specs.Canonical.{numerals, recordOf, framesHead, framesWritten, makerEvents, delimiterHead, delimiterEvents, content, recordingHead}
-use Rattle.rules.specs.Rules.{Head, head, span, Basic, Channel, sampleBytes, Frames, framesBody, frames, Next, next, Held, Recording, Placed, recordingBody, Descriptions, descriptions}
+use Rattle.rules.specs.Rules.{Head, head, span, framesBody, frames, Next, next, Held, Recording, Placed, Descriptions, descriptions}
 use Rattle.rules.specs.declared.Channels.{Channels}
 use Rattle.rules.proofs.Sized.{sized}
-use Rattle.records.specs.Says.{Kept}
-use Rattle.rows.proofs.Lists.{admit-went}
+use Rattle.measures.specs.Standing.{ChannelsStand}
+use Rattle.records.proofs.Opened.{admit-went}
 use Rattle.bodies.specs.Copy.{copy, Pastes}
 use Rattle.bodies.specs.declared.Way.{Way}
-use Rattle.measures.specs.Shapes.{ShapeOf, ShapeIn, signalsIn, behindHead}
-use Rattle.measures.specs.declared.Shape.{Shape}
+use Rattle.measures.specs.Measures.{MeasureOf, MeasureIn, signalsIn, behindHead}
+use Rattle.measures.specs.declared.Measure.{Measure}
 use Rattle.measures.specs.declared.Sized.{Sized}
 use Rattle.measures.proofs.Canonic.{bare}
 use Rattle.measures.proofs.Chained.{tablesEvents, tables-bare, next-bare}
 use Rattle.measures.proofs.Lengths.{Accepted, accepted}
 use Rattle.measures.proofs.Measures.{stands, in-body}
+use Rattle.rewrite.specs.FramesAnew.{FramesAnew}
+use Rattle.rewrite.specs.RecordingsAnew.{BodyAnew}
 use Rattle.rewrite.proofs.Framing.{render-record, padded-events}
 
 -- the first of the bytes that are written first
@@ -91,7 +93,7 @@ same-pieces : (t y₁ z₁ y₂ z₂ n : List ℕ) (i j : ℕ) → y₁ ≡ z₁
 same-pieces t y₁ z₁ y₂ z₂ n i j e₁ e₂ e₃ = rw (e₁, e₂, e₃)
 
 -- what the code wrote of the body s of a recording into the buffer d₀, whatever the bytes are: d₁ has the tables, y₁ and y₂ are the head and the body of the 140, d₄ has what follows it before byte k, and zs is the rest
-module _ (w : Way) (file : List ℕ) (cs : Channels) (f : Shape) (s : List ℕ) (b : ℕ) (d₀ d₁ y₁ y₂ d₄ zs : List ℕ) (k₁ k : ℕ) where
+module _ (w : Way) (file : List ℕ) (cs : Channels) (f : Measure) (s : List ℕ) (b : ℕ) (d₀ d₁ y₁ y₂ d₄ zs : List ℕ) (k₁ k : ℕ) where
   abbrev behind : ℕ
   behind = f .at + f .signals .length
 
@@ -116,14 +118,12 @@ module _ (w : Way) (file : List ℕ) (cs : Channels) (f : Shape) (s : List ℕ) 
     pub same₅ : length d₅ ≡ length d₄
     pub front : (held : Option Held) (t : Descriptions) (e : ℕ) → see (w .from) b s b (descriptions held (16 + length s)) ≡ goes t e → Pastes d₀ d₁ 0 k₁ (copy w b s b (descriptions held (16 + length s)))
     pub top : y₁ ≡ render (w .to) (numerals (record { size = f .signals .size; code = 140; serial = 0; multiplier = f .signals .multiplier }))
-    pub signals : w .keep ≡ false → (c : ℕ) (counts : Basic) (ch : List Channel) (hd : Head) (g : Frames) (e : ℕ) → length ch ≡ cs .count → Kept (w .from) file (cs .subs) ch → f .filled ≡ 24 + sampleBytes (f .seconds) ch →
-        numberAt (w .from) 4 (signalsIn s f) 0 ≡ f .seconds → numberAt (w .from) 4 (signalsIn s f) 4 ≡ f .size → numberAt (w .from) 4 (signalsIn s f) 8 ≡ f .count → span hd ≡ 16 + length (signalsIn s f) → see (w .from) c (signalsIn s f) c (framesBody counts ch hd) ≡ goes g e →
-        16 + length (take long (drop (f .at + 16) d₂)) ≡ span (framesHead (f .seconds) ch (g .frames)) → y₂ ≡ render (w .to) (framesWritten (f .seconds) ch (g .frames))
+    pub signals : FramesAnew w file (signalsIn s f) (take long (drop (f .at + 16) d₂)) y₂ cs (f .seconds) (f .filled) (f .size) (f .count)
     pub after : (fuel : ℕ) (n : Next) (e : ℕ) → length s < f .end + fuel → see (w .from) b s (b + f .end) (next fuel (length s - f .end)) ≡ goes n e → Pastes d₃ d₄ behind k (copy w b s (b + f .end) (next fuel (length s - f .end)))
     pub rest : zs ≡ replicate (length (take (length d₄ - k) (drop k d₄))) 0
 
--- a body that the walk accepted, and what is known of its shape
-module _ (w : Way) {b : ℕ} {s : List ℕ} {x : Placed} (v : Accepted (w .from) b s x) (f : Shape) (reads : ShapeIn (w .from) b s f) (is : ShapeOf f x) where
+-- a body that the walk accepted, and what is known of its measure
+module _ (w : Way) {b : ℕ} {s : List ℕ} {x : Placed} (v : Accepted (w .from) b s x) (f : Measure) (reads : MeasureIn (w .from) b s f) (is : MeasureOf f x) where
   same-at : v .at ≡ f .at
   same-at = omega (arith, v .place, is .at)
 
@@ -179,9 +179,9 @@ module _ (w : Way) {b : ℕ} {s : List ℕ} {x : Placed} (v : Accepted (w .from)
   old-long = length-render (w .to) (numerals (v .before .events .next .head))
 
   -- so what the code wrote is canonical
-  canonical-body : (file : List ℕ) (cs : Channels) (d₀ d₁ y₁ y₂ d₄ zs : List ℕ) (k₁ k : ℕ) → Writes w file cs f s b d₀ d₁ y₁ y₂ d₄ zs k₁ k → w .keep ≡ false → length (x .recording .channels) ≡ cs .count → Kept (w .from) file (cs .subs) (x .recording .channels) →
+  canonical-body : (file : List ℕ) (cs : Channels) (d₀ d₁ y₁ y₂ d₄ zs : List ℕ) (k₁ k : ℕ) → Writes w file cs f s b d₀ d₁ y₁ y₂ d₄ zs k₁ k → w .keep ≡ false → ChannelsStand (w .from) file cs (x .recording .channels) →
       put k (length d₄ - k) d₄ zs ≡ render (w .to) (behindHead (x .recording))
-  canonical-body file cs d₀ d₁ y₁ y₂ d₄ zs k₁ k q clear many kept =
+  canonical-body file cs d₀ d₁ y₁ y₂ d₄ zs k₁ k q clear here =
       let o : Order = w .to in
       let r : Recording = x .recording in
       let end : ℕ = f .at + f .signals .length in
@@ -195,14 +195,14 @@ module _ (w : Way) {b : ℕ} {s : List ℕ} {x : Placed} (v : Accepted (w .from)
       let e₁ : y₁ ≡ render o (numerals (framesHead (r .seconds) (r .channels) (r .frames))) = q .top ∙ ap (λ (z : Sized). render o (numerals (record { size = z .size; code = 140; serial = 0; multiplier = z .multiplier }))) (is .signals) in
       let e₂ : y₂ ≡ render o (framesWritten (r .seconds) (r .channels) (r .frames)) =
       rw (is .seconds, ← v .frames) at
-      (q .signals clear (b + f .at + 16) (v .counts) (r .channels) (v .top) (v .value) (b + f .end) many kept (is .filled ∙ rw (is .seconds)) (reads .seconds) (reads .size) (reads .count) fills in-signals (omega (arith, j, q .least) ∙ (signals-long ∙ rw (is .seconds, ← v .frames)))) in
+      (q .signals clear (b + f .at + 16) (v .counts) (r .channels) (v .top) (v .value) (b + f .end) here (is .filled ∙ rw (is .seconds)) (reads .says) fills in-signals (omega (arith, j, q .least) ∙ (signals-long ∙ rw (is .seconds, ← v .frames)))) in
       five-writes d₀ d₁ t (render o (numerals (v .before .events .next .head))) y₁ y₂ d₄ n zs (f .at) (f .at + 16 - f .at) (f .at + 16) m end k₁ k (length-render o (tablesEvents (v .before)) ∙ (v .front ∙ same-at)) (omega arith) (omega (arith, q .least)) (omega (arith, old-long, q .least)) inside
       (subst (λ (l : List ℕ). Pastes d₀ d₁ 0 k₁ l) (tables-bytes clear) (q .front (v .held) (v .before) (b + (v .at + 16)) (v .begins))) (q .same₂) (q .same₃)
       (subst (λ (l : List ℕ). Pastes (put (f .at + 16) m p y₂) d₄ end k l) (next-bytes clear) (q .after (v .fuel) (v .after) (v .end) (omega (arith, v .enough, stop, same-at)) goes-on)) (q .same₅) (q .rest)
       ∙ (same-pieces t y₁ _ y₂ _ n (length d₀ - (end + length n)) (span (recordingHead 0 r) - (16 + size (content r))) e₁ e₂ (omega (arith, q .room, whole-long, content-long, next-long, serves))
       ∙ sym (behind-head o r (tablesEvents (v .before)) (framesHead (r .seconds) (r .channels) (r .frames)) (framesWritten (r .seconds) (r .channels) (r .frames)) (makerEvents (v .after .makers)) (v .events)))
 
-pub body-written : (w : Way) (file : List ℕ) (cs : Channels) (f : Shape) (s : List ℕ) (b : ℕ) (d₀ d₁ y₁ y₂ d₄ zs : List ℕ) (k₁ k : ℕ) → Bytes s → Writes w file cs f s b d₀ d₁ y₁ y₂ d₄ zs k₁ k →
-    w .keep ≡ false → (held : Option Held) (h : Head) (x : Placed) (e : ℕ) → span h ≡ 16 + length s → length (x .recording .channels) ≡ cs .count → Kept (w .from) file (cs .subs) (x .recording .channels) → ShapeIn (w .from) b s f → ShapeOf f x →
-    see (w .from) b s b (recordingBody held h) ≡ goes x e → put k (length d₄ - k) d₄ zs ≡ render (w .to) (behindHead (x .recording))
-body-written w file cs f s b d₀ d₁ y₁ y₂ d₄ zs k₁ k bytes q clear held h x e fills many kept reads is g = canonical-body w (accepted (w .from) b s bytes h fills held g) f reads is file cs d₀ d₁ y₁ y₂ d₄ zs k₁ k q clear many kept
+pub body-written : (w : Way) (file : List ℕ) (cs : Channels) (f : Measure) (s : List ℕ) (b : ℕ) (d₀ d₁ y₁ y₂ d₄ zs : List ℕ) (k₁ k : ℕ) → Bytes s →
+    Writes w file cs f s b d₀ d₁ y₁ y₂ d₄ zs k₁ k → BodyAnew w file s (put k (length d₄ - k) d₄ zs) cs f b
+body-written w file cs f s b d₀ d₁ y₁ y₂ d₄ zs k₁ k bytes q =
+    λ clear held h x e fills here reads is g. canonical-body w (accepted (w .from) b s bytes h fills held g) f reads is file cs d₀ d₁ y₁ y₂ d₄ zs k₁ k q clear here

@@ -25,8 +25,7 @@ use Rattle.permit.specs.declared.Written.the-variants as Written
 use Rattle.permit.proofs.Settled.{writes-unique, writes-bytes}
 use Rattle.turn.proofs.Answers.{Turns}
 use Rattle.turn.proofs.Demands.{turn-answers}
-use Rattle.rewrite.specs.Rewrite.{barrier, answerOf, rewrittenIn}
-use Rattle.rewrite.proofs.Answers.{Rewrites}
+use Rattle.rewrite.specs.Rewrite.{barrier, answerOf, rewrittenIn, Rewrites}
 
 pub rewrite-unique : (s : List ℕ) (order : ℕ) (out out₁ out₂ : List ℕ) (a b : Written) → Rewrites s order out out₁ a → Rewrites s order out out₂ b → (a ≡ b) × (out₁ ≡ out₂)
 rewrite-unique s order out out₁ out₂ a b x y = writes-unique (answerOf s order (length out)) (rewrittenIn (lettered order) s) out out₁ out₂ a b x y

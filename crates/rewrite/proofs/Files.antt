@@ -20,17 +20,19 @@ use Rattle.rules.specs.Rules as R
 use Rattle.rules.specs.Rules.{recording, recordings}
 use Rattle.rules.specs.Canonical as C
 use Rattle.rules.proofs.Canon.{recording-size}
-use Rattle.descriptions.specs.Tabled.{Stand, HeldAs}
+use Rattle.descriptions.specs.Tabled.{HeldAs}
 use Rattle.descriptions.specs.declared.Before.{Before}
 use Rattle.descriptions.specs.declared.Before.the-variants as Before
 use Rattle.descriptions.specs.declared.Places.{Places}
+use Rattle.children.specs.Recordings.{ReadAs}
 use Rattle.judge.specs.Recorded.{leaves, Places-of}
 use Rattle.judge.proofs.Led.{Led, led, led-stop}
 use Rattle.bodies.specs.Copy.{Pastes}
-use Rattle.measures.specs.Shapes.{ShapeOf, Bounds, Each, Given, lengthIn, behindHead}
+use Rattle.measures.specs.Measures.{MeasureOf, Bounds, Each, Given, lengthIn, behindHead}
 use Rattle.measures.specs.declared.Sized.{Sized}
-use Rattle.measures.specs.declared.Shaped.{Shaped}
-use Rattle.measures.specs.declared.Shaped.the-variants as Shaped
+use Rattle.measures.specs.declared.Measured.{Measured}
+use Rattle.measures.specs.declared.Measured.the-variants as Measured
+use Rattle.rewrite.specs.RecordingsAnew.{AcceptedAt, MeasuredAt, lengthAnew}
 
 -- the canonical events of recordings that the walk read, with the serials from i on
 abbrev pub eventsOf : ℕ → List R.Placed → List Event
@@ -49,15 +51,15 @@ one-size : (i : ℕ) (r : R.Recording) → size (C.recordingEvents i (r ∷ []))
 unfolding C.recordingEvents
 one-size i r = rw append-nil (recording-size i r)
 
--- and as its shape says
-given-size : (a : Shaped) (i : ℕ) (x : R.Placed) → Given a (λ f. ShapeOf f x) → lengthIn a ≡ size (eventsOne i x)
-given-size (Shaped.On f) i x g = ap (λ (z : Sized). z .length) (g .whole) ∙ sym (one-size i (x .recording))
-given-size Shaped.Nothing i x g = absurd g
+-- and as its measure says
+given-size : (a : Measured) (i : ℕ) (x : R.Placed) → Given a (λ f. MeasureOf f x) → lengthIn a ≡ size (eventsOne i x)
+given-size (Measured.On f) i x g = ap (λ (z : Sized). z .length) (g .whole) ∙ sym (one-size i (x .recording))
+given-size Measured.Nothing i x g = absurd g
 
--- no shape asks for more
-pub length-most : (n : ℕ) (a : Shaped) → Each a (Bounds n) → lengthIn a < 549755813888
-length-most n (Shaped.On f) b = b .most
-length-most n Shaped.Nothing b = omega arith
+-- no measure asks for more
+pub length-most : (n : ℕ) (a : Measured) → Each a (Bounds n) → lengthIn a < 549755813888
+length-most n (Measured.On f) b = b .most
+length-most n Measured.Nothing b = omega arith
 
 -- i of the recordings are read, and the walk, which reads ps in all, goes on at byte p of the file, holding what the code has of the recording before
 pub record Going (o : Order) (s : List ℕ) (count : ℕ) (ps : List R.Placed) (p i : ℕ) (before : Before) : Type 0 where
@@ -72,14 +74,12 @@ pub record Going (o : Order) (s : List ℕ) (count : ℕ) (ps : List R.Placed) (
 -- one recording more, whose places are q
 record Step (o : Order) (s : List ℕ) (count : ℕ) (ps : List R.Placed) (p i : ℕ) (held : Option R.Held) (done : List Event) (q : Places) : Type 0 where
   one : R.Placed
-  is : see o 0 s p (recording held (length s - p) (i + 1)) ≡ goes one (q .end)
-  stand : Stand o s (q .channels) (q .count) (one .recording .channels)
-  place : q .frames ≡ p + one .layout .at140
+  is : AcceptedAt o s p (i + 1) q held one
   next : Going o s count ps (q .end) (i + 1) (Before.These q)
   more : next .done ≡ done ++ eventsOne (i + 1) one
 
 module _ {o : Order} {s : List ℕ} {count : ℕ} {ps : List R.Placed} where
-  going-start : {e : ℕ} → see o 0 s 32 (recordings count none (length s - 32) 1) ≡ goes ps e → Going o s count ps 32 0 Before.Nothing
+  going-start : {e : ℕ} → ReadAs o s count ps e → Going o s count ps 32 0 Before.Nothing
   going-start {e} g = record { held = none; holds = tt; left = ps; end = e; on = rw sub-zero g; done = []; all = refl }
 
   module _ {p i : ℕ} {before : Before} (x : Going o s count ps p i before) where
@@ -102,9 +102,7 @@ module _ {o : Order} {s : List ℕ} {count : ℕ} {ps : List R.Placed} where
         let u : eventsOf (i + 1) (x .left) ≡ t ++ eventsOf (suc (i + 1)) (y .rest) = ap (eventsOf (i + 1)) (y .all ∙ ap (λ (z : R.Placed). z ∷ y .rest) (v .0)) ∙ events-first (i + 1) (k .value .recording) (map (λ p. p .recording) (y .rest)) in
         record {
           one = k .value;
-          is = is;
-          stand = k .kept .held;
-          place = ap (λ (j : Places). j .frames) (k .kept .same);
+          is = record { went = is; channels = k .kept .held; frames = ap (λ (j : Places). j .frames) (k .kept .same) };
           next = record {
             held = leaves (k .value);
             holds = k .kept .held;
@@ -125,35 +123,31 @@ module _ {o : Order} {s : List ℕ} {count : ℕ} {ps : List R.Placed} where
         let l : [] ≡ x .left = goes-same (rw d at (x .on)) .0 in
         x .all ∙ (ap (λ (r : List R.Placed). x .done ++ eventsOf (i + 1) r) (sym l) ∙ append-nil (x .done))
 
--- what the shape of a recording with the places q says of it
-abbrev Shapes : Order → List ℕ → ℕ → Places → Shaped → Type 0
-Shapes o s p q a = (held : Option R.Held) (i : ℕ) (x : R.Placed) → see o 0 s p (recording held (length s - p) i) ≡ goes x (q .end) → Stand o s (q .channels) (q .count) (x .recording .channels) → q .frames ≡ p + x .layout .at140 → Given a (λ f. ShapeOf f x)
-
 -- the file header and the recordings so far are counted
 pub record Counted (o : Order) (s : List ℕ) (count : ℕ) (ps : List R.Placed) (p i : ℕ) (before : Before) (sum : ℕ) : Type 0 where
   pub at : Going o s count ps p i before
   pub is : sum ≡ 32 + size (at .done)
 
 module _ {o : Order} {s : List ℕ} {count : ℕ} {ps : List R.Placed} where
-  pub counted-start : {e : ℕ} → see o 0 s 32 (recordings count none (length s - 32) 1) ≡ goes ps e → Counted o s count ps 32 0 Before.Nothing 32
+  pub counted-start : {e : ℕ} → ReadAs o s count ps e → Counted o s count ps 32 0 Before.Nothing 32
   unfolding size going-start
   counted-start g = record { at = going-start g; is = refl }
 
   module _ {p i : ℕ} {before : Before} {sum : ℕ} (x : Counted o s count ps p i before sum) where
-    pub counted-next : {q : Places} (n : ℕ) (a : Shaped) → i < count → p ≤ length s → Goes (see o 0 s p (recording (x .at .held) (length s - p) (i + 1))) (Places-of o s p before q) → Shapes o s p q a → n ≡ lengthIn a → Counted o s count ps (q .end) (i + 1) (Before.These q) (sum + n)
+    pub counted-next : {q : Places} (n : ℕ) (a : Measured) → i < count → p ≤ length s → Goes (see o 0 s p (recording (x .at .held) (length s - p) (i + 1))) (Places-of o s p before q) → MeasuredAt o s p q a → n ≡ lengthIn a → Counted o s count ps (q .end) (i + 1) (Before.These q) (sum + n)
     counted-next n a h f k g e =
         let y = going-next (x .at) h f k in
-        let z : lengthIn a ≡ size (eventsOne (i + 1) (y .one)) = given-size a (i + 1) (y .one) (g (x .at .held) (i + 1) (y .one) (y .is) (y .stand) (y .place)) in
+        let z : lengthIn a ≡ size (eventsOne (i + 1) (y .one)) = given-size a (i + 1) (y .one) (g .told (x .at .held) (i + 1) (y .one) (y .is)) in
         let w : size (y .next .done) ≡ size (x .at .done) + size (eventsOne (i + 1) (y .one)) = ap size (y .more) ∙ size-append (x .at .done) (eventsOne (i + 1) (y .one)) in
         record { at = y .next; is = omega (arith, x .is, e, z, w) }
 
-    pub counted-end : count ≤ i → sum ≡ 32 + size (eventsOf 1 ps)
+    pub counted-end : count ≤ i → sum ≡ lengthAnew ps
     counted-end h = x .is ∙ ap (λ (t : List Event). 32 + size t) (sym (going-end (x .at) h))
 
 -- the recordings so far stand behind the file header, where there is room for all
 pub record Written (o to : Order) (s : List ℕ) (count : ℕ) (ps : List R.Placed) (out₀ out : List ℕ) (p i : ℕ) (before : Before) (k : ℕ) : Type 0 where
   pub at : Going o s count ps p i before
-  pub is : 32 + size (eventsOf 1 ps) ≤ length out₀ → (k ≡ 32 + size (at .done)) × (out ≡ pasted out₀ 32 (render to (at .done)))
+  pub is : lengthAnew ps ≤ length out₀ → (k ≡ 32 + size (at .done)) × (out ≡ pasted out₀ 32 (render to (at .done)))
 
 -- what is pasted behind other events
 pasted-more : (to : Order) (out₀ out out′ : List ℕ) (k : ℕ) (t u : List Event) → 32 ≤ length out₀ → k ≡ 32 + size t → out ≡ pasted out₀ 32 (render to t) → out′ ≡ pasted out k (render to u) → out′ ≡ pasted out₀ 32 (render to (t ++ u))
@@ -162,13 +156,13 @@ pasted-more to out₀ out out′ k t u f e h g =
     g ∙ (ap (λ (l : List ℕ). pasted l k (render to u)) h ∙ (ap (λ (n : ℕ). pasted (pasted out₀ 32 (render to t)) n (render to u)) m ∙ (pasted-pasted out₀ 32 (render to t) (render to u) f ∙ ap (pasted out₀ 32) (sym (render-append to t u)))))
 
 module _ {o to : Order} {s : List ℕ} {count : ℕ} {ps : List R.Placed} {out₀ : List ℕ} where
-  pub written-start : {e : ℕ} → see o 0 s 32 (recordings count none (length s - 32) 1) ≡ goes ps e → Written o to s count ps out₀ out₀ 32 0 Before.Nothing 32
+  pub written-start : {e : ℕ} → ReadAs o s count ps e → Written o to s count ps out₀ out₀ 32 0 Before.Nothing 32
   unfolding size render going-start
   written-start g = record { at = going-start g; is = λ _. (refl, sym (pasted-nothing out₀ 32)) }
 
   module _ {out : List ℕ} {p i : ℕ} {before : Before} {k : ℕ} (x : Written o to s count ps out₀ out p i before k) where
     pub written-next : {q : Places} (out′ : List ℕ) (k′ : ℕ) → i < count → p ≤ length s → 32 ≤ length out₀ → length out ≡ length out₀ → Goes (see o 0 s p (recording (x .at .held) (length s - p) (i + 1))) (Places-of o s p before q) →
-        ((held : Option R.Held) (y : R.Placed) → see o 0 s p (recording held (length s - p) (i + 1)) ≡ goes y (q .end) → Stand o s (q .channels) (q .count) (y .recording .channels) → q .frames ≡ p + y .layout .at140 → Pastes out out′ k k′ (render to (eventsOne (i + 1) y))) →
+        ((held : Option R.Held) (y : R.Placed) → AcceptedAt o s p (i + 1) q held y → Pastes out out′ k k′ (render to (eventsOne (i + 1) y))) →
         Written o to s count ps out₀ out′ (q .end) (i + 1) (Before.These q) k′
     written-next {q} out′ k′ h f low same step g =
         let y = going-next (x .at) h f step in
@@ -180,11 +174,11 @@ module _ {o to : Order} {s : List ℕ} {count : ℕ} {ps : List R.Placed} {out�
           is = λ room.
               let z = x .is room in
               let n = length-render to t in
-              let r = g (x .at .held) (y .one) (y .is) (y .stand) (y .place) (omega (arith, room, same, z .0, n, w, v)) in
+              let r = g (x .at .held) (y .one) (y .is) (omega (arith, room, same, z .0, n, w, v)) in
               (omega (arith, r .0, z .0, n, w), pasted-more to out₀ out out′ k (x .at .done) t low (z .0) (z .1) (r .1) ∙ ap (λ (l : List Event). pasted out₀ 32 (render to l)) (sym (y .more)));
         }
 
-    pub written-end : count ≤ i → 32 + size (eventsOf 1 ps) ≤ length out₀ → out ≡ pasted out₀ 32 (render to (eventsOf 1 ps))
+    pub written-end : count ≤ i → lengthAnew ps ≤ length out₀ → out ≡ pasted out₀ 32 (render to (eventsOf 1 ps))
     written-end h room = x .is room .1 ∙ ap (λ (t : List Event). pasted out₀ 32 (render to t)) (sym (going-end (x .at) h))
 
 -- the header xs, which a call wrote as ys, and what stands behind it

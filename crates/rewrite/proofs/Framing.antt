@@ -24,13 +24,14 @@ use Rattle.rules.specs.Canonical.{blanks, zeroes, numerals, rowOf, plainHead, r
 use Rattle.rules.specs.Rules.{Head, head, span, admit, coded, between, padOk, padding, series, Basic, Channel, width, samplesIn, sampleBytes, numberList, samples, Frame, frameBody, frame, Frames, framesBody}
 use Rattle.rules.specs.declared.Channels.{Channels}
 use Rattle.rules.proofs.Room.{stays-frame}
-use Rattle.records.specs.Says.{Kept}
+use Rattle.measures.specs.Standing.{ChannelsStand}
 use Rattle.descriptions.proofs.Parts.{bind-goes}
-use Rattle.rows.proofs.Lists.{admit-went, require-went, head-went}
+use Rattle.records.proofs.Opened.{admit-went, require-went, head-went}
 use Rattle.bodies.specs.Copy.{copy, filling}
 use Rattle.bodies.specs.declared.Way.{Way}
-use Rattle.measures.specs.Shapes.{FrameIn}
+use Rattle.measures.specs.Measures.{FramesSay, FrameIn}
 use Rattle.measures.proofs.Canonic.{frame-bare}
+use Rattle.rewrite.specs.FramesAnew.{FrameAnew, FramesAnew}
 
 -- numbers of a width one after the other, and channels' samples, as they stand in the bytes s from byte k on
 module _ (o : Order) where
@@ -191,17 +192,17 @@ module _ (o : Order) (b : ℕ) (s : List ℕ) (t : ℕ) (ch : List Channel) wher
         rw (← goes-same (y .kept) .0) (ap suc (r .0), (frame-in p room i l (x .is), r .1))
 
   -- the body of a 140 whose three numbers are known, in a part that it fills
-  pub frames-stand : (filled size count : ℕ) (c : Basic) (hd : Head) (f : Frames) (e : ℕ) → filled ≡ 24 + sampleBytes t ch → numberAt o 4 s 0 ≡ t → numberAt o 4 s 4 ≡ size → numberAt o 4 s 8 ≡ count → span hd ≡ 16 + length s →
+  frames-stand : (filled size count : ℕ) (c : Basic) (hd : Head) (f : Frames) (e : ℕ) → filled ≡ 24 + sampleBytes t ch → FramesSay o s t size count → span hd ≡ 16 + length s →
       see o b s b (framesBody c ch hd) ≡ goes f e → (length (f .frames) ≡ count) × FramesIn o t ch filled size s 16 (f .frames)
   unfolding framesBody between see _>>=_ _>>_
-  frames-stand filled size count c hd f e i n₀ n₁ n₂ whole g =
+  frames-stand filled size count c hd f e i says whole g =
       let z₀ : b - b ≡ 0 = omega arith in
       let z₁ : b + 4 - b ≡ 4 = omega arith in
       let z₂ : b + 4 + 4 - b ≡ 8 = omega arith in
       let z₃ : b + 4 + 4 + 4 + 4 ≡ b + 16 = omega arith in
       let v : Walk (List Frame) = series count 1 size (span hd - 32) (frame size t ch) in
       let made : List Frame → Frames = λ fs. record { seconds = t; frames = fs; size = size; padded = count * (size - (24 + sampleBytes t ch)) + (span hd - (32 + count * size)) } in
-      let g₁ = gate-went _ _ _ _ (rw (z₀, z₁, z₂, z₃, n₀, n₁, n₂) at g) in
+      let g₁ = gate-went _ _ _ _ (rw (z₀, z₁, z₂, z₃, says .seconds, says .size, says .count) at g) in
       let g₂ = gate-went _ _ _ _ (g₁ .1) in
       let g₃ = gate-went _ _ _ _ (g₂ .1) in
       let g₄ = gate-went _ _ _ _ (g₃ .1) in
@@ -243,7 +244,8 @@ module _ (w : Way) (file : List ℕ) (cs : Channels) (t filled size count : ℕ)
     pub target : k + filled * (count - i) ≤ n
     pub place : k ≡ 16 + filled * i
     pub long : length d ≡ n
-    pub left : (ch : List Channel) (fs : List Frame) → w .keep ≡ false → length ch ≡ cs .count → Kept (w .from) file (cs .subs) ch → filled ≡ 24 + sampleBytes t ch → length fs ≡ count → FramesIn (w .from) t ch filled size s 16 fs → Rest ch fs d from k i
+    pub left : (ch : List Channel) (fs : List Frame) → w .keep ≡ false → ChannelsStand (w .from) file cs ch → filled ≡ 24 + sampleBytes t ch →
+        length fs ≡ count → FramesIn (w .from) t ch filled size s 16 fs → Rest ch fs d from k i
 
   opens : (ch : List Channel) (fs : List Frame) (y₁ y₂ y₃ y₄ front : List ℕ) → filled ≡ 24 + sampleBytes t ch → length fs ≡ count → front ≡ ((y₁ ++ y₂) ++ y₃) ++ y₄ →
       y₁ ≡ bytesIn (w .to) 4 t → y₂ ≡ bytesIn (w .to) 4 filled → y₃ ≡ bytesIn (w .to) 4 count → y₄ ≡ replicate 4 0 → front ++ render (w .to) (frameEvents t ch 1 fs) ≡ render (w .to) (opened t ch fs)
@@ -264,7 +266,7 @@ module _ (w : Way) (file : List ℕ) (cs : Channels) (t filled size count : ℕ)
         target = rw (sub-zero, l₄, l₃, l₂, l₁) g;
         place = omega arith;
         long = refl;
-        left = λ ch fs _ _ _ is n stands. record { rest = fs; many = omega arith; stands = stands; is = opens ch fs y₁ y₂ y₃ y₄ (take 16 (put 12 4 d₃ y₄)) is n x e₁ e₂ e₃ (e₄ ∙ ap (λ (x : ℕ). replicate x 0) z) };
+        left = λ ch fs _ _ is n stands. record { rest = fs; many = omega arith; stands = stands; is = opens ch fs y₁ y₂ y₃ y₄ (take 16 (put 12 4 d₃ y₄)) is n x e₁ e₂ e₃ (e₄ ∙ ap (λ (x : ℕ). replicate x 0) z) };
       }
 
   module _ {n : ℕ} {d : List ℕ} {from k i : ℕ} (q : Framing n d from k i) where
@@ -274,8 +276,7 @@ module _ (w : Way) (file : List ℕ) (cs : Channels) (t filled size count : ℕ)
 
     -- m and m′ are the lengths of the parts that are lent
     pub framing-more : (m m′ : ℕ) (ys : List ℕ) → i < count → filled ≤ size → m ≡ filled → m′ ≡ filled → length (put k m′ d ys) ≡ length d →
-        (w .keep ≡ false → (ch : List Channel) (f : Frame) → length ch ≡ cs .count → Kept (w .from) file (cs .subs) ch → length (take m (drop from s)) ≡ 24 + sampleBytes t ch → FrameIn (w .from) t ch (take m (drop from s)) f →
-        ys ≡ render (w .to) (recordOf (plainHead (length (take m (drop from s))) 145 (i + 1)) (frameWritten ch f))) →
+        FrameAnew w file (take m (drop from s)) ys cs t (i + 1) →
         Framing n (put k m′ d ys) (from + size) (k + filled) (i + 1)
     framing-more m m′ ys f g e e′ l writes =
         let a = room-more from size count i (length s) f (q .source) in
@@ -287,9 +288,9 @@ module _ (w : Way) (file : List ℕ) (cs : Channels) (t filled size count : ℕ)
           target = b .1;
           place = omega (arith, q .place, ap (λ (x : ℕ). filled * x) (add-one i) ∙ mul-suc filled i);
           long = l ∙ q .long;
-          left = λ ch fs clear c kept is c′ stands.
-              let x = q .left ch fs clear c kept is c′ stands in
-              one ch fs (put k m′ d ys) ys (x .rest) (x .many) (x .stands) (x .is) p (λ r h. rw (e, z, is) at (writes clear ch r c kept (rw (e, z) is) (rw e h)));
+          left = λ ch fs clear here is c′ stands.
+              let x = q .left ch fs clear here is c′ stands in
+              one ch fs (put k m′ d ys) ys (x .rest) (x .many) (x .stands) (x .is) p (λ r h. rw (e, z, is) at (writes clear ch r here (rw (e, z) is) (rw e h)));
         }
       where
         one : (ch : List Channel) (fs : List Frame) (d′ ys : List ℕ) (rest : List Frame) → i + length rest ≡ count → FramesIn (w .from) t ch filled size s from rest →
@@ -304,16 +305,14 @@ module _ (w : Way) (file : List ℕ) (cs : Channels) (t filled size count : ℕ)
     all-there ch all [] c g x = (omega arith, sym (append-nil (take k d)) ∙ x)
     all-there ch all (r ∷ rs) c g x = absurd (omega arith)
 
-    pub framing-end : (zs : List ℕ) → count ≤ i → length (put k (length d - k) d zs) ≡ length d → zs ≡ replicate (length (take (length d - k) (drop k d))) 0 →
-        w .keep ≡ false → (b : ℕ) (c : Basic) (ch : List Channel) (hd : Head) (f : Frames) (e : ℕ) → length ch ≡ cs .count → Kept (w .from) file (cs .subs) ch → filled ≡ 24 + sampleBytes t ch →
-        numberAt (w .from) 4 s 0 ≡ t → numberAt (w .from) 4 s 4 ≡ size → numberAt (w .from) 4 s 8 ≡ count → span hd ≡ 16 + length s → see (w .from) b s b (framesBody c ch hd) ≡ goes f e →
-        16 + n ≡ span (framesHead t ch (f .frames)) → put k (length d - k) d zs ≡ render (w .to) (framesWritten t ch (f .frames))
+    pub framing-end : (d₀ zs : List ℕ) → count ≤ i → length (put k (length d - k) d zs) ≡ length d → zs ≡ replicate (length (take (length d - k) (drop k d))) 0 →
+        length d₀ ≡ n → FramesAnew w file s d₀ (put k (length d - k) d zs) cs t filled size count
     unfolding framesWritten
-    framing-end zs g l h clear b c ch hd f e m kept is n₀ n₁ n₂ whole went z =
-        let y = frames-stand (w .from) b s t ch filled size count c hd f e is n₀ n₁ n₂ whole went in
-        let x = q .left ch (f .frames) clear m kept is (y .0) (y .1) in
+    framing-end d₀ zs g l h long clear b c ch hd f e here is says whole went z =
+        let y = frames-stand (w .from) b s t ch filled size count c hd f e is says whole went in
+        let x = q .left ch (f .frames) clear here is (y .0) (y .1) in
         let u = all-there ch (render (w .to) (opened t ch (f .frames))) (x .rest) (x .many) g (x .is) in
         let v : length (f .frames) * frameSize t ch ≡ filled * i = rw (y .0, ← is, u .0) (mul-comm count filled) in
-        let j : length (take (length d - k) (drop k d)) ≡ span (framesHead t ch (f .frames)) - framesBytes t ch (f .frames) = length-take-le (length d - k) (drop k d) (rw length-drop (omega arith)) ∙ omega (arith, v, z, q .place, q .long) in
+        let j : length (take (length d - k) (drop k d)) ≡ span (framesHead t ch (f .frames)) - framesBytes t ch (f .frames) = length-take-le (length d - k) (drop k d) (rw length-drop (omega arith)) ∙ omega (arith, v, z, long, q .place, q .long) in
         front-all d zs (render (w .to) (opened t ch (f .frames))) k (length d - k) (omega (arith, q .target, q .long)) l (u .1)
         ∙ (rw (h, j) (sym (padded-events (w .to) (opened t ch (f .frames)) (span (framesHead t ch (f .frames)) - framesBytes t ch (f .frames)))))

@@ -1,4 +1,4 @@
--- A recording that is written anew: its canonical form is its head and what stands behind it, as long as its shape says, and it stands where the code wrote the two.
+-- A recording that is written anew: its canonical form is its head and what stands behind it, as long as its measure says, and it stands where the code wrote the two.
 -- Assumes nothing.
 use mathlib.Core.Path.{_≡_, sym, ap, _∙_}
 use mathlib.Core.Bool.{false}
@@ -12,22 +12,22 @@ use Rattle.words.specs.Runs.{pasted}
 use Rattle.words.proofs.Fronts.{put}
 use Rattle.words.proofs.Runs.{part-pasted, pasted-pasted}
 use Rattle.walk.specs.Walk.{render, size}
-use Rattle.walk.specs.See.{goes, see}
 use Rattle.walk.proofs.Laws.{length-render}
 use Rattle.walk.proofs.Seen.{body-length}
 use Rattle.rules.specs.Rules as R
 use Rattle.rules.specs.Canonical as C
 use Rattle.rules.proofs.Canon.{recording-size}
 use Rattle.rules.proofs.Renew.{record-size}
-use Rattle.records.specs.Says.{Kept}
-use Rattle.descriptions.specs.Tabled.{Stand}
+use Rattle.measures.specs.Standing.{ChannelsStand}
 use Rattle.descriptions.specs.declared.Places.{Places}
-use Rattle.rows.proofs.Recorded.{within}
+use Rattle.children.proofs.Recordings.{within}
 use Rattle.bodies.specs.Copy.{Pastes}
 use Rattle.bodies.specs.declared.Way.{Way}
-use Rattle.measures.specs.Shapes.{sizedFor, ShapeOf, ShapeIn, behindHead}
+use Rattle.measures.specs.Measures.{sizedFor, behindHead}
 use Rattle.measures.specs.declared.Sized.{Sized}
-use Rattle.measures.specs.declared.Shape.{Shape}
+use Rattle.measures.specs.declared.Measure.{Measure}
+use Rattle.measures.specs.declared.Measured.the-variants as Measured
+use Rattle.rewrite.specs.RecordingsAnew.{AcceptedAt, bodyIn, MeasuredAt, BodyAnew}
 use Rattle.rewrite.proofs.Framing.{render-record}
 
 -- a head is 16 bytes long
@@ -83,18 +83,15 @@ module _ (o : Order) (i : ℕ) (r : R.Recording) where
 pub room-behind : (d : List ℕ) (k n : ℕ) → 16 ≤ n → k + n ≤ length d → 16 + length (take (k + n - (k + 16)) (drop (k + 16) d)) ≡ n
 room-behind d k n f g = body-length k (k + n) d (omega arith) g ∙ omega arith
 
--- the recording from byte p of the file on, of the shape f: the code wrote its head, and its body as a part of the file
-module _ (w : Way) (file : List ℕ) (p i : ℕ) (q : Places) (f : Shape) where
-  abbrev body : List ℕ
-  body = take (q .end - (p + 16)) (drop (p + 16) file)
-
-  pub recording-written : (out ys zs : List ℕ) (k n m : ℕ) → n ≡ 16 → 16 + m ≡ f .whole .length → k ≤ length out → ShapeIn (w .from) (p + 16) body f →
-      ((held : Option R.Held) (i : ℕ) (x : R.Placed) → see (w .from) 0 file p (R.recording held (length file - p) i) ≡ goes x (q .end) → Stand (w .from) file (q .channels) (q .count) (x .recording .channels) → q .frames ≡ p + x .layout .at140 → ShapeOf f x) →
+-- the recording from byte p of the file on, of the measure f: the code wrote its head, and its body as a part of the file
+module _ (w : Way) (file : List ℕ) (p i : ℕ) (q : Places) (f : Measure) where
+  pub recording-written : (out ys zs : List ℕ) (k n m : ℕ) → n ≡ 16 → 16 + m ≡ f .whole .length → k ≤ length out → MeasuredAt (w .from) file p q (Measured.On f) →
       ys ≡ render (w .to) (C.numerals (record { size = f .whole .size; code = 10; serial = i; multiplier = f .whole .multiplier })) →
-      (w .keep ≡ false → (held : Option R.Held) (h : R.Head) (x : R.Placed) (e : ℕ) → R.span h ≡ 16 + length body → length (x .recording .channels) ≡ q .count → Kept (w .from) file (q .channels + 32) (x .recording .channels) → ShapeIn (w .from) (p + 16) body f → ShapeOf f x → see (w .from) (p + 16) body (p + 16) (R.recordingBody held h) ≡ goes x e → zs ≡ render (w .to) (behindHead (x .recording))) →
-      w .keep ≡ false → (held : Option R.Held) (x : R.Placed) → see (w .from) 0 file p (R.recording held (length file - p) i) ≡ goes x (q .end) → Stand (w .from) file (q .channels) (q .count) (x .recording .channels) → q .frames ≡ p + x .layout .at140 →
+      BodyAnew w file (bodyIn file p q) zs (record { subs = q .channels + 32; count = q .count }) f (p + 16) →
+      w .keep ≡ false → (held : Option R.Held) (x : R.Placed) → AcceptedAt (w .from) file p i q held x →
       Pastes out (put (k + 16) m (put k n out ys) zs) k (k + f .whole .length) (render (w .to) (C.recordingEvents i (x .recording ∷ [])))
-  recording-written out ys zs k n m e₁ e₂ l shape given first later clear held x g stand place =
-      let v = within (w .from) file p (q .end) held i g in
-      let s = given held i x g stand place in
-      recording-placed (w .to) i (x .recording) (f .whole) (s .whole) out ys zs k n m e₁ e₂ l first (later clear held (v .top) x (q .end) (v .fills) (stand .0) (stand .1) shape s (v .body))
+  recording-written out ys zs k n m e₁ e₂ l t first later clear held x y =
+      let v = within (w .from) file p (q .end) held i (y .went) in
+      let s = t .told held i x y in
+      let here : ChannelsStand (w .from) file (record { subs = q .channels + 32; count = q .count }) (x .recording .channels) = record { count = y .channels .0; kept = y .channels .1 } in
+      recording-placed (w .to) i (x .recording) (f .whole) (s .whole) out ys zs k n m e₁ e₂ l first (later clear held (v .top) x (q .end) (v .fills) here (t .reads) s (v .body))

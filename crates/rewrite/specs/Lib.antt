@@ -1,1 +1,3 @@
+pub mod FramesAnew
+pub mod RecordingsAnew
 pub mod Rewrite

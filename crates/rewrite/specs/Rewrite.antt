@@ -13,7 +13,8 @@ use Rattle.header.specs.declared.Lettered.{Lettered}
 use Rattle.header.specs.declared.Lettered.the-variants as Lettered
 use Rattle.bodies.specs.Copy.{sameOrder}
 use Rattle.makers.specs.Makers.{firstMaker}
-use Rattle.permit.specs.Permit.{Answer, refusal, permitted, settled}
+use Rattle.permit.specs.Permit.{Answer, refusal, permitted, settled, Writes}
+use Rattle.permit.specs.declared.Written.{Written}
 
 -- a maker's record stands in the way only where the order asked for is not the file's
 abbrev pub barrier : Order → Order → Option ℕ → Option ℕ
@@ -40,3 +41,7 @@ rewrittenIn Lettered.Nothing s = []
 -- the buffer afterwards: the canonical file in its first bytes where the answer is a length, else as it was
 abbrev pub afterwards : List ℕ → ℕ → List ℕ → List ℕ
 afterwards s order out = settled (answerOf s order (length out)) (rewrittenIn (lettered order) s) out
+
+-- what `rewrite` answers, and what the buffer then holds
+abbrev pub Rewrites : List ℕ → ℕ → List ℕ → List ℕ → Written → Type 0
+Rewrites s order out out′ a = Writes (answerOf s order (length out)) (rewrittenIn (lettered order) s) out out′ a

@@ -1,21 +1,16 @@
 // The file header and the recordings, in canonical form.
 ghost use mathlib.Core.Path.{_≡_};
-ghost use mathlib.Core.Bool.{false};
-ghost use mathlib.Core.List.{List, [], _∷_, _++_, map};
-ghost use mathlib.Core.Option.{Option, none};
-ghost use Prim.Native.Nat.{ℕ, _+_, _*_, _-_, _≤_, _<_};
-ghost use lib.ListN.{length, take, drop};
-ghost use Rattle.words.specs.Sizes.{Addressable};
-ghost use Rattle.words.specs.Runs.{pasted};
-ghost use Rattle.walk.specs.Walk.{render, size};
-ghost use Rattle.walk.specs.See.{see, goes};
+ghost use mathlib.Core.List.{List};
+ghost use Prim.Native.Nat.{ℕ, _<_};
+ghost use lib.ListN.{length};
+ghost use Rattle.walk.specs.Walk.{render};
 ghost use Rattle.rules.specs.Rules as R;
 ghost use Rattle.rules.specs.Canonical as C;
-ghost use Rattle.records.specs.Says.{Kept};
 ghost use Rattle.header.specs.Opened.{headingOf};
-ghost use Rattle.descriptions.specs.Tabled.{Room, Stand};
-ghost use Rattle.bodies.specs.Copy.{Pastes};
-ghost use Rattle.measures.specs.Shapes.{ShapeOf, ShapeIn, Bounds, Each, Given, lengthIn, behindHead};
+ghost use Rattle.children.specs.Recordings.{ReadAs};
+ghost use Rattle.measures.specs.Measures.{lengthIn};
+ghost use Rattle.rewrite.specs.RecordingsAnew.{StandsIn, MeasuredAt, BodyFits, BodyAnew, RecordingFits, RecordingAnew};
+ghost use Rattle.rewrite.specs.RecordingsAnew.{HeaderFits, Counts, lengthAnew, FileFits, FileAnew};
 use crate::frames::frames_body;
 use bodies::Way;
 use bodies::runs::letter;
@@ -25,9 +20,9 @@ use descriptions::Before;
 use descriptions::Places;
 use judge::recording::Recorded;
 use judge::recording::recording_again;
-use measures::Shape;
-use measures::Shaped;
-use measures::read_shape;
+use measures::Measure;
+use measures::Measured;
+use measures::measure_of;
 use records::writing::put_head;
 use rules::Channels;
 use rules::FileHeader;
@@ -37,36 +32,36 @@ use rules::Heading;
 use rules::Recording;
 use words::Order;
 
-// The shape of the recording from byte p on, which has these places.
-fn shape_at(o: Order, file: &[u8], p: usize, q: Places) -> Shaped
-    requires { ⌜ (p ≤ q .end) × (q .end ≤ length (now file)) × Addressable (length (now file)) × Room (length (now file)) (q .channels) (q .count) ⌝ }
-    ensures { λ a. ⌜ Each a (Bounds (q .end - (p + 16))) × Each a (ShapeIn o (p + 16) (take (q .end - (p + 16)) (drop (p + 16) (now (file .entry))))) × ((held : Option R.Held) (i : ℕ) (x : R.Placed) → see o 0 (now (file .entry)) p (R.recording held (length (now (file .entry)) - p) i) ≡ goes x (q .end) → Stand o (now (file .entry)) (q .channels) (q .count) (x .recording .channels) → q .frames ≡ p + x .layout .at140 → Given a (λ f. ShapeOf f x)) ⌝ }
+// The measure of the recording from byte p on, which has these places.
+fn measure_at(o: Order, file: &[u8], p: usize, q: Places) -> Measured
+    requires { ⌜ StandsIn (length (now file)) p q ⌝ }
+    ensures { λ a. ⌜ MeasuredAt o (now (file .entry)) p q a ⌝ }
 {
     let base = p + Head::LENGTH;
     let end = q.end;
     if end < base {
-        return Shaped::Nothing;
+        return Measured::Nothing;
     }
     if q.frames < base {
-        return Shaped::Nothing;
+        return Measured::Nothing;
     }
     if end < q.frames {
-        return Shaped::Nothing;
+        return Measured::Nothing;
     }
     let cs = Channels {
         subs: q.channels + Channels::SUBS,
         count: q.count,
     };
-    read_shape(o, file, cs, q.frames - base, &file[base..end], base)
+    measure_of(o, file, cs, q.frames - base, &file[base..end], base)
 }
 
-// The length that a shape asks for.
-fn shape_length(a: Shaped) -> usize
+// The length that a measure asks for.
+fn measured_length(a: Measured) -> usize
     ensures { λ r. ⌜ r ≡ lengthIn a ⌝ }
 {
     match a {
-        Shaped::On(f) => f.whole.length,
-        Shaped::Nothing => 0,
+        Measured::On(f) => f.whole.length,
+        Measured::Nothing => 0,
     }
 }
 
@@ -86,7 +81,7 @@ fn digits(count: u32, d: &mut [u8])
 
 // The file header: K without leading zeros.
 fn header(to: Order, heading: Heading, count: u32, d: &mut [u8])
-    requires { ⌜ (heading .script < 256) × (count < 100) × (length (now d) ≡ 32) ⌝ }
+    requires { ⌜ HeaderFits (now d) heading count ⌝ }
     ensures { λ _. ⌜ now (d .exit) ≡ render to (C.headerEvents (headingOf heading) count) ⌝ }
 {
     let script = heading.script;
@@ -99,10 +94,10 @@ fn header(to: Order, heading: Heading, count: u32, d: &mut [u8])
     copy_run(b"          ", &mut d[FileHeader::SPACES..]);
 }
 
-// The body of a recording of this shape: d has room for its canonical form and no more.
-fn body(w: Way, file: &[u8], cs: Channels, f: Shape, s: &[u8], base: usize, d: &mut [u8])
-    requires { ⌜ (cs .subs + 256 * cs .count ≤ length (now file)) × (cs .count ≤ 128) × Addressable (base + length (now s)) × Bounds (length (now s)) f × (16 + length (now d) ≡ f .whole .length) ⌝ }
-    ensures { λ _. ⌜ (w .keep ≡ false → (held : Option R.Held) (h : R.Head) (x : R.Placed) (e : ℕ) → R.span h ≡ 16 + length (now (s .entry)) → length (x .recording .channels) ≡ cs .count → Kept (w .from) (now (file .entry)) (cs .subs) (x .recording .channels) → ShapeIn (w .from) base (now (s .entry)) f → ShapeOf f x → see (w .from) base (now (s .entry)) base (R.recordingBody held h) ≡ goes x e → now (d .exit) ≡ render (w .to) (behindHead (x .recording))) ⌝ }
+// The body of a recording of this measure: d has room for its canonical form and no more.
+fn body(w: Way, file: &[u8], cs: Channels, f: Measure, s: &[u8], base: usize, d: &mut [u8])
+    requires { ⌜ BodyFits (now file) (now s) (now d) cs f base ⌝ }
+    ensures { λ _. ⌜ BodyAnew w (now (file .entry)) (now (s .entry)) (now (d .exit)) cs f base ⌝ }
 {
     let to = w.to;
     let signals = f.signals;
@@ -137,13 +132,13 @@ fn body(w: Way, file: &[u8], cs: Channels, f: Shape, s: &[u8], base: usize, d: &
 
 // The recording from byte p on, with the serial i, which has these places: where the next bytes go.
 fn recording(w: Way, file: &[u8], p: usize, i: u32, q: Places, out: &mut [u8], k: usize) -> usize
-    requires { ⌜ (p ≤ q .end) × (q .end ≤ length (now file)) × Addressable (length (now file)) × Room (length (now file)) (q .channels) (q .count) × (k ≤ length (now out)) ⌝ }
-    ensures { λ r. ⌜ (r ≤ length (now (out .entry))) × (w .keep ≡ false → (held : Option R.Held) (x : R.Placed) → see (w .from) 0 (now (file .entry)) p (R.recording held (length (now (file .entry)) - p) i) ≡ goes x (q .end) → Stand (w .from) (now (file .entry)) (q .channels) (q .count) (x .recording .channels) → q .frames ≡ p + x .layout .at140 → Pastes (now (out .entry)) (now (out .exit)) k r (render (w .to) (C.recordingEvents i (x .recording ∷ [])))) ⌝ }
+    requires { ⌜ RecordingFits (now file) p q (now out) k ⌝ }
+    ensures { λ r. ⌜ RecordingAnew w (now (file .entry)) p i q (now (out .entry)) (now (out .exit)) k r ⌝ }
 {
     let o = w.from;
     let to = w.to;
-    let shaped = shape_at(o, file, p, q);
-    let Shaped::On(f) = shaped else {
+    let measured = measure_at(o, file, p, q);
+    let Measured::On(f) = measured else {
         return k;
     };
     let whole = f.whole;
@@ -172,8 +167,8 @@ fn recording(w: Way, file: &[u8], p: usize, i: u32, q: Places, out: &mut [u8], k
 
 // The length of the canonical form of a file with so many recordings.
 pub fn file_length(o: Order, file: &[u8], count: u32) -> usize
-    requires { ⌜ (32 ≤ length (now file)) × Addressable (length (now file)) × (count ≤ 64) ⌝ }
-    ensures { λ r. ⌜ ((ps : List R.Placed) (e : ℕ) → see o 0 (now (file .entry)) 32 (R.recordings count none (length (now (file .entry)) - 32) 1) ≡ goes ps e → r ≡ 32 + size (C.recordingEvents 1 (map (λ p. p .recording) ps))) ⌝ }
+    requires { ⌜ Counts (length (now file)) count ⌝ }
+    ensures { λ r. ⌜ ((ps : List R.Placed) (e : ℕ) → ReadAs o (now (file .entry)) count ps e → r ≡ lengthAnew ps) ⌝ }
 {
     let mut p = FileHeader::LENGTH;
     let mut sum = FileHeader::LENGTH;
@@ -184,7 +179,7 @@ pub fn file_length(o: Order, file: &[u8], count: u32) -> usize
         let Recorded::On(q) = step else {
             return sum;
         };
-        sum += shape_length(shape_at(o, file, p, q));
+        sum += measured_length(measure_at(o, file, p, q));
         p = q.end;
         before = Before::These(q);
         i += 1;
@@ -194,8 +189,8 @@ pub fn file_length(o: Order, file: &[u8], count: u32) -> usize
 
 // The canonical form of a file with so many recordings.
 pub fn file_anew(o: Order, into: Order, heading: Heading, file: &[u8], count: u32, out: &mut [u8])
-    requires { ⌜ (32 ≤ length (now file)) × Addressable (length (now file)) × (heading .script < 256) × (count ≤ 64) × (32 ≤ length (now out)) ⌝ }
-    ensures { λ _. ⌜ ((ps : List R.Placed) (e : ℕ) → see o 0 (now (file .entry)) 32 (R.recordings count none (length (now (file .entry)) - 32) 1) ≡ goes ps e → 32 + size (C.recordingEvents 1 (map (λ p. p .recording) ps)) ≤ length (now (out .entry)) → now (out .exit) ≡ pasted (now (out .entry)) 0 (render into (C.headerEvents (headingOf heading) count) ++ render into (C.recordingEvents 1 (map (λ p. p .recording) ps)))) ⌝ }
+    requires { ⌜ FileFits (now file) (now out) heading count ⌝ }
+    ensures { λ _. ⌜ FileAnew o into heading (now (file .entry)) count (now (out .entry)) (now (out .exit)) ⌝ }
 {
     let w = Way {
         from: o,

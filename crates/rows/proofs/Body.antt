@@ -20,20 +20,23 @@ use Rattle.walk.proofs.Seen.{and-left, stays-goes}
 use Rattle.walk.proofs.Went.{gate-went}
 use Rattle.walk.proofs.Told.{Silent, silent}
 use Rattle.rules.specs.Rules.{Head, Held, Placed, head, span, makerCode, basicBody, channels, channelsBody, items, itemsBody, patientCode, eventCode, frames, framesBody, delimiter, padding, recordingBody}
+use Rattle.rules.specs.declared.Head as At
 use Rattle.rules.proofs.Room.{stays-head}
-use Rattle.children.specs.Children.{Said, said, _then_, Known, knownOf, Reads, Inner, is100, is120, is130, is200, is140, isMaker, Chain, Parted, Closed}
+use Rattle.records.specs.Says.{headOf}
+use Rattle.records.proofs.Opened.{tell-head, admit-went}
+use Rattle.children.specs.Children.{Said, said, _then_, Known, knownOf, Reads, Inner, is100, is120, is130, is200, is140, isMaker, Chain, Parted, Closed, RecordAt, NoRecord}
 use Rattle.children.proofs.Chained.{body-chain}
-use Rattle.rows.specs.Rows.{seriesRows, heldRows, Holds, Wrote}
-use Rattle.rows.proofs.Lists.{silent-padding, admit-went, items-lists, channels-lists, frames-lists}
-use Rattle.rows.proofs.Makers.{tell-head}
+use Rattle.children.proofs.Visiting.{chain-parted, chain-closed}
+use Rattle.rows.specs.Rows.{channelRows, frameRows, heldRows, Holds, Wrote}
+use Rattle.rows.proofs.Lists.{silent-padding, items-lists, channels-lists, frames-lists}
 use Rattle.rows.proofs.Written.{wrote-join, wrote-nothing}
 
 module _ (o : Order) (b : ℕ) (s : List ℕ) (p code : ℕ) where
-  pub held-120 : code ≡ 120 → heldRows o b s p code ≡ seriesRows (numberAt o 4 s (p + 16)) 1 (b + p + 32) 256 125
+  pub held-120 : code ≡ 120 → heldRows o b s p code ≡ channelRows o b s p
   unfolding heldRows
   held-120 e = rw e
 
-  pub held-140 : code ≡ 140 → heldRows o b s p code ≡ seriesRows (numberAt o 4 s (p + 24)) 1 (b + p + 32) (numberAt o 4 s (p + 20)) 145
+  pub held-140 : code ≡ 140 → heldRows o b s p code ≡ frameRows o b s p
   unfolding heldRows
   held-140 e = rw e
 
@@ -45,24 +48,26 @@ silent-basicBody : Silent basicBody
 unfolding basicBody _>>=_ _>>_
 silent-basicBody = λ _ _ _ _ _ _ _ _ _ _ _ _. tt
 
-module _ (o : Order) (b : ℕ) (s : List ℕ) (p : ℕ) (fit : p ≤ length s) where
-  abbrev pub Rowed : Head → List Row → Type 0
-  Rowed h rs = Holds o s p (p + span h) (h .code) × (rs ≡ record { start = b + p; size = span h; code = h .code; serial = h .serial } ∷ heldRows o b s p (h .code))
+-- the record at byte p with the head h is its row and those of the records that it holds, for which it has room
+pub record Rowed (o : Order) (b : ℕ) (s : List ℕ) (p : ℕ) (h : Head) (rs : List Row) : Type 0 where
+  pub fits : Holds o s p (p + span h) (h .code)
+  pub rows : rs ≡ record { start = b + p; size = span h; code = h .code; serial = h .serial } ∷ heldRows o b s p (h .code)
 
+module _ (o : Order) (b : ℕ) (s : List ℕ) (p : ℕ) (fit : p ≤ length s) where
   start : b + (p + 16) - 16 ≡ b + p
   start = omega arith
 
-  other : (h : Head) (rs : List Row) → (h .code ≡ 120 → ⊥) → (h .code ≡ 140 → ⊥) → rs ≡ record { start = b + (p + 16) - 16; size = span h; code = h .code; serial = h .serial } ∷ [] → Rowed h rs
-  other h rs n₁ n₂ e = ((λ q. absurd (n₁ q), λ q. absurd (n₂ q)), e ∙ rw (start, held-none o b s p (h .code) n₁ n₂))
+  other : (h : Head) (rs : List Row) → (h .code ≡ 120 → ⊥) → (h .code ≡ 140 → ⊥) → rs ≡ record { start = b + (p + 16) - 16; size = span h; code = h .code; serial = h .serial } ∷ [] → Rowed o b s p h rs
+  other h rs n₁ n₂ e = record { fits = record { channels = λ q. absurd (n₁ q); frames = λ q. absurd (n₂ q) }; rows = e ∙ rw (start, held-none o b s p (h .code) n₁ n₂) }
 
-  items-rowed : (ok : ℕ → Bool) (h : Head) {code : ℕ} {l : Said} → h .code ≡ code → (code ≡ 120 → ⊥) → (code ≡ 140 → ⊥) → Reads o b s p (items ok (length s - p) h) l → Rowed h (l .rows)
+  items-rowed : (ok : ℕ → Bool) (h : Head) {code : ℕ} {l : Said} → h .code ≡ code → (code ≡ 120 → ⊥) → (code ≡ 140 → ⊥) → Reads o b s p (items ok (length s - p) h) l → Rowed o b s p h (l .rows)
   unfolding said items
   items-rowed ok h q n₁ n₂ r =
       let n = eqb-true 0 (h .serial) (admit-went o b s (b + (p + 16)) (length s - p) 0 (leb 24) (eqb 0) h (itemsBody ok (span h)) (r .is) .number) in
       other h _ (rw q n₁) (rw q n₂) (rw (r .says, items-lists o b s ok (b + (p + 16)) (length s - p) h (r .is), ← n))
 
   -- a record is one row, and those of the records that it holds
-  pub inner-rows : {k : Known} {h : Head} {l : Said} → Inner o b s p k h l → Rowed h (l .rows)
+  pub inner-rows : {k : Known} {h : Head} {l : Said} → Inner o b s p k h l → Rowed o b s p h (l .rows)
   unfolding said channels items frames heldRows makerCode
   inner-rows {h} (is100 q r) =
       let d = admit-went o b s (b + (p + 16)) (length s - p) 0 (eqb 128) (eqb 0) h basicBody (r .is) in
@@ -71,7 +76,7 @@ module _ (o : Order) (b : ℕ) (s : List ℕ) (p : ℕ) (fit : p ≤ length s) w
       let d = channels-lists o b s (p + 16) (k .basic) (length s - p) h (omega arith) (r .is) in
       let n = eqb-true 0 (h .serial) (admit-went o b s (b + (p + 16)) (length s - p) 0 (leb 32) (eqb 0) h (channelsBody (k .basic) (span h)) (r .is) .number) in
       let i : b + (p + 16 + 16) ≡ b + p + 32 = omega arith in
-      ((λ _. omega (arith, d .0), λ z. absurd (omega arith)), rw (r .says, d .1, ← n, q, start, i))
+      record { fits = record { channels = λ _. omega (arith, d .0); frames = λ z. absurd (omega arith) }; rows = rw (r .says, d .1, ← n, q, start, i) }
   inner-rows {h} (is130 q r) = items-rowed patientCode h q (λ z. omega arith) (λ z. omega arith) r
   inner-rows {h} (is200 q r) = items-rowed eventCode h q (λ z. omega arith) (λ z. omega arith) r
   inner-rows {k} {h} (is140 q r) =
@@ -81,7 +86,10 @@ module _ (o : Order) (b : ℕ) (s : List ℕ) (p : ℕ) (fit : p ≤ length s) w
       let j₁ : p + 16 + 4 ≡ p + 20 = omega arith in
       let j₂ : p + 16 + 8 ≡ p + 24 = omega arith in
       let e = rw (j₁, j₂) at d in
-      ((λ z. absurd (omega arith), λ _. (e .0, omega (arith, e .1, mul-comm (numberAt o 4 s (p + 20)) (numberAt o 4 s (p + 24))))), rw (r .says, e .2, ← n, q, start, i))
+      record {
+        fits = record { channels = λ z. absurd (omega arith); frames = λ _. record { least = e .0; inside = omega (arith, e .1, mul-comm (numberAt o 4 s (p + 20)) (numberAt o 4 s (p + 24))) } };
+        rows = rw (r .says, e .2, ← n, q, start, i);
+      }
   inner-rows {h} (isMaker q r) =
       let d = admit-went o b s (b + (p + 16)) (length s - p) 128 (leb 16) (λ _. true) h (text (span h - 16)) (r .is) in
       let n : 1024 ≤ h .code = leb-true 1024 (h .code) (and-left (leb 1024 (h .code)) _ q) in
@@ -97,7 +105,7 @@ module _ (o : Order) (b : ℕ) (s : List ℕ) (p : ℕ) (fit : p ≤ length s) w
       let g₄ = gate-went _ _ _ _ (g₃ .1) in
       ap (λ (l : Said). l .rows) (c .is) ∙ rw (tell-head, g₁ .0, g₂ .0, g₃ .0, g₄ .0, silent o b s (b + (p + 16)) (padding (length s - p - 16)) (silent-padding (length s - p - 16)), start)
 
-  closed-inside : {l : Said} → Closed o b s p l → p + 16 ≤ length s
+  pub closed-inside : {l : Said} → Closed o b s p l → p + 16 ≤ length s
   closed-inside c = let z = stays-goes o b s (b + p + (length s - p)) (omega arith) (head (length s - p)) (b + p) _ (omega arith) (stays-head (b + p) (length s - p)) (c .stands) in omega (arith, z .1)
 
   -- a head lists nothing
@@ -120,17 +128,24 @@ module _ {o : Order} {b : ℕ} {s : List ℕ} {w : Bool} {out : List ℤ} {k : �
   listed-none held h x e n g = record { done = []; left = said o b s b (recordingBody held h); known = knownOf x; chain = body-chain o b s held h n g; all = refl; wrote = wrote-nothing w out k }
 
   module _ {out₁ : List ℤ} {k₁ p : ℕ} {rs : List Row} (fit : p ≤ length s) (g : Listed o b s w out out₁ k k₁ p rs) where
-    pub listed-all : {out₂ : List ℤ} {k₂ : ℕ} → ((k : Known) (l : Said) → Chain o b s k p l → Closed o b s p l) → Wrote w out₁ out₂ k₁ k₂ (record { start = b + p; size = 16; code = 0; serial = 0 } ∷ []) → Wrote w out out₂ k k₂ rs
-    listed-all {out₂} {k₂} c y = rw (g .all, closed-rows o b s p fit (c (g .known) (g .left) (g .chain))) (wrote-join w out out₁ out₂ k k₁ k₂ (g .done) _ (g .wrote) y)
+    pub listed-all : {out₂ : List ℤ} {k₂ : ℕ} → NoRecord o b s p → Wrote w out₁ out₂ k₁ k₂ (record { start = b + p; size = 16; code = 0; serial = 0 } ∷ []) → Wrote w out out₂ k k₂ rs
+    listed-all {out₂} {k₂} v y = rw (g .all, closed-rows o b s p fit (chain-closed o b s v (g .chain))) (wrote-join w out out₁ out₂ k k₁ k₂ (g .done) _ (g .wrote) y)
 
-    pub listed-short : {X : Type 0} → ((k : Known) (l : Said) → Chain o b s k p l → Closed o b s p l) → length s < p + 16 → X
-    listed-short c l = absurd (omega (arith, closed-inside o b s p fit (c (g .known) (g .left) (g .chain))))
+    pub listed-short : {X : Type 0} → NoRecord o b s p → length s < p + 16 → X
+    listed-short v l = absurd (omega (arith, closed-inside o b s p fit (chain-closed o b s v (g .chain))))
 
-    pub listed-more : {out₂ : List ℤ} {k₂ : ℕ} {h : Head} {q : ℕ} → q ≡ p + span h → ((k : Known) (l : Said) → Chain o b s k p l → Parted o b s k p h q l) →
-        (Holds o s p q (h .code) → Wrote w out₁ out₂ k₁ k₂ (record { start = b + p; size = q - p; code = h .code; serial = h .serial } ∷ heldRows o b s p (h .code))) → Listed o b s w out out₂ k k₂ q rs
-    listed-more {out₂} {k₂} {h} {q} e c y =
-        let d = c (g .known) (g .left) (g .chain) in
+    pub listed-more : {out₂ : List ℤ} {k₂ : ℕ} {h : At.Head} {q : ℕ} → RecordAt o b s p h q →
+        (Holds o s (h .at) q (h .code) → Wrote w out₁ out₂ k₁ k₂ (record { start = b + h .at; size = q - h .at; code = h .code; serial = h .serial } ∷ heldRows o b s (h .at) (h .code))) → Listed o b s w out out₂ k k₂ q rs
+    listed-more {out₂} {k₂} {h} {q} v y =
+        let d = chain-parted o b s v (g .chain) in
         let r = inner-rows o b s p fit (d .inner) in
-        let i : q - p ≡ span h = omega arith in
-        let z = rw i at (y (rw e (r .0))) in
-        record { done = g .done ++ d .own .rows; left = d .rest; known = g .known; chain = d .on; all = g .all ∙ ap (λ (r : List Row). g .done ++ r) (parted-rows o b s p fit d) ∙ sym (append-assoc (g .done) (d .own .rows) (d .rest .rows)); wrote = wrote-join w out out₁ out₂ k k₁ k₂ (g .done) _ (g .wrote) (rw (r .1) z) }
+        let i : q - p ≡ span (headOf h) = omega (arith, v .ends) in
+        let z = rw i at ((rw (v .place) at y) (rw (v .ends) (r .fits))) in
+        record {
+          done = g .done ++ d .own .rows;
+          left = d .rest;
+          known = g .known;
+          chain = d .on;
+          all = g .all ∙ ap (λ (r : List Row). g .done ++ r) (parted-rows o b s p fit d) ∙ sym (append-assoc (g .done) (d .own .rows) (d .rest .rows));
+          wrote = wrote-join w out out₁ out₂ k k₁ k₂ (g .done) _ (g .wrote) (rw (r .rows) z);
+        }

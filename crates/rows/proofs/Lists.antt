@@ -11,22 +11,21 @@ use borrow.Author.Tests.{leb-true, eqb-true, eq-eqb, ne-eqb}
 use lib.Dec.{leb, eqb}
 use lib.IntN.{ℤ}
 use lib.ListN.{length}
-use Rattle.words.specs.Numbers.{bytesAt, numberAt}
+use Rattle.words.specs.Numbers.{numberAt}
 use Rattle.words.specs.declared.Order.{Order}
 use Rattle.walk.specs.See.{stops, goes, see, Goes, Stays}
 use Rattle.walk.specs.Tell.{tell}
-use Rattle.walk.specs.Walk.{laid, Row, Walk, give, refuse, check, number, read, skip, list, _>>=_, _>>_, require}
+use Rattle.walk.specs.Walk.{Row, Walk, give, _>>=_, _>>_, require}
 use Rattle.walk.proofs.Seen.{stays-goes, and-left}
 use Rattle.walk.proofs.Went.{gate-went, went-first, goes-same}
-use Rattle.walk.proofs.Told.{tell-bind, tell-then, tell-give, Silent, silent, silent-bind, silent-then}
+use Rattle.walk.proofs.Told.{tell-bind, tell-give, Silent, silent, silent-bind, silent-then}
 use Rattle.rules.specs.Rules.{Head, head, admit, span, coded, fixed, zeros, padding, series, Channel, channel, channelBody, channelsBody, channels, Basic, Item, Frame, item, itemSize, itemList, itemsBody, items, numberList, samples, sampleBytes, samplesIn, width, frameBody, frame, frames, framesBody, Frames, padOk, between, Next, Part, part, next}
 use Rattle.rules.specs.declared.Head as At
 use Rattle.rules.proofs.Room.{Rests, stays-channel, stays-frame}
 use Rattle.records.specs.Says.{headOf}
 use Rattle.records.proofs.Facts.{both-true, both-false}
-use Rattle.judge.proofs.Recorded.{admit-passed}
+use Rattle.records.proofs.Opened.{Opened, opened, admit-went, require-went, not-admitted, halted}
 use Rattle.rows.specs.Rows.{seriesRows, Marks}
-use Rattle.rows.proofs.Makers.{tell-head, tell-admit}
 
 silent-zeros : (bs : List ℕ) → Silent (zeros bs)
 unfolding zeros
@@ -67,72 +66,6 @@ silent-itemList ok (suc n) room = silent-bind (item ok room) _ (silent-item ok r
 silent-itemsBody : (ok : ℕ → Bool) (n : ℕ) → Silent (itemsBody ok n)
 unfolding itemsBody _>>=_ _>>_
 silent-itemsBody ok n = λ m. silent-bind (itemList ok m (n - 24)) _ (silent-itemList ok m (n - 24)) (λ _. tt)
-
--- what an admitted head says, and its row; then what stands behind the head
-pub record Admitted {A : Type 0} (o : Order) (b : ℕ) (s : List ℕ) (at room most : ℕ) (fits serial : ℕ → Bool) (h : Head) (v : Walk A) (a : A) (e : ℕ) : Type 0 where
-  pub admits : see o b s at (admit room most fits serial h) ≡ goes tt at
-  pub length : fits (span h) ≡ true
-  pub number : serial (h .serial) ≡ true
-  pub inside : span h ≤ room
-  pub rest : see o b s at v ≡ goes a e
-  pub rows : tell o b s at (admit room most fits serial h >> v) ≡ record { start = at - 16; size = span h; code = h .code; serial = h .serial } ∷ tell o b s at v
-
-pub admit-went : {A : Type 0} (o : Order) (b : ℕ) (s : List ℕ) (at room most : ℕ) (fits serial : ℕ → Bool) (h : Head) (v : Walk A) {a : A} {e : ℕ} →
-    see o b s at (admit room most fits serial h >> v) ≡ goes a e → Admitted o b s at room most fits serial h v a e
-unfolding _>>_
-admit-went o b s at room most fits serial h v {a} {e} g =
-    let f = went-first o b s at (admit room most fits serial h) (λ _. v) g in
-    let p = admit-passed o b s at room most fits serial h (f .is) in
-    let k : see o b s at (admit room most fits serial h) ≡ goes tt at = f .is ∙ ap (λ (x : ℕ). goes tt x) (p .0) in
-    let r : see o b s at v ≡ goes a e = ap (λ (x : ℕ). see o b s x v) (sym (p .0)) ∙ f .kept in
-    record {
-      admits = k;
-      length = p .1;
-      number = p .2;
-      inside = p .3;
-      rest = r;
-      rows = tell-then o b s at (admit room most fits serial h) v k ∙ rw (tell-admit o b s at room most fits serial h k);
-    }
-
--- a test that stays where it is
-pub require-went : {A : Type 0} (o : Order) (b : ℕ) (s : List ℕ) (at : ℕ) (c : Bool) (n p : ℕ) (v : Walk A) {a : A} {e : ℕ} → see o b s at (require c n p >> v) ≡ goes a e →
-    (c ≡ true) × (see o b s at v ≡ goes a e) × (tell o b s at (require c n p >> v) ≡ tell o b s at v)
-unfolding see tell _>>=_ _>>_
-require-went o b s at c n p v g = let g₁ = gate-went _ _ _ _ g in (g₁ .0, g₁ .1, rw (g₁ .0))
-
--- a head takes 16 bytes
-pub head-went : (o : Order) (b : ℕ) (s : List ℕ) (at room : ℕ) {h : Head} {e : ℕ} → see o b s at (head room) ≡ goes h e → e ≡ at + 16
-unfolding head see _>>=_ _>>_
-head-went o b s at room {h} {e} g =
-    let g₁ = gate-went _ _ _ _ g in
-    let i : at + 4 + 4 + 4 + 4 ≡ e = cc (g₁ .1) in
-    omega arith
-
--- a record that the walk accepted: its head, which has its code and is admitted, and its body; and its rows
-pub record Opened {A : Type 0} (o : Order) (b : ℕ) (s : List ℕ) (at room code most : ℕ) (fits : Head → ℕ → Bool) (serial : ℕ → Bool) (body : Head → Walk A) (a : A) (e : ℕ) : Type 0 where
-  pub top : Head
-  pub first : see o b s at (head room) ≡ goes top (at + 16)
-  pub kind : eqb (top .code) code ≡ true
-  pub given : Admitted o b s (at + 16) room most (fits top) serial top (body top) a e
-  pub rows : tell o b s at (head room >>= λ h. coded h code >> (admit room most (fits h) serial h >> body h)) ≡ record { start = at; size = span top; code = top .code; serial = top .serial } ∷ tell o b s (at + 16) (body top)
-
-pub opened : {A : Type 0} (o : Order) (b : ℕ) (s : List ℕ) (at room code most : ℕ) (fits : Head → ℕ → Bool) (serial : ℕ → Bool) (body : Head → Walk A) {a : A} {e : ℕ} →
-    see o b s at (head room >>= λ h. coded h code >> (admit room most (fits h) serial h >> body h)) ≡ goes a e → Opened o b s at room code most fits serial body a e
-opened {A} o b s at room code most fits serial body g =
-    let k : Head → Walk A = λ h. coded h code >> (admit room most (fits h) serial h >> body h) in
-    let f = went-first o b s at (head room) k g in
-    let h = f .value in
-    let t = head-went o b s at room (f .is) in
-    let c = require-went o b s (f .end) (eqb (h .code) code) 9 12 (admit room most (fits h) serial h >> body h) (f .kept) in
-    let d = admit-went o b s (f .end) room most (fits h) serial h (body h) (c .1) in
-    let m : at + 16 - 16 ≡ at = omega arith in
-    record {
-      top = h;
-      first = rw t at (f .is);
-      kind = c .0;
-      given = rw t at d;
-      rows = tell-bind o b s at (head room) k (f .is) ∙ rw (tell-head o b s at room, c .2, d .rows, t, m);
-    }
 
 -- a record of a length and a serial that its head has to have, whose body lists nothing, is one row
 pub one-row : {A : Type 0} (o : Order) (b : ℕ) (s : List ℕ) (code most step i : ℕ) (fits : Head → ℕ → Bool) (serial : ℕ → Bool) (body : Walk A) →
@@ -177,7 +110,7 @@ items-lists o b s ok at room h g =
     d .rows ∙ rw (silent o b s at (itemsBody ok (span h)) (silent-itemsBody ok (span h)), eqb-true 0 (h .serial) (d .number))
 
 module _ (o : Order) (b : ℕ) (s : List ℕ) (p : ℕ) where
-  channelsBody-lists : (c : Basic) (n : ℕ) {l : List Channel} {e : ℕ} → see o b s (b + p) (channelsBody c n) ≡ goes l e →
+  pub channelsBody-lists : (c : Basic) (n : ℕ) {l : List Channel} {e : ℕ} → see o b s (b + p) (channelsBody c n) ≡ goes l e →
       (n ≡ 32 + 256 * numberAt o 4 s p) ×
       (see o b s (b + p + 4 + 4 + 8) (series (numberAt o 4 s p) 1 256 (n - 32) channel) ≡ goes l e) ×
       (tell o b s (b + p) (channelsBody c n) ≡ tell o b s (b + p + 4 + 4 + 8) (series (numberAt o 4 s p) 1 256 (n - 32) channel))
@@ -298,19 +231,11 @@ module _ {A : Type 0} (o : Order) (b : ℕ) (s : List ℕ) (at fuel code : ℕ) 
   pub absent-lists : (held : Option A) {x : Part A} {e : ℕ} → eqb (n .head .code) code ≡ false → see o b s at (part fuel code body held n) ≡ goes x e →
       (x .next .head ≡ n .head) × (x .next .room ≡ n .room) × (e ≡ at) × (tell o b s at (part fuel code body held n) ≡ [])
   unfolding part see tell
-  absent-lists none q h = absurd (let z : _≡_ {A = ℕ} 0 1 = cc (rw (part, q) at h) in omega arith)
+  absent-lists none q h = halted refl (rw (part, q) at h)
   absent-lists (some a) {x} {e} q h =
       let g = goes-same (rw (part, q) at h) in
       let i : record { makers = []; head = n .head; room = n .room } ≡ x .next = ap (λ (y : Part A). y .next) (g .0) in
       (ap (λ (y : Next). y .head) (sym i), ap (λ (y : Next). y .room) (sym i), sym (g .1), rw (part, q))
-
--- a head that is not admitted: the record is not accepted
-pub not-admitted : {A : Type 0} (o : Order) (b : ℕ) (s : List ℕ) (at room most : ℕ) (fits serial : ℕ → Bool) (h : Head) (v : Walk A) {m q : ℕ} {a : A} {e : ℕ} →
-    see o b s at (admit room most fits serial h) ≡ stops m q → see o b s at (admit room most fits serial h >> v) ≡ goes a e → ⊥
-not-admitted o b s at room most fits serial h v k g =
-    let d = admit-went o b s at room most fits serial h v g .admits in
-    let z : _≡_ {A = ℕ} 0 1 = cc in
-    omega arith
 
 -- the code's head h in the part s, and the rest of its record
 module _ {A : Type 0} (o : Order) (base : ℕ) (s : List ℕ) (h : At.Head) (body : ℕ → Head → Walk A) where

@@ -9,41 +9,21 @@ use lib.IntN.{ℤ}
 use lib.ListN.{length}
 use Rattle.words.specs.Numbers.{bytesAt}
 use Rattle.words.specs.declared.Order.{Order}
-use Rattle.walk.specs.See.{Verdict, stops, goes, gate, see, over}
+use Rattle.walk.specs.See.{stops, goes, see, over}
 use Rattle.walk.specs.Tell.{tell}
-use Rattle.walk.specs.Walk.{pick, laid, Text, Row, give, text, _>>=_, _>>_}
+use Rattle.walk.specs.Walk.{laid, Text, Row, give, text, _>>=_}
 use Rattle.walk.proofs.Seen.{over-goes}
 use Rattle.walk.proofs.Told.{tell-bind, tell-then, tell-give}
 use Rattle.rules.specs.Rules as R
 use Rattle.rules.specs.Rules.{head, admit, span, next, makerCode, more}
 use Rattle.rules.specs.declared.Head.{Head}
 use Rattle.records.specs.Says.{Headroom, headroom, headOf}
+use Rattle.records.proofs.Opened.{tell-head, tell-admit, halted}
 use Rattle.records.proofs.Steps.{next-stop, next-done, next-refused, next-more}
 use Rattle.rows.specs.Rows.{Wrote, Marks}
 use Rattle.rows.proofs.Written.{wrote-nothing, wrote-join}
 
--- what is listed behind a test that passed
-through : {A : Type 0} (c : Bool) (v : Verdict A) (n p : ℕ) (x y : List Row) {a : A} {e : ℕ} → gate c v n p ≡ goes a e → (v ≡ goes a e → x ≡ y) → pick c x [] ≡ y
-unfolding gate
-through true v n p x y h k = k h
-through false v n p x y h k = absurd (let z : _≡_ {A = ℕ} 0 1 = cc in omega arith)
-
 module _ (o : Order) (b : ℕ) (s : List ℕ) where
-  -- a head lists nothing
-  pub tell-head : (at room : ℕ) → tell o b s at (head room) ≡ []
-  unfolding head tell _>>=_ _>>_
-  tell-head at room = nil (leb 16 room)
-    where
-      nil : (c : Bool) → _≡_ {A = List Row} (pick c [] []) []
-      nil true = refl
-      nil false = refl
-
-  -- a head that is admitted is a row
-  pub tell-admit : (at room most : ℕ) (fits serial : ℕ → Bool) (h : R.Head) {e : ℕ} → see o b s at (admit room most fits serial h) ≡ goes tt e →
-      tell o b s at (admit room most fits serial h) ≡ record { start = at - 16; size = span h; code = h .code; serial = h .serial } ∷ []
-  unfolding admit see tell _>>=_ _>>_
-  tell-admit at room most fits serial h g = through _ _ _ _ _ _ g (λ g₁. through _ _ _ _ _ _ g₁ (λ g₂. through _ _ _ _ _ _ g₂ (λ _. refl)))
-
   module _ (at room f : ℕ) {h : R.Head} {e : ℕ} (found : see o b s at (head room) ≡ goes h e) where
     tell-done : makerCode (h .code) ≡ false → tell o b s at (next (suc f) room) ≡ []
     unfolding next tell
@@ -58,7 +38,7 @@ module _ (o : Order) (b : ℕ) (s : List ℕ) where
     unfolding next
     tell-more m a =
         tell-bind o b s at (head room) _ found ∙ rw (tell-head, m)
-        (tell-then o b s e (admit room 128 (leb 16) (λ _. true) h) _ a ∙ rw (tell-admit e room 128 (leb 16) (λ _. true) h a, tell-rest))
+        (tell-then o b s e (admit room 128 (leb 16) (λ _. true) h) _ a ∙ rw (tell-admit o b s e room 128 (leb 16) (λ _. true) h a, tell-rest))
 
 same-row : (a a′ l l′ c m : ℕ) (t t′ : List Row) → a ≡ a′ → l ≡ l′ → t ≡ t′ → _≡_ {A = List Row} (record { start = a; size = l; code = c; serial = m } ∷ t) (record { start = a′; size = l′; code = c; serial = m } ∷ t′)
 same-row a a′ l l′ c m t t′ e₁ e₂ e₃ = rw (e₁, e₂, e₃)
@@ -85,8 +65,7 @@ module _ {o : Order} {b : ℕ} {s : List ℕ} {from p fuel : ℕ} {w : Bool} {ou
 
   pub listing-stop : {X : Type 0} {i q : ℕ} {n : R.Next} {e : ℕ} → see o b s (b + p) (head (length s - p)) ≡ stops i q → see o b s (b + from) (next fuel (length s - from)) ≡ goes n e → X
   listing-stop h g =
-      let z = sym (next-stop o b (b + p) (length s - p) (x .left - 1) s h) ∙ went-on g in
-      absurd (let z : _≡_ {A = ℕ} 0 1 = cc in omega arith)
+      halted refl (sym (next-stop o b (b + p) (length s - p) (x .left - 1) s h) ∙ went-on g)
 
   -- h: the code's head
   module _ (h : Head) (found : see o b s (b + p) (head (length s - p)) ≡ goes (headOf h) (b + (h .at + 16))) (is : h .at ≡ p) (inside : p + 16 ≤ length s) where
@@ -103,8 +82,7 @@ module _ {o : Order} {b : ℕ} {s : List ℕ} {from p fuel : ℕ} {w : Bool} {ou
         see o b s (b + from) (next fuel (length s - from)) ≡ goes n e → X
     listing-refused m a g =
         let r : length s - h .at ≡ length s - p = ap (λ (y : ℕ). length s - y) is in
-        let z = sym (next-refused o b (b + p) (length s - p) (x .left - 1) s found m (rw r at a)) ∙ went-on g in
-        absurd (let z : _≡_ {A = ℕ} 0 1 = cc in omega arith)
+        halted refl (sym (next-refused o b (b + p) (length s - p) (x .left - 1) s found m (rw r at a)) ∙ went-on g)
 
     pub listing-more : makerCode (h .code) ≡ true → see o b s (b + (h .at + 16)) (admit (length s - h .at) 128 (leb 16) (λ _. true) (headOf h)) ≡ goes tt (b + (h .at + 16)) →
         (q : ℕ) → q ≡ h .at + span (headOf h) → 16 ≤ span (headOf h) → (out₂ : List ℤ) (k₂ : ℕ) → Wrote w out₁ out₂ k₁ k₂ (record { start = b + p; size = q - p; code = h .code; serial = h .serial } ∷ []) →

@@ -72,27 +72,27 @@ written-one out k a b c d r h e₁ e₂ e₃ e₄ =
 module _ (w : Bool) (out : List ℤ) (k : ℕ) (r : Row) where
   pub wrote-counted : w ≡ false → Wrote w out out k (k + 4) (r ∷ [])
   unfolding written
-  wrote-counted h = (refl, λ _. rw h)
+  wrote-counted h = record { next = refl; holds = λ _. rw h }
 
   pub wrote-out : w ≡ true → length out < k + 4 → Wrote w out out k (k + 4) (r ∷ [])
-  wrote-out h l = (refl, λ room. absurd (omega (arith, room h)))
+  wrote-out h l = record { next = refl; holds = λ room. absurd (omega (arith, room h)) }
 
   pub wrote-one : (out′ : List ℤ) → w ≡ true → out′ ≡ written true out k (r ∷ []) → Wrote w out out′ k (k + 4) (r ∷ [])
-  wrote-one out′ h e = (refl, λ _. rw h e)
+  wrote-one out′ h e = record { next = refl; holds = λ _. rw h e }
 
 pub wrote-nothing : (w : Bool) (out : List ℤ) (k : ℕ) → Wrote w out out k k []
-wrote-nothing w out k = (omega arith, λ _. sym (written-none w out k))
+wrote-nothing w out k = record { next = omega arith; holds = λ _. sym (written-none w out k) }
 
 pub wrote-join : (w : Bool) (out out₁ out₂ : List ℤ) (k k₁ k₂ : ℕ) (rs qs : List Row) → Wrote w out out₁ k k₁ rs → Wrote w out₁ out₂ k₁ k₂ qs → Wrote w out out₂ k k₂ (rs ++ qs)
-wrote-join w out out₁ out₂ k k₁ k₂ rs qs x y = (
-  y .0 ∙ rw (x .0) (sym (behind-append k rs qs)),
-  λ room.
+wrote-join w out out₁ out₂ k k₁ k₂ rs qs x y = record {
+  next = y .next ∙ rw (x .next) (sym (behind-append k rs qs));
+  holds = λ room.
       let first : w ≡ true → behind k rs ≤ length out = λ t. omega (arith, length-append rs qs, room t) in
-      let a : out₁ ≡ written w out k rs = x .1 first in
+      let a : out₁ ≡ written w out k rs = x .holds first in
       let l : length out₁ ≡ length out = ap length a ∙ length-written w out k rs first in
-      let second : w ≡ true → behind k₁ qs ≤ length out₁ = λ t. omega (arith, length-append rs qs, room t, x .0) in
-      y .1 second ∙ (rw (a, x .0) (written-joined w out k rs qs room)),
-)
+      let second : w ≡ true → behind k₁ qs ≤ length out₁ = λ t. omega (arith, length-append rs qs, room t, x .next) in
+      y .holds second ∙ (rw (a, x .next) (written-joined w out k rs qs room));
+}
 
 -- one record more of a series
 series-more : (n i start step code : ℕ) → seriesRows (suc n) i start step code ≡ seriesRows n i start step code ++ (record { start = start + step * n; size = step; code = code; serial = i + n } ∷ [])

@@ -2,22 +2,15 @@
 // Every function is safe for any bytes; that the rows are the file's is said of what was accepted.
 ghost use mathlib.Core.Path.{_≡_};
 ghost use mathlib.Core.Bool.{_&&_};
-ghost use mathlib.Core.List.{List, [], _∷_};
-ghost use mathlib.Core.Option.{Option, none};
-ghost use Prim.Native.Nat.{ℕ, _+_, _-_, _*_, _≤_, _<_};
+ghost use mathlib.Core.List.{[], _∷_};
+ghost use Prim.Native.Nat.{_+_, _-_, _*_, _≤_, _<_};
 ghost use lib.Dec.{leb};
 ghost use lib.ListN.{length};
 ghost use Rattle.words.specs.Sizes.{Addressable};
-ghost use Rattle.words.specs.Numbers.{numberAt};
-ghost use Rattle.walk.specs.See.{see, goes};
-ghost use Rattle.walk.specs.Tell.{tell};
-ghost use Rattle.rules.specs.Rules as R;
-ghost use Rattle.rows.specs.Rows.{seriesRows, heldRows, Holds, Wrote};
+ghost use Rattle.rows.specs.Rows.{seriesRows, channelRows, frameRows, heldRows, ChannelsFit, FramesFit, Holds};
+ghost use Rattle.rows.specs.Rows.{Wrote, WroteUpTo, WroteIf, Ahead, SeriesAhead, RecordAhead, BodyAhead, RecordingAhead};
+ghost use Rattle.rows.specs.Rows.{BodyListed, RecordingListed, FileListed};
 use children::Direct;
-use records::Fits;
-use records::Headed;
-use records::Serial;
-use records::Step;
 use rules::Channel;
 use rules::Channels;
 use rules::Delimiter;
@@ -25,7 +18,6 @@ use rules::FileHeader;
 use rules::Frame;
 use rules::Frames;
 use rules::Head;
-use rules::Recording;
 use words::Order;
 use words::number4;
 use words::signed4;
@@ -46,8 +38,9 @@ fn put(
     code: u32,
     serial: u32,
 ) -> usize
-    requires { ⌜ (k ≤ start) × Addressable start × Addressable size ⌝ }
-    ensures { λ r. ⌜ Wrote write (now (out .entry)) (now (out .exit)) k r (record { start = start; size = size; code = code; serial = serial } ∷ []) ⌝ }
+    requires { ⌜ Ahead k start size ⌝ }
+    ensures { λ r. ⌜ Wrote write (now (out .entry)) (now (out .exit)) k r
+        (record { start = start; size = size; code = code; serial = serial } ∷ []) ⌝ }
 {
     let end = k + 4;
     if !write {
@@ -73,8 +66,9 @@ fn series_rows(
     code: u32,
     count: u32,
 ) -> usize
-    requires { ⌜ (k ≤ start) × (4 ≤ step) × Addressable (start + step * count) × Addressable step ⌝ }
-    ensures { λ r. ⌜ Wrote write (now (out .entry)) (now (out .exit)) k r (seriesRows count 1 start step code) × (r ≤ start + step * count) ⌝ }
+    requires { ⌜ SeriesAhead k start step count ⌝ }
+    ensures { λ r. ⌜ WroteUpTo (start + step * count) write (now (out .entry)) (now (out .exit)) k r
+        (seriesRows count 1 start step code) ⌝ }
 {
     let mut at = start;
     let mut next = k;
@@ -98,8 +92,9 @@ fn channels_rows(
     k: usize,
     write: bool,
 ) -> usize
-    requires { ⌜ (p + 16 ≤ end) × (end ≤ length (now s)) × Addressable (base + length (now s)) × (k ≤ base + p + 16) ⌝ }
-    ensures { λ r. ⌜ (r ≤ base + end) × (end - p ≡ 32 + 256 * numberAt o 4 (now (s .entry)) (p + 16) → Wrote write (now (out .entry)) (now (out .exit)) k r (seriesRows (numberAt o 4 (now (s .entry)) (p + 16)) 1 (base + p + 32) 256 125)) ⌝ }
+    requires { ⌜ RecordAhead base (now s) p end k 16 ⌝ }
+    ensures { λ r. ⌜ WroteIf (ChannelsFit o (now (s .entry)) p end) (base + end) write (now (out .entry)) (now (out .exit)) k r
+        (channelRows o base (now (s .entry)) p) ⌝ }
 {
     if end - p < Channels::SUBS {
         return k;
@@ -123,8 +118,9 @@ fn frames_rows(
     k: usize,
     write: bool,
 ) -> usize
-    requires { ⌜ (p + 16 ≤ end) × (end ≤ length (now s)) × Addressable (base + length (now s)) × (k ≤ base + p + 16) ⌝ }
-    ensures { λ r. ⌜ (r ≤ base + end) × (24 ≤ numberAt o 4 (now (s .entry)) (p + 20) → 32 + numberAt o 4 (now (s .entry)) (p + 20) * numberAt o 4 (now (s .entry)) (p + 24) ≤ end - p → Wrote write (now (out .entry)) (now (out .exit)) k r (seriesRows (numberAt o 4 (now (s .entry)) (p + 24)) 1 (base + p + 32) (numberAt o 4 (now (s .entry)) (p + 20)) 145)) ⌝ }
+    requires { ⌜ RecordAhead base (now s) p end k 16 ⌝ }
+    ensures { λ r. ⌜ WroteIf (FramesFit o (now (s .entry)) p end) (base + end) write (now (out .entry)) (now (out .exit)) k r
+        (frameRows o base (now (s .entry)) p) ⌝ }
 {
     if end - p < Frames::FIRST {
         return k;
@@ -149,8 +145,10 @@ fn record_rows(
     k: usize,
     write: bool,
 ) -> usize
-    requires { ⌜ (h .at + 16 ≤ end) × (end ≤ length (now s)) × Addressable (base + length (now s)) × (k ≤ base + h .at) ⌝ }
-    ensures { λ r. ⌜ (r ≤ base + end) × (Holds o (now (s .entry)) (h .at) end (h .code) → Wrote write (now (out .entry)) (now (out .exit)) k r (record { start = base + h .at; size = end - h .at; code = h .code; serial = h .serial } ∷ heldRows o base (now (s .entry)) (h .at) (h .code))) ⌝ }
+    requires { ⌜ RecordAhead base (now s) (h .at) end k 0 ⌝ }
+    ensures { λ r. ⌜ WroteIf (Holds o (now (s .entry)) (h .at) end (h .code)) (base + end) write (now (out .entry)) (now (out .exit)) k r
+        (record { start = base + h .at; size = end - h .at; code = h .code; serial = h .serial }
+        ∷ heldRows o base (now (s .entry)) (h .at) (h .code)) ⌝ }
 {
     let p = h.at;
     let code = h.code;
@@ -177,8 +175,8 @@ fn fits(size: usize, count: u32, length: usize) -> bool
 
 // The rows of a recording's body, which stands at `base`.
 fn body_rows(o: Order, s: &[u8], base: usize, out: &mut [i64], k: usize, write: bool) -> usize
-    requires { ⌜ Addressable (base + length (now s)) × (k ≤ base) ⌝ }
-    ensures { λ r. ⌜ (r ≤ base + length (now (s .entry))) × ((held : Option R.Held) (h : R.Head) (x : R.Placed) (e : ℕ) → R.span h ≡ 16 + length (now (s .entry)) → see o base (now (s .entry)) base (R.recordingBody held h) ≡ goes x e → Wrote write (now (out .entry)) (now (out .exit)) k r (tell o base (now (s .entry)) base (R.recordingBody held h))) ⌝ }
+    requires { ⌜ BodyAhead base (now s) k ⌝ }
+    ensures { λ r. ⌜ BodyListed o base (now (s .entry)) write (now (out .entry)) (now (out .exit)) k r ⌝ }
 {
     let mut p: usize = 0;
     let mut next = k;
@@ -205,22 +203,11 @@ fn body_rows(o: Order, s: &[u8], base: usize, out: &mut [i64], k: usize, write: 
 
 // The rows of the recording at byte p of the file.
 fn recording_rows(o: Order, file: &[u8], p: usize, out: &mut [i64], k: usize, write: bool) -> Ended
-    requires { ⌜ (p ≤ length (now file)) × Addressable (length (now file)) × (k ≤ p) ⌝ }
-    ensures { λ r. ⌜ (p ≤ r .at) × (r .at ≤ length (now (file .entry))) × (r .k ≤ r .at) × ((held : Option R.Held) (i : ℕ) (x : R.Placed) (e : ℕ) → see o 0 (now (file .entry)) p (R.recording held (length (now (file .entry)) - p) i) ≡ goes x e → (e ≡ r .at) × Wrote write (now (out .entry)) (now (out .exit)) k (r .k) (tell o 0 (now (file .entry)) p (R.recording held (length (now (file .entry)) - p) i))) ⌝ }
+    requires { ⌜ RecordingAhead (now file) p k ⌝ }
+    ensures { λ r. ⌜ RecordingListed o (now (file .entry)) p (r .at) write (now (out .entry)) (now (out .exit)) k (r .k) ⌝ }
 {
-    let found = records::head_at(o, file, 0, p);
-    let Headed::At(h) = found else {
-        return Ended { at: p, k };
-    };
-    let room = records::admit(
-        h,
-        0,
-        file.len(),
-        Head::MOST,
-        Fits::AtLeast(Recording::LEAST),
-        Serial::Any,
-    );
-    let Step::On(end) = room else {
+    let there = children::record_at(o, file, 0, p);
+    let Direct::Record(h, end) = there else {
         return Ended { at: p, k };
     };
     let first = put(out, k, write, p, end - p, h.code, h.serial);
@@ -232,7 +219,7 @@ fn recording_rows(o: Order, file: &[u8], p: usize, out: &mut [i64], k: usize, wr
 // The rows of all recordings: how many numbers they take.
 pub fn file_rows(o: Order, file: &[u8], count: u32, out: &mut [i64], write: bool) -> usize
     requires { ⌜ (32 ≤ length (now file)) × Addressable (length (now file)) ⌝ }
-    ensures { λ r. ⌜ (r ≤ length (now (file .entry))) × ((ps : List R.Placed) (e : ℕ) → see o 0 (now (file .entry)) 32 (R.recordings count none (length (now (file .entry)) - 32) 1) ≡ goes ps e → Wrote write (now (out .entry)) (now (out .exit)) 0 r (tell o 0 (now (file .entry)) 32 (R.recordings count none (length (now (file .entry)) - 32) 1))) ⌝ }
+    ensures { λ r. ⌜ FileListed o (now (file .entry)) count write (now (out .entry)) (now (out .exit)) r ⌝ }
 {
     let mut at = FileHeader::LENGTH;
     let mut k = 0;

@@ -15,7 +15,7 @@ use Rattle.walk.specs.Plays.{Plays, gives, numbers}
 use Rattle.walk.specs.Walk.{Padding, Event, numeral, blank, size, render, run, Walk, passed, give, number, read, _>>=_, _>>_}
 use Rattle.walk.proofs.Tracing.{render-append}
 use Rattle.walk.proofs.Laws.{complete, length-render, size-append, by-parts, skipped, plays-gave, traced, eventsOf, valueOf, checked, counted, taken}
-use Rattle.rules.specs.Rules.{between, padding, padded, makerCode, zeros, series, Head, head, span, admit, fixed, Basic, Channel, channelBody, channel, channels, Item, item, itemBytes, itemSize, itemList, items, width, samplesIn, sampleBytes, numberList, samples, Frame, frame, Frames, frames, channelsBody, itemsBody, frameBody, framesBody}
+use Rattle.rules.specs.Rules.{between, padding, padded, makerCode, zeros, series, Head, head, span, admit, exactly, fixed, Basic, Channel, channelBody, channel, channels, Item, item, itemBytes, itemSize, itemList, items, width, samplesIn, sampleBytes, numberList, samples, Frame, frame, Frames, frames, channelsBody, itemsBody, frameBody, framesBody}
 use Rattle.rules.proofs.Renew.{and-true, channel-size, series-ok}
 
 -- the walk w gave a, p bytes into the events t
@@ -82,7 +82,7 @@ pub join : (t u : List Event) {v : List Event} {m n : ℕ} → t ++ u ≡ v → 
 join t u e h k = ap size (sym e) ∙ size-append t u ∙ rw (h, k)
 
 pub fixed-size : {A : Type 0} (n code serial m : ℕ) (body : Walk A) → ((t : List Event) (a : A) → Plays t body a → size t ≡ m) →
-    (room : ℕ) {t : List Event} {a : A} → Plays t (fixed n code serial body room) a → size t ≡ 16 + m
+    (room : ℕ) {t : List Event} {a : A} → Plays t (fixed (exactly n code serial) body room) a → size t ≡ 16 + m
 unfolding fixed _>>=_ _>>_
 fixed-size n code serial m body f room p =
     by-parts (head room) _ p λ h a b e h₀ p.

@@ -14,7 +14,7 @@ use Rattle.walk.specs.Plays.{Plays, gives, checks, numbers, reads, skips, lists
 use Rattle.walk.specs.Walk.{Text, Event, numeral, piece, size, Walk, give, _>>=_, _>>_, pick}
 use Rattle.walk.proofs.Laws.{plays-bind, plays-split, plays-give, plays-last, checked, counted, taken, skipped, traced, renewed, size-append, zeros-bytes, zeros-length}
 use Rattle.rules.specs.Canonical.{multiplierFor, most, zeroes, numerals, rowOf, plainHead, recordOf, basicFields, channelFields, channelEvents, channelsHead, channelsWritten, itemEvents, itemsHead, itemsWritten, sampleEvents, frameWritten, frameSize, frameEvents, framesBytes, framesHead, framesWritten, makerEvents}
-use Rattle.rules.specs.Rules.{between, padding, padded, makerCode, zeros, series, limit, Head, head, lengthOf, span, admit, fixed, Basic, basicBody, basic, Channel, channelBody, channel, channels, Item, item, itemBytes, itemList, items, width, divides, samplesIn, all, sampleBytes, numberList, samples, Frame, frame, Frames, frames, Maker, Next, next, channelsBody, itemsBody, frameBody, framesBody}
+use Rattle.rules.specs.Rules.{between, padding, padded, makerCode, zeros, series, limit, Head, head, lengthOf, span, admit, exactly, fixed, Basic, basicBody, basic, Channel, channelBody, channel, channels, Item, item, itemBytes, itemList, items, width, divides, samplesIn, all, sampleBytes, numberList, samples, Frame, frame, Frames, frames, Maker, Next, next, channelsBody, itemsBody, frameBody, framesBody}
 use Rattle.rules.proofs.Sized.{sized}
 
 pub and-true : (a b : Bool) → a && b ≡ true → (a ≡ true) × (b ≡ true)
@@ -72,7 +72,7 @@ admit-ok room most fits serial h p =
 -- a record of a fixed size
 
 module _ {A : Type 0} (n code serial : ℕ) (body : Walk A) where
-  pub fixed-ok : (room : ℕ) {t : List Event} {a : A} → Plays t (fixed n code serial body room) a → (u : List Event) × Plays u body a
+  pub fixed-ok : (room : ℕ) {t : List Event} {a : A} → Plays t (fixed (exactly n code serial) body room) a → (u : List Event) × Plays u body a
   unfolding fixed _>>=_ _>>_
   fixed-ok room p =
       let h = plays-split (head room) _ p in
@@ -80,7 +80,7 @@ module _ {A : Type 0} (n code serial : ℕ) (body : Walk A) where
       (q .second, q .behind)
 
   pub fixed-plays : (room : ℕ) {t : List Event} {a : A} → Plays t body a → 16 ≤ n → n < limit → code < 256 ^ 4 → serial < 256 ^ 4 → n ≤ room →
-      Plays (recordOf (plainHead n code serial) t) (fixed n code serial body room) a
+      Plays (recordOf (plainHead n code serial) t) (fixed (exactly n code serial) body room) a
   unfolding fixed recordOf _>>=_ _>>_ lengthOf
   fixed-plays room {t} p l m c s r =
       let h : Head = plainHead n code serial in

@@ -12,7 +12,7 @@ use lib.Dec.{leb, ltb, eqb}
 use Rattle.walk.specs.See.{Stays}
 use Rattle.walk.specs.Walk.{Walk, give, _>>=_, _>>_, pick, text, refuse}
 use Rattle.walk.proofs.Seen.{stays-bind, stays-then, stays-weaken, and-left, and-right, stays-require}
-use Rattle.rules.specs.Rules.{itemsBody, channelsBody, frameBody, Head, head, limit, admit, span, coded, fixed, Basic, basicBody, channelBody, channel, item, itemSize, itemBytes, itemList, series, zeros, padding, Channel, width, samplesIn, sampleBytes, numberList, samples, frame, Next, channels, frames, framesBody, items, next, padOk, makerCode, between, delimiter, part, recording, Held, Part, basic, heldChannels, patientCode, heldPatient, eventCode, file, fileHeader, recordings, recordingBody, signals}
+use Rattle.rules.specs.Rules.{itemsBody, channelsBody, frameBody, Head, head, limit, admit, span, coded, exactly, fixed, Basic, basicBody, channelBody, channel, item, itemSize, itemBytes, itemList, series, zeros, padding, Channel, width, samplesIn, sampleBytes, numberList, samples, frame, Next, channels, frames, framesBody, items, next, padOk, makerCode, between, delimiter, part, recording, Held, Part, basic, heldChannels, patientCode, heldPatient, eventCode, file, fileHeader, recordings, recordingBody, signals}
 use Rattle.rules.proofs.Steps.{body-steps}
 
 pub stays-head : (at room : ℕ) → Stays (at + room) at (head room) (λ h e. (e ≡ at + 16) × (16 ≤ room))
@@ -50,7 +50,7 @@ stays-record code most fits serial body R at room k =
     (λ _ x v. rw (v .0 ∙ q .0) (stays-weaken (body h) (at + span h) (at + room) (at + 16) R R (omega (arith, v .2)) (λ _ _ r. r) (k h (v .1) (v .2))))))
 
 -- a record of a fixed size, whose body takes what is behind the head
-pub stays-fixed : {A : Type 0} (size code serial : ℕ) (body : Walk A) → ((at : ℕ) → Stays (at + (size - 16)) at body (λ _ e. e ≡ at + (size - 16))) → 16 ≤ size → (at room : ℕ) → Stays (at + room) at (fixed size code serial body room) (λ _ e. (e ≡ at + size) × (e ≤ at + room))
+pub stays-fixed : {A : Type 0} (size code serial : ℕ) (body : Walk A) → ((at : ℕ) → Stays (at + (size - 16)) at body (λ _ e. e ≡ at + (size - 16))) → 16 ≤ size → (at room : ℕ) → Stays (at + room) at (fixed (exactly size code serial) body room) (λ _ e. (e ≡ at + size) × (e ≤ at + room))
 unfolding fixed
 stays-fixed size code serial body k z at room =
     stays-record code 0 (λ _. eqb size) (eqb serial) (λ _. body) _ at room

@@ -162,12 +162,71 @@ padded multiplier n = ltb n (max 1 multiplier)
 abbrev pub padOk : Head → ℕ → Bool
 padOk h n = padded (h .multiplier) n
 
--- a record of a fixed size
-unfoldable pub fixed : {A : Type 0} → ℕ → ℕ → ℕ → Walk A → ℕ → Walk A
-fixed size code serial body room = do
+-- What is fixed about each kind of record
+
+pub record Rule : Type 0 where
+  -- the codes that it may have
+  pub code : ℕ → Bool
+  -- the largest multiplier
+  pub most : ℕ
+  -- the length of a record with this multiplier
+  pub fits : ℕ → ℕ → Bool
+  -- the serial
+  pub serial : ℕ → Bool
+
+-- a fixed length and no multiplier
+abbrev pub exactly : ℕ → ℕ → ℕ → Rule
+exactly length code serial = record { code = λ c. eqb c code; most = 0; fits = λ _. eqb length; serial = eqb serial }
+
+-- a least length, and a multiplier up to `most`
+abbrev pub atLeast : ℕ → ℕ → ℕ → ℕ → Rule
+atLeast length code most serial = record { code = λ c. eqb c code; most = most; fits = λ _. leb length; serial = eqb serial }
+
+unfoldable pub makerCode : ℕ → Bool
+makerCode c = leb 1024 c && ltb c limit
+
+abbrev pub recordingRule : ℕ → Rule
+recordingRule i = atLeast 16 10 128 i
+
+abbrev pub basicRule : Rule
+basicRule = exactly 128 100 0
+
+abbrev pub channelsRule : Rule
+channelsRule = atLeast 32 120 0 0
+
+abbrev pub channelRule : ℕ → Rule
+channelRule i = exactly 256 125 i
+
+-- 130 or 200, by the code
+abbrev pub itemsRule : ℕ → Rule
+itemsRule code = atLeast 24 code 0 0
+
+abbrev pub framesRule : Rule
+framesRule = atLeast 32 140 128 0
+
+-- the length that 140 says, with samples that end at byte `filled`
+abbrev pub frameRule : ℕ → ℕ → ℕ → Rule
+frameRule size filled i = record { code = λ c. eqb c 145; most = 128; fits = λ multiplier n. eqb n size && padded multiplier (n - filled); serial = eqb i }
+
+abbrev pub makerRule : Rule
+makerRule = record { code = makerCode; most = 128; fits = λ _. leb 16; serial = λ _. true }
+
+-- what every record meets but the delimiter
+abbrev pub anyRule : Rule
+anyRule = record { code = λ _. true; most = 128; fits = λ _. leb 16; serial = λ _. true }
+
+abbrev pub codedBy : Rule → Head → Walk (Unit {0})
+codedBy r h = require (r .code (h .code)) 9 12
+
+abbrev pub admitBy : Rule → ℕ → Head → Walk (Unit {0})
+admitBy r room h = admit room (r .most) (r .fits (h .multiplier)) (r .serial) h
+
+-- a record with a body that its rule is all about: 100 and 125
+unfoldable pub fixed : {A : Type 0} → Rule → Walk A → ℕ → Walk A
+fixed r body room = do
   h ← head room
-  coded h code
-  admit room 0 (eqb size) (eqb serial) h
+  codedBy r h
+  admitBy r room h
   body
 
 -- 100
@@ -220,7 +279,7 @@ basicBody = do
   give (record { channels = channels; frames = frames; year = year; month = month; day = day; hour = hour; minute = minute; second = second; time = time; mains = mains; comment = comment })
 
 abbrev pub basic : ℕ → Walk Basic
-basic = fixed 128 100 0 basicBody
+basic = fixed basicRule basicBody
 
 -- 120 and 125
 
@@ -273,7 +332,7 @@ channelBody = do
   give (record { channel = n; flags = flags; type = type; format = format; rate = rate; cal = cal; calAD = calAD; offsetAD = offsetAD; offsetCal = offsetCal; calFrequency = calFrequency; lowCut = lowCut; highCut = highCut; sensitivity = sensitivity; label = label; unit = unit; comment = comment })
 
 abbrev pub channel : ℕ → ℕ → Walk Channel
-channel room i = fixed 256 125 i channelBody room
+channel room i = fixed (channelRule i) channelBody room
 
 -- the body of a 120 of this length
 unfoldable pub channelsBody : Basic → ℕ → Walk (List Channel)
@@ -288,7 +347,7 @@ channelsBody b length = do
 -- the rest of a 120 whose head is read
 unfoldable pub channels : Basic → ℕ → Head → Walk (List Channel)
 channels b room h = do
-  admit room 0 (leb 32) (eqb 0) h
+  admitBy channelsRule room h
   channelsBody b (span h)
 
 -- 130 and 200
@@ -347,7 +406,7 @@ itemsBody ok length = do
 -- the rest of a 130 or a 200 whose head is read
 unfoldable pub items : (ℕ → Bool) → ℕ → Head → Walk (List Item)
 items ok room h = do
-  admit room 0 (leb 24) (eqb 0) h
+  admitBy (itemsRule (h .code)) room h
   itemsBody ok (span h)
 
 -- 140 and 145
@@ -406,9 +465,10 @@ frameBody size t cs = do
 
 unfoldable pub frame : ℕ → ℕ → List Channel → ℕ → ℕ → Walk Frame
 frame size t cs room i = do
+  let rule = frameRule size (24 + sampleBytes t cs) i
   h ← head room
-  coded h 145
-  admit room 128 (λ n. eqb n size && padOk h (n - (24 + sampleBytes t cs))) (eqb i) h
+  codedBy rule h
+  admitBy rule room h
   frameBody size t cs
 
 -- T and the frames, their length, and how many bytes of padding stand in the 140
@@ -438,7 +498,7 @@ framesBody b cs h = do
 -- the rest of a 140 whose head is read. `own`: the recording has a 120 of its own; else 100's count of channels, so many bytes back, is tested
 unfoldable pub frames : Basic → Bool → List Channel → ℕ → ℕ → Head → Walk Frames
 frames b own cs back room h = do
-  admit room 128 (leb 32) (eqb 0) h
+  admitBy framesRule room h
   require (own || eqb (length cs) (b .channels)) 14 back
   framesBody b cs h
 
@@ -447,9 +507,6 @@ frames b own cs back room h = do
 pub record Maker : Type 0 where
   pub head : Head
   pub body : List ℕ
-
-unfoldable pub makerCode : ℕ → Bool
-makerCode c = leb 1024 c && ltb c limit
 
 pub record Next : Type 0 where
   pub makers : List Maker
@@ -463,8 +520,8 @@ unfoldable pub next : ℕ → ℕ → Walk Next
 next zero room = refuse 0 0
 next (suc fuel) room = do
   h ← head room
-  pick (makerCode (h .code)) (do
-    admit room 128 (leb 16) (λ _. true) h
+  pick (makerRule .code (h .code)) (do
+    admitBy makerRule room h
     body ← text (span h - 16)
     n ← next fuel (room - span h)
     give (more (record { head = h; body = body }) n)) (give (record { makers = []; head = h; room = room }))
@@ -570,7 +627,7 @@ unfoldable pub signals : Descriptions → Head → Walk Placed
 signals t h = do
   let bytes = span h
   let last = t .events .next
-  coded (last .head) 140
+  codedBy framesRule (last .head)
   f ← frames (t .basic) (t .channels .own) (t .channels .value) (countBack bytes (last .room)) (last .room) (last .head)
   d ← next bytes (last .room - span (last .head))
   delimiter (d .head)
@@ -608,8 +665,8 @@ recordingBody held h = do
 unfoldable pub recording : Option Held → ℕ → ℕ → Walk Placed
 recording held room i = do
   h ← head room
-  coded h 10
-  admit room 128 (leb 16) (eqb i) h
+  codedBy (recordingRule i) h
+  admitBy (recordingRule i) room h
   recordingBody held h
 
 unfoldable pub recordings : ℕ → Option Held → ℕ → ℕ → Walk (List Placed)

@@ -69,6 +69,11 @@ pub struct Head {
 impl Head {
     pub const LENGTH: usize = 16;
 
+    // A record's fields are numbers of so many bytes, but for a frame's clock; a head is so many of them.
+    pub const WIDTH: usize = 4;
+
+    pub const NUMBERS: usize = 4;
+
     pub const CODE: usize = 4;
 
     pub const SERIAL: usize = 8;
@@ -79,6 +84,20 @@ impl Head {
 
     // A number below this is not negative as a signed one.
     pub const LIMIT: u32 = 2147483648;
+}
+
+// A record's kind, with what its rule asks for: the serial, the code of 130 or 200, a frame's length and the byte where its samples end.
+// `Any` is what every record meets but the delimiter.
+pub enum Kind {
+    Recording(u32),
+    Basic,
+    Channels,
+    Channel(u32),
+    Items(u32),
+    Frames,
+    Frame(usize, usize, u32),
+    Maker,
+    Any,
 }
 
 // Record 10: a recording.
@@ -136,6 +155,27 @@ impl Basic {
     pub const COMMENT: usize = 96;
 
     pub const COMMENT_LENGTH: usize = 32;
+
+    // In the record's body; and how many numbers stand up to the reserve, in the date, and before the spare bytes.
+    pub const BODY_LENGTH: usize = Basic::LENGTH - Head::LENGTH;
+
+    pub const BODY_RESERVE: usize = Basic::RESERVE - Head::LENGTH;
+
+    pub const BODY_YEAR: usize = Basic::YEAR - Head::LENGTH;
+
+    pub const BODY_TIME: usize = Basic::TIME - Head::LENGTH;
+
+    pub const BODY_MAINS: usize = Basic::MAINS - Head::LENGTH;
+
+    pub const BODY_SPARE: usize = Basic::SPARE - Head::LENGTH;
+
+    pub const BODY_COMMENT: usize = Basic::COMMENT - Head::LENGTH;
+
+    pub const NUMBERS: usize = 3;
+
+    pub const DATE_NUMBERS: usize = 6;
+
+    pub const MAINS_NUMBERS: usize = 1;
 }
 
 // Record 120: where its records 125 start in the file, and how many there are.
@@ -159,8 +199,12 @@ impl Channels {
 
     pub const SUBS: usize = 32;
 
-    // In the record's body.
+    // In the record's body; and how many numbers stand up to the reserve.
+    pub const BODY_COUNT: usize = Channels::COUNT - Head::LENGTH;
+
     pub const BODY_RESERVE: usize = Channels::RESERVE - Head::LENGTH;
+
+    pub const NUMBERS: usize = 2;
 
     pub const BODY_SUBS: usize = Channels::SUBS - Head::LENGTH;
 }
@@ -238,6 +282,9 @@ impl Channel {
     pub const TRIPLE_WIDTH: usize = 3;
 
     pub const LONG_WIDTH: usize = 4;
+
+    // How many numbers stand up to the reserve, with the head's.
+    pub const NUMBERS: usize = 17;
 }
 
 // Record 130: the patient's items.
@@ -268,8 +315,12 @@ impl Items {
 
     pub const FIRST: usize = 24;
 
-    // In the record's body.
+    // In the record's body; and how many numbers stand up to the reserve.
+    pub const BODY_COUNT: usize = Items::COUNT - Head::LENGTH;
+
     pub const BODY_RESERVE: usize = Items::RESERVE - Head::LENGTH;
+
+    pub const NUMBERS: usize = 1;
 
     pub const BODY_FIRST: usize = Items::FIRST - Head::LENGTH;
 }
@@ -285,6 +336,9 @@ impl Item {
     pub const CODE: usize = 4;
 
     pub const TEXT: usize = 8;
+
+    // How many numbers stand up to the text.
+    pub const NUMBERS: usize = 2;
 }
 
 // Record 140: T, the frame length, and how many bytes of padding it has.
@@ -311,12 +365,14 @@ impl Frames {
 
     pub const FIRST: usize = 32;
 
-    // In the record's body.
+    // In the record's body; and how many numbers stand up to the reserve.
     pub const BODY_FRAME_LENGTH: usize = Frames::FRAME_LENGTH - Head::LENGTH;
 
     pub const BODY_COUNT: usize = Frames::COUNT - Head::LENGTH;
 
     pub const BODY_RESERVE: usize = Frames::RESERVE - Head::LENGTH;
+
+    pub const NUMBERS: usize = 3;
 
     pub const BODY_FIRST: usize = Frames::FIRST - Head::LENGTH;
 }
@@ -342,8 +398,12 @@ impl Frame {
 
     pub const LIMIT: usize = Head::LIMIT as usize;
 
-    // In the record's body.
+    // In the record's body; and the numbers of its clock.
     pub const BODY_RESERVE: usize = Frame::RESERVE - Head::LENGTH;
+
+    pub const CLOCK_NUMBERS: usize = 3;
+
+    pub const CLOCK_WIDTH: usize = 2;
 
     pub const BODY_SAMPLES: usize = Frame::SAMPLES - Head::LENGTH;
 }

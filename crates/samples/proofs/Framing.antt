@@ -21,9 +21,9 @@ use Rattle.recordings.specs.Found.{FoundIn}
 use Rattle.recordings.specs.Recordings.{Chosen, recordingOf, startOf}
 use Rattle.recordings.proofs.Chosen.{numbered-in, numbered-out, numbered-one, One, ChosenIn, chosen-in}
 use Rattle.recordings.proofs.Standing.{found-seen, found-ends}
-use Rattle.samples.specs.Asked.{FramedAs}
+use Rattle.samples.specs.Asked.{FrameFoundAs}
 use Rattle.samples.specs.Frames.{frameOf}
-use Rattle.samples.specs.declared.Framed.the-variants as Framed
+use Rattle.samples.specs.declared.FrameFound.the-variants as FrameFound
 
 -- a number inside its range has its element
 pub numbered-some : {A : Type 0} (l : List A) (n : ℕ) → R.between 1 (length l) n ≡ true → (a : A) × (numbered l n ≡ value a)
@@ -71,7 +71,7 @@ module _ {s : List ℕ} {i : ℕ} {o : Order} {q : Places} {r : Chosen} (h : Fou
   pub frame-outside : R.between 1 (q .total) j ≡ false → frameOf s i j ≡ refusal 19 0
   frame-outside t = rw (h .is, numbered-out (r .this .recording .frames) j (rw (h .frames) at t))
 
-  pub frame-found-at : R.between 1 (q .total) j ≡ true → FramedAs s i j (Framed.At o q (q .frames + 32 + q .frame * (j - 1)))
+  pub frame-found-at : R.between 1 (q .total) j ≡ true → FrameFoundAs s i j (FrameFound.At o q (q .frames + 32 + q .frame * (j - 1)))
   frame-found-at t =
       let y = numbered-some (r .this .recording .frames) j (rw (h .frames) at t) in
       let n = numbered-one (r .this .recording .frames) j (y .1) in

@@ -17,15 +17,14 @@ use Rattle.rules.specs.Reading.{Value, valueOf}
 use Rattle.rules.proofs.Asked.{recording-at, sample-at}
 use Rattle.rules.proofs.Renew.{FrameOk, SamplesOk}
 use Rattle.rules.proofs.Renewed.{recording-ok}
-use Rattle.records.specs.Says.{Kept}
 use Rattle.descriptions.specs.declared.Places.{Places}
 use Rattle.recordings.specs.Answers.{value, refusal, indexed, numbered}
 use Rattle.recordings.specs.Recordings.{Chosen}
 use Rattle.recordings.proofs.Chosen.{indexed-in, numbered-out, numbered-one, One, answered, ChosenIn, chosen-in}
 use Rattle.recordings.proofs.Standing.{found-seen}
-use Rattle.samples.specs.Asked.{FrameIn, Inside, RunIn, RanAs, runOf}
+use Rattle.samples.specs.Asked.{FrameIn, Inside, RunAt, RunIn, SamplesFoundAs, runOf}
 use Rattle.samples.specs.Frames.{ChosenFrame, frameOf, Samples, samplesOf}
-use Rattle.samples.specs.declared.Ran.the-variants as Ran
+use Rattle.samples.specs.declared.SamplesFound.the-variants as SamplesFound
 use Rattle.samples.specs.declared.Run.{Run}
 use Rattle.samples.proofs.Stretch.{run-inside}
 use Rattle.samples.proofs.Readings.{all-one, reads-numbered}
@@ -103,12 +102,10 @@ module _ {s : List ℕ} {i j : ℕ} {o : Order} {q : Places} {at : ℕ} {f : Cho
               ap (λ (n : ℕ). value (valueOf (y .format) (width (y .format)) n)) (sample-there s (h .found .bytes) i (f .of) chosen j (f .frame) (c .0) (k - 1) y (numbered-one (f .of .this .recording .channels) k is .1) m u));
         }
 
-  pub samples-found-at : R.between 1 (q .count) k ≡ true → (run : Run) → Inside (length s) run →
-      ((cs : List R.Channel) (x : R.Channel) → Kept o s (q .channels + 32) cs → indexed cs (k - 1) ≡ value x → Inside (length s) (runOf (q .seconds) (take (k - 1) cs) x at) → run ≡ runOf (q .seconds) (take (k - 1) cs) x at) →
-      RanAs s i j k (Ran.At o run)
-  samples-found-at t run l g =
+  pub samples-found-at : R.between 1 (q .count) k ≡ true → (run : Run) → RunAt o s (q .channels + 32) (k - 1) (q .seconds) at run → SamplesFoundAs s i j k (SamplesFound.At o run)
+  samples-found-at t run g =
       let cs : List R.Channel = f .of .this .recording .channels in
       let y = numbered-some cs k (rw (h .found .owned .0 .0) t) in
       let n = numbered-one cs k (y .1) .1 in
       let e : indexed cs (k - 1) ≡ value (y .0) = indexed-in (y .0) cs (k - 1) (n .inside) ∙ ap value (n .is (y .0)) in
-      (samplesAre f k (y .0), run-is (y .0) (y .1) run l (g cs (y .0) (h .found .owned .0 .1) e (run-inside (q .seconds) (k - 1) at (length s) cs e (h .inside))))
+      (samplesAre f k (y .0), run-is (y .0) (y .1) run (g .inside) (g .same cs (y .0) (h .found .owned .0 .1) e (run-inside (q .seconds) (k - 1) at (length s) cs e (h .inside))))

@@ -17,7 +17,8 @@ use Rattle.rules.specs.Rules.{sampleBytes, samplesIn, samplesOf, width}
 use Rattle.records.specs.Says.{Kept}
 use Rattle.records.proofs.Steps.{KeptOne}
 use Rattle.recordings.specs.Answers.{value, indexed}
-use Rattle.samples.specs.Asked.{Inside, runOf}
+use Rattle.recordings.proofs.Chosen.{no-value}
+use Rattle.samples.specs.Asked.{Inside, runOf, RunAt}
 use Rattle.samples.specs.Frames.{floatIn, numberIn}
 use Rattle.samples.specs.declared.Number.{Number}
 use Rattle.samples.specs.declared.Number.the-variants as Number
@@ -51,7 +52,7 @@ module _ (o : Order) (s : List ℕ) (p format : ℕ) where
 -- one of a list is inside it
 pub indexed-within : {A : Type 0} (l : List A) (n : ℕ) {x : A} → indexed l n ≡ value x → n < length l
 unfolding indexed
-indexed-within [] n h = absurd (let z : _≡_ {A = ℕ} 0 1 = cc in omega arith)
+indexed-within [] n h = absurd (no-value h)
 indexed-within (a ∷ l) zero h = omega arith
 indexed-within (a ∷ l) (suc n) h = omega (arith, indexed-within l n h)
 
@@ -63,7 +64,7 @@ module _ (o : Order) (s : List ℕ) where
 
   pub kept-indexed : (p n : ℕ) (cs : List R.Channel) {x : R.Channel} → Kept o s p cs → indexed cs n ≡ value x → KeptOne o s (p + 256 * n) x
   unfolding indexed
-  kept-indexed p n [] k h = absurd (let z : _≡_ {A = ℕ} 0 1 = cc in omega arith)
+  kept-indexed p n [] k h = absurd (no-value h)
   kept-indexed p zero (c ∷ cs) {x} k h =
       let d : x ≡ c = cc in
       rw (d, add-zero p) (record { flags = k .0; format = k .1; rate = k .2 })
@@ -74,7 +75,7 @@ module _ (o : Order) (s : List ℕ) where
 -- the samples of the channels before it, and its own, are among those of all
 pub bytes-before : (t n : ℕ) (cs : List R.Channel) {x : R.Channel} → indexed cs n ≡ value x → sampleBytes t (take n cs) + width (x .format) * samplesIn t x ≤ sampleBytes t cs
 unfolding indexed sampleBytes
-bytes-before t n [] h = absurd (let z : _≡_ {A = ℕ} 0 1 = cc in omega arith)
+bytes-before t n [] h = absurd (no-value h)
 bytes-before t zero (c ∷ cs) {x} h =
     let d : x ≡ c = cc in
     rw (d, mul-comm (width (c .format)) (samplesIn t c)) (omega arith)
@@ -83,13 +84,8 @@ bytes-before t (suc n) (c ∷ cs) h = let r = bytes-before t n cs h in omega ari
 pub run-inside : (t n at L : ℕ) (cs : List R.Channel) {x : R.Channel} → indexed cs n ≡ value x → at + (24 + sampleBytes t cs) ≤ L → Inside L (runOf t (take n cs) x at)
 run-inside t n at L cs h l = omega (arith, bytes-before t n cs h)
 
--- the answer r of the code that finds the samples of the channel n, in a file of L bytes
-abbrev Finds : Order → List ℕ → (subs n t at L : ℕ) → Run → Type 0
-Finds o s subs n t at L r =
-    Inside L r × ((cs : List R.Channel) (x : R.Channel) → Kept o s subs cs → indexed cs n ≡ value x → Inside L (runOf t (take n cs) x at) → r ≡ runOf t (take n cs) x at)
-
--- it sums the bytes before, and reads the channel's record
-module _ (o : Order) (s : List ℕ) (subs n t at L before flags format rate count : ℕ) (sums : (cs : List R.Channel) → length cs ≡ n → Kept o s subs cs → before ≡ sampleBytes t cs) (e₁ : flags ≡ numberAt o 4 s (subs + 256 * n + 20)) (e₂ : format ≡ numberAt o 4 s (subs + 256 * n + 28)) (e₃ : rate ≡ numberAt o 4 s (subs + 256 * n + 32)) (e₄ : count ≡ samplesOf t flags rate) where
+-- the code sums the bytes before, and reads the channel's record
+module _ (o : Order) (s : List ℕ) (subs n t at before flags format rate count : ℕ) (sums : (cs : List R.Channel) → length cs ≡ n → Kept o s subs cs → before ≡ sampleBytes t cs) (e₁ : flags ≡ numberAt o 4 s (subs + 256 * n + 20)) (e₂ : format ≡ numberAt o 4 s (subs + 256 * n + 28)) (e₃ : rate ≡ numberAt o 4 s (subs + 256 * n + 32)) (e₄ : count ≡ samplesOf t flags rate) where
   run-same : (cs : List R.Channel) (x : R.Channel) → Kept o s subs cs → indexed cs n ≡ value x → _≡_ {A = Run} (record { at = at + 24 + before; count = count; format = format }) (runOf t (take n cs) x at)
   run-same cs x kept is =
       let k = kept-indexed o s subs n cs kept is in
@@ -97,13 +93,13 @@ module _ (o : Order) (s : List ℕ) (subs n t at L before flags format rate coun
       let a : at + 24 + before ≡ at + (24 + sampleBytes t (take n cs)) = omega arith in
       cc
 
-  pub run-found : at + 24 + before + width format * count ≤ L → Finds o s subs n t at L (record { at = at + 24 + before; count = count; format = format })
-  run-found l = (l, λ cs x k i _. run-same cs x k i)
+  pub run-found : at + 24 + before + width format * count ≤ length s → RunAt o s subs n t at (record { at = at + 24 + before; count = count; format = format })
+  run-found l = record { inside = l; same = λ cs x k i _. run-same cs x k i }
 
-  pub run-outside : at ≤ L → L < at + 24 + before + width format * count → Finds o s subs n t at L (record { at = at; count = 0; format = format })
-  run-outside l g = (
-    omega arith,
-    λ cs x k i f.
-        let h : at + 24 + before + width format * count ≤ L = subst (λ (r : Run). Inside L r) (sym (run-same cs x k i)) f in
-        absurd (omega arith),
-  )
+  pub run-outside : at ≤ length s → length s < at + 24 + before + width format * count → RunAt o s subs n t at (record { at = at; count = 0; format = format })
+  run-outside l g = record {
+    inside = omega arith;
+    same = λ cs x k i f.
+        let h : at + 24 + before + width format * count ≤ length s = subst (λ (r : Run). Inside (length s) r) (sym (run-same cs x k i)) f in
+        absurd (omega arith);
+  }

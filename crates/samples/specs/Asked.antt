@@ -3,44 +3,56 @@
 use mathlib.Core.Path.{_≡_}
 use mathlib.Core.List.{List}
 use Prim.Native.Nat.{ℕ, _+_, _*_, _≤_, _<_}
-use lib.ListN.{length}
+use lib.ListN.{length, take}
 use Rattle.words.specs.Numbers.{numberAt}
 use Rattle.words.specs.declared.Order.{Order}
-use Rattle.walk.specs.See.{Goes, see}
+use Rattle.walk.specs.See.{Goes, goes, see}
 use Rattle.rules.specs.Rules as R
 use Rattle.rules.specs.Reading.{valueOf}
 use Rattle.rules.specs.declared.Refusal.{Refusal}
+use Rattle.records.specs.Says.{Kept}
 use Rattle.descriptions.specs.declared.Places.{Places}
 use Rattle.recordings.specs.Answers.{value, refusal, indexed}
 use Rattle.recordings.specs.Found.{FoundIn}
-use Rattle.samples.specs.Frames.{ChosenFrame, frameOf, Samples, samplesOf}
-use Rattle.samples.specs.declared.Framed.{Framed}
-use Rattle.samples.specs.declared.Framed.the-variants as Framed
-use Rattle.samples.specs.declared.Ran.{Ran}
-use Rattle.samples.specs.declared.Ran.the-variants as Ran
+use Rattle.samples.specs.Frames.{ChosenFrame, frameOf, timeOf, Samples, samplesOf}
+use Rattle.samples.specs.declared.FrameFound.{FrameFound}
+use Rattle.samples.specs.declared.FrameFound.the-variants as FrameFound
+use Rattle.samples.specs.declared.SamplesFound.{SamplesFound}
+use Rattle.samples.specs.declared.SamplesFound.the-variants as SamplesFound
 use Rattle.samples.specs.declared.Run.{Run}
+use Rattle.samples.specs.declared.Time.{Time}
 
-abbrev pub refusalFramed : Framed → Refusal
-refusalFramed (Framed.At o q at) = record { 0 = 0; 1 = 0 }
-refusalFramed (Framed.Refused r) = r
+abbrev pub refusalFrame : FrameFound → Refusal
+refusalFrame (FrameFound.At o q at) = record { 0 = 0; 1 = 0 }
+refusalFrame (FrameFound.Refused r) = r
 
-abbrev pub refusalRan : Ran → Refusal
-refusalRan (Ran.At o run) = record { 0 = 0; 1 = 0 }
-refusalRan (Ran.Refused r) = r
+abbrev pub refusalSamples : SamplesFound → Refusal
+refusalSamples (SamplesFound.At o run) = record { 0 = 0; 1 = 0 }
+refusalSamples (SamplesFound.Refused r) = r
 
 -- A frame: it stands at `at`, where the walk of a frame gives it
 
 pub record FrameIn (s : List ℕ) (i j : ℕ) (o : Order) (q : Places) (at : ℕ) (f : ChosenFrame) : Type 0 where
+  -- the frame asked for
   pub is : frameOf s i j ≡ value f
+  -- of the recording asked for
   pub found : FoundIn s i o q (f .of)
+  -- its first byte
   pub place : at ≡ f .at
+  -- its head, its clock and its samples are in the file
   pub inside : at + (24 + R.sampleBytes (q .seconds) (f .of .this .recording .channels)) ≤ length s
+  -- the room that its walk is given
   pub room : ℕ
+  -- what the walk gives there
   pub seen : Goes (see o 0 s at (R.frame (q .frame) (q .seconds) (f .of .this .recording .channels) room j)) (λ x e. x ≡ f .frame)
 
-abbrev pub FramedAs : List ℕ → ℕ → ℕ → Framed → Type 0
-FramedAs s i j (Framed.At o q at) = (f : ChosenFrame) × FrameIn s i j o q at f
-FramedAs s i j (Framed.Refused r) = frameOf s i j ≡ refusal (r .0) (r .1)
+abbrev pub FrameFoundAs : List ℕ → ℕ → ℕ → FrameFound → Type 0
+FrameFoundAs s i j (FrameFound.At o q at) = (f : ChosenFrame) × FrameIn s i j o q at f
+FrameFoundAs s i j (FrameFound.Refused r) = frameOf s i j ≡ refusal (r .0) (r .1)
+
+-- the time r is the clock of the frame that a walk gives at `at`
+abbrev pub ClockAt : Order → List ℕ → ℕ → Time → Type 0
+ClockAt o s at r = (size t : ℕ) (cs : List R.Channel) (room i : ℕ) (f : R.Frame) (e : ℕ) → see o 0 s at (R.frame size t cs room i) ≡ goes f e → r ≡ timeOf f
 
 -- the samples of the channel c in the frame of t seconds at `at`, behind those of the channels before it
 abbrev pub runOf : ℕ → List R.Channel → R.Channel → ℕ → Run
@@ -51,13 +63,36 @@ runOf t before c at = record { at = at + (24 + R.sampleBytes t before); count = 
 abbrev pub Inside : ℕ → Run → Type 0
 Inside n r = r .at + R.width (r .format) * r .count ≤ n
 
+-- the code looks for those of channel c, from 0, in a file of n bytes
+pub record Reachable (n subs c t at : ℕ) : Type 0 where
+  -- the records 125 stand from `subs` on, that of the channel among them
+  pub described : subs + 256 * (c + 1) ≤ n
+  -- there are at most 128 of them
+  pub channels : c < 128
+  -- so long is a frame at most
+  pub seconds : t ≤ 3600
+  -- its head and its clock stand in the file
+  pub frame : at + 24 ≤ n
+
+-- what it finds
+pub record RunAt (o : Order) (s : List ℕ) (subs c t at : ℕ) (r : Run) : Type 0 where
+  -- samples in the file, whatever it holds
+  pub inside : Inside (length s) r
+  -- those of the channel x, where it is the one asked for of the channels cs, and its samples are in the file
+  pub same : (cs : List R.Channel) (x : R.Channel) → Kept o s subs cs → indexed cs c ≡ value x → Inside (length s) (runOf t (take c cs) x at) → r ≡ runOf t (take c cs) x at
+
 -- they are those asked for, and each is what the bytes at its place mean
 pub record RunIn (s : List ℕ) (i j k : ℕ) (o : Order) (run : Run) (x : Samples) : Type 0 where
+  -- the samples asked for
   pub is : samplesOf s i j k ≡ value x
+  -- where they stand, how many, and their format
   pub same : run ≡ record { at = x .at; count = length (x .values); format = x .format }
+  -- they are in the file
   pub inside : Inside (length s) run
-  pub each : (n : ℕ) → n < run .count → indexed (x .values) n ≡ value (valueOf (run .format) (R.width (run .format)) (numberAt o (R.width (run .format)) s (run .at + R.width (run .format) * n)))
+  -- each is what its bytes mean
+  pub each : (n : ℕ) → n < run .count →
+      indexed (x .values) n ≡ value (valueOf (run .format) (R.width (run .format)) (numberAt o (R.width (run .format)) s (run .at + R.width (run .format) * n)))
 
-abbrev pub RanAs : List ℕ → ℕ → ℕ → ℕ → Ran → Type 0
-RanAs s i j k (Ran.At o run) = (x : Samples) × RunIn s i j k o run x
-RanAs s i j k (Ran.Refused r) = samplesOf s i j k ≡ refusal (r .0) (r .1)
+abbrev pub SamplesFoundAs : List ℕ → ℕ → ℕ → ℕ → SamplesFound → Type 0
+SamplesFoundAs s i j k (SamplesFound.At o run) = (x : Samples) × RunIn s i j k o run x
+SamplesFoundAs s i j k (SamplesFound.Refused r) = samplesOf s i j k ≡ refusal (r .0) (r .1)

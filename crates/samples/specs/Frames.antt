@@ -16,8 +16,11 @@ use Rattle.samples.specs.declared.Time.{Time}
 -- A frame, and where it stands
 
 pub record ChosenFrame : Type 0 where
+  -- its recording
   pub of : Chosen
+  -- what it is
   pub frame : R.Frame
+  -- its first byte
   pub at : ℕ
 
 abbrev pub frameOf : List ℕ → ℕ → ℕ → Answer ChosenFrame
@@ -30,11 +33,14 @@ frameOf s i j = do
 abbrev pub timeOf : R.Frame → Time
 timeOf f = record { hour = f .hour; minute = f .minute; second = f .second }
 
--- The samples of a channel in a frame: where they stand, the channel's format, and their values
+-- The samples of a channel in a frame
 
 pub record Samples : Type 0 where
+  -- their first byte
   pub at : ℕ
+  -- the channel's format
   pub format : ℕ
+  -- their values
   pub values : List Value
 
 abbrev pub samplesOf : List ℕ → ℕ → ℕ → ℕ → Answer Samples
@@ -42,7 +48,11 @@ samplesOf s i j k = do
   f ← frameOf s i j
   c ← numbered (f .of .this .recording .channels) k
   vs ← numbered (frameReading (f .of .this .recording .channels) (f .frame) .channels) k
-  value (record { at = f .at + (24 + R.sampleBytes (f .of .this .recording .seconds) (take (k - 1) (f .of .this .recording .channels))); format = c .format; values = vs })
+  value (record {
+    at = f .at + (24 + R.sampleBytes (f .of .this .recording .seconds) (take (k - 1) (f .of .this .recording .channels)));
+    format = c .format;
+    values = vs;
+  })
 
 -- the sample of 32 bits: a float, or a NaN's pattern
 unfoldable pub floatIn : ℕ → Number

@@ -1,18 +1,14 @@
 // The frames of a recording, and the samples of a channel in a frame.
 ghost use mathlib.Core.Path.{_≡_};
-ghost use mathlib.Core.List.{List};
-ghost use Prim.Native.Nat.{ℕ, _+_, _*_, _≤_, _<_};
-ghost use lib.ListN.{length, take};
+ghost use Prim.Native.Nat.{_+_, _≤_};
+ghost use lib.ListN.{length};
 ghost use Rattle.words.specs.Numbers.{numberAt};
-ghost use Rattle.walk.specs.See.{see, goes};
 ghost use Rattle.rules.specs.Rules as R;
 ghost use Rattle.rules.specs.Reading.{valueOf};
-ghost use Rattle.records.specs.Says.{Kept};
-ghost use Rattle.recordings.specs.Answers.{value, indexed};
-ghost use Rattle.samples.specs.Frames.{timeOf, floatIn, numberIn};
-ghost use Rattle.samples.specs.Asked.{runOf, refusalFramed, refusalRan, FramedAs, RanAs, Inside};
+ghost use Rattle.samples.specs.Frames.{floatIn, numberIn};
+ghost use Rattle.samples.specs.Asked.{refusalFrame, refusalSamples, FrameFoundAs, SamplesFoundAs, ClockAt, Reachable, RunAt};
 use descriptions::Places;
-use recordings::Found;
+use recordings::RecordingFound;
 use rules::Channel;
 use rules::Channels;
 use rules::Frame;
@@ -35,12 +31,12 @@ pub struct Time {
     pub second: u32,
 }
 
-pub enum Timed {
+pub enum ClockTold {
     At(Time),
     Refused(Refusal),
 }
 
-pub enum Counted {
+pub enum CountTold {
     Samples(usize),
     Refused(Refusal),
 }
@@ -52,13 +48,13 @@ pub enum Number {
     Pattern(u32),
 }
 
-pub enum Sampled {
+pub enum SampleTold {
     Value(Number),
     Refused(Refusal),
 }
 
 // The file's byte order, where the recording stands, and where its frame stands; or the refusal.
-pub enum Framed {
+pub enum FrameFound {
     At(Order, Places, usize),
     Refused(Refusal),
 }
@@ -70,49 +66,49 @@ pub struct Run {
     pub format: u32,
 }
 
-pub enum Ran {
+pub enum SamplesFound {
     At(Order, Run),
     Refused(Refusal),
 }
 
-pub fn of_framed(a: Framed) -> Refusal
-    ensures { λ r. ⌜ r ≡ refusalFramed a ⌝ }
+pub fn of_frame_found(a: FrameFound) -> Refusal
+    ensures { λ r. ⌜ r ≡ refusalFrame a ⌝ }
 {
     match a {
-        Framed::At(_, _, _) => Refusal(0, 0),
-        Framed::Refused(r) => r,
+        FrameFound::At(_, _, _) => Refusal(0, 0),
+        FrameFound::Refused(r) => r,
     }
 }
 
-pub fn of_ran(a: Ran) -> Refusal
-    ensures { λ r. ⌜ r ≡ refusalRan a ⌝ }
+pub fn of_samples_found(a: SamplesFound) -> Refusal
+    ensures { λ r. ⌜ r ≡ refusalSamples a ⌝ }
 {
     match a {
-        Ran::At(_, _) => Refusal(0, 0),
-        Ran::Refused(r) => r,
+        SamplesFound::At(_, _) => Refusal(0, 0),
+        SamplesFound::Refused(r) => r,
     }
 }
 
 // The frame asked for.
-pub fn frame_asked(file: &[u8], recording: usize, frame: usize) -> Framed
-    ensures { λ a. ⌜ FramedAs (now (file .entry)) recording frame a ⌝ }
+pub fn frame_asked(file: &[u8], recording: usize, frame: usize) -> FrameFound
+    ensures { λ a. ⌜ FrameFoundAs (now (file .entry)) recording frame a ⌝ }
 {
     let found = recordings::recording_asked(file, recording);
-    let Found::At(order, q) = found else {
-        return Framed::Refused(recordings::of_found(found));
+    let RecordingFound::At(order, q) = found else {
+        return FrameFound::Refused(recordings::of_recording_found(found));
     };
     if !recordings::within(frame, q.total) {
-        return Framed::Refused(Refusal(19, 0));
+        return FrameFound::Refused(Refusal(19, 0));
     }
     let before = records::less(frame, FIRST_FRAME);
     let at = q.frames + Frames::FIRST + q.frame * before;
-    Framed::At(order, q, at)
+    FrameFound::At(order, q, at)
 }
 
 // The clock of the record 145 at byte `at` of s.
 pub fn time_at(o: Order, s: &[u8], at: usize) -> Time
     requires { ⌜ at + 24 ≤ length (now s) ⌝ }
-    ensures { λ r. ⌜ ((size t : ℕ) (cs : List R.Channel) (room i : ℕ) (f : R.Frame) (e : ℕ) → see o 0 (now (s .entry)) at (R.frame size t cs room i) ≡ goes f e → r ≡ timeOf f) ⌝ }
+    ensures { λ r. ⌜ ClockAt o (now (s .entry)) at r ⌝ }
 {
     Time {
         hour: number2(o, s, at + Frame::HOUR),
@@ -124,15 +120,15 @@ pub fn time_at(o: Order, s: &[u8], at: usize) -> Time
 // The samples of channel c, from 0, in the frame of t seconds at byte `at` of s. The channels' records 125 stand from byte `subs` on.
 // Samples that would not be inside s are none.
 fn run_at(o: Order, s: &[u8], subs: usize, c: u32, t: u32, at: usize) -> Run
-    requires { ⌜ (subs + 256 * (c + 1) ≤ length (now s)) × (c < 128) × (t ≤ 3600) × (at + 24 ≤ length (now s)) ⌝ }
-    ensures { λ r. ⌜ Inside (length (now (s .entry))) r × ((cs : List R.Channel) (x : R.Channel) → Kept o (now (s .entry)) subs cs → indexed cs c ≡ value x → Inside (length (now (s .entry))) (runOf t (take c cs) x at) → r ≡ runOf t (take c cs) x at) ⌝ }
+    requires { ⌜ Reachable (length (now s)) subs c t at ⌝ }
+    ensures { λ r. ⌜ RunAt o (now (s .entry)) subs c t at r ⌝ }
 {
-    let before = records::sample_bytes(o, s, subs, c, t);
+    let before = records::channels::sample_bytes(o, s, subs, c, t);
     let p = subs + Channel::LENGTH * c as usize;
     let flags = number4(o, s, p + Channel::FLAGS);
     let format = number4(o, s, p + Channel::FORMAT);
     let rate = number4(o, s, p + Channel::RATE);
-    let count = records::samples_in(t, flags, rate);
+    let count = records::channels::samples_in(t, flags, rate);
     let start = at + Frame::SAMPLES;
     let room = s.len() - start;
     if room < before {
@@ -142,7 +138,7 @@ fn run_at(o: Order, s: &[u8], subs: usize, c: u32, t: u32, at: usize) -> Run
             format,
         };
     }
-    if room - before < records::width(format) * count {
+    if room - before < records::channels::width(format) * count {
         return Run {
             at,
             count: 0,
@@ -157,19 +153,19 @@ fn run_at(o: Order, s: &[u8], subs: usize, c: u32, t: u32, at: usize) -> Run
 }
 
 // The samples asked for.
-pub fn samples_asked(file: &[u8], recording: usize, frame: usize, channel: usize) -> Ran
-    ensures { λ a. ⌜ RanAs (now (file .entry)) recording frame channel a ⌝ }
+pub fn samples_asked(file: &[u8], recording: usize, frame: usize, channel: usize) -> SamplesFound
+    ensures { λ a. ⌜ SamplesFoundAs (now (file .entry)) recording frame channel a ⌝ }
 {
     let framed = frame_asked(file, recording, frame);
-    let Framed::At(order, q, at) = framed else {
-        return Ran::Refused(of_framed(framed));
+    let FrameFound::At(order, q, at) = framed else {
+        return SamplesFound::Refused(of_frame_found(framed));
     };
     if !recordings::within(channel, q.count) {
-        return Ran::Refused(Refusal(19, 0));
+        return SamplesFound::Refused(Refusal(19, 0));
     }
     let subs = q.channels + Channels::SUBS;
     let c = (channel - 1) as u32;
-    Ran::At(order, run_at(order, file, subs, c, q.seconds, at))
+    SamplesFound::At(order, run_at(order, file, subs, c, q.seconds, at))
 }
 
 // The sample of 32 bits, in a channel of floats.
@@ -187,10 +183,10 @@ pub fn number_at(o: Order, s: &[u8], p: usize, format: u32) -> Number
     requires { ⌜ p + R.width format ≤ length (now s) ⌝ }
     ensures { λ r. ⌜ r ≡ numberIn (valueOf format (R.width format) (numberAt o (R.width format) (now (s .entry)) p)) ⌝ }
 {
-    if format == 1 {
+    if format == Channel::SHORTS {
         return Number::Whole(int2(o, s, p));
     }
-    if format == 2 {
+    if format == Channel::TRIPLES {
         return Number::Whole(int3(o, s, p));
     }
     if format == Channel::FLOATS {

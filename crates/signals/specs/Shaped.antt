@@ -11,6 +11,7 @@ use Rattle.words.specs.declared.Order.{Order}
 use Rattle.walk.specs.Walk.{Walk, give, _>>=_, _>>_}
 use Rattle.walk.specs.See.{Verdict, gate}
 use Rattle.rules.specs.Rules as R
+use Rattle.rules.specs.declared.Refusal.{Refusal}
 use Rattle.records.specs.Says.{halts}
 use Rattle.signals.specs.declared.frames.Framed.{Framed}
 use Rattle.signals.specs.declared.frames.Framed.the-variants as Framed
@@ -39,6 +40,10 @@ behindFields t size n bytes ch = do
 abbrev pub shaped : Shaped → Verdict R.Frames → Verdict R.Frames
 shaped (Shaped.On f) v = v
 shaped (Shaped.Stop r) v = halts r
+
+abbrev pub refusalS : Shaped → Refusal
+refusalS (Shaped.On f) = record { 0 = 0; 1 = 0 }
+refusalS (Shaped.Stop r) = r
 
 -- the fields stand in the body s, and the samples of these channels fill a frame
 abbrev pub FieldsIn : Order → List ℕ → ℕ → List R.Channel → Shaped → Type 0

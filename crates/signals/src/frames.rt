@@ -10,9 +10,7 @@ ghost use Rattle.walk.specs.See.{see, over};
 ghost use Rattle.rules.specs.Rules as R;
 ghost use Rattle.records.specs.Says.{Kept, headOf};
 ghost use Rattle.signals.specs.Framed.{framesOf, framed, Reaches};
-ghost use Rattle.signals.specs.Shaped.{behindFields, Shapes, Sized, Sizes, Fills};
-use records::Fits;
-use records::Serial;
+ghost use Rattle.signals.specs.Shaped.{refusalS, behindFields, Shapes, Sized, Sizes, Fills};
 use records::Step;
 use records::Tested;
 use records::field;
@@ -22,6 +20,7 @@ use rules::Channels;
 use rules::Frame;
 use rules::Frames;
 use rules::Head;
+use rules::Kind;
 use rules::Refusal;
 use words::Order;
 use words::number4;
@@ -42,6 +41,15 @@ pub struct Shape {
 pub enum Shaped {
     On(Shape),
     Stop(Refusal),
+}
+
+fn of_shape(a: Shaped) -> Refusal
+    ensures { λ r. ⌜ r ≡ refusalS a ⌝ }
+{
+    match a {
+        Shaped::On(_) => Refusal(0, 0),
+        Shaped::Stop(r) => r,
+    }
 }
 
 // A channel with these flags and this rate has a whole number of samples in t seconds.
@@ -115,8 +123,10 @@ fn read_shape(
     total: u32,
     multiplier: u32,
 ) -> Shaped
-    requires { ⌜ (16 ≤ length (now s)) × Addressable (at + 16 + length (now s)) × (total ≤ 1000000) × (cs .count ≤ 128) × (cs .subs + 256 * cs .count ≤ length (now file)) ⌝ }
-    ensures { λ a. ⌜ ((ch : List R.Channel) → length ch ≡ cs .count → Kept o (now (file .entry)) (cs .subs) ch → Shapes o at (now (s .entry)) total multiplier ch a) × Sizes a ⌝ }
+    requires { ⌜ (16 ≤ length (now s)) × Addressable (at + 16 + length (now s)) × (total ≤ 1000000) × (cs .count ≤ 128) ×
+        (cs .subs + 256 * cs .count ≤ length (now file)) ⌝ }
+    ensures { λ a. ⌜ ((ch : List R.Channel) → length ch ≡ cs .count → Kept o (now (file .entry)) (cs .subs) ch →
+        Shapes o at (now (s .entry)) total multiplier ch a) × Sizes a ⌝ }
 {
     let t = field(o, s, Frames::SECONDS);
     let size = field(o, s, Frames::FRAME_LENGTH) as usize;
@@ -127,7 +137,7 @@ fn read_shape(
     if !all_divide(o, file, cs.subs, cs.count, t) {
         return Shaped::Stop(Refusal(14, at + Frames::SECONDS));
     }
-    let bytes = records::sample_bytes(o, file, cs.subs, cs.count, t);
+    let bytes = records::channels::sample_bytes(o, file, cs.subs, cs.count, t);
     if !size_ok(bytes, size) {
         return Shaped::Stop(Refusal(14, at + Frames::FRAME_LENGTH));
     }
@@ -147,12 +157,14 @@ fn read_shape(
 // The frames of the record 140 at `at`, and the padding behind them.
 fn frames_rest(o: Order, s: &[u8], at: usize, total: u32, f: Shape) -> Framed
     requires { ⌜ (16 ≤ length (now s)) × Addressable (at + 16 + length (now s)) × (total ≤ 1000000) × Sized f ⌝ }
-    ensures { λ a. ⌜ ((ch : List R.Channel) → f .filled ≡ 24 + R.sampleBytes (f .seconds) ch → over framesOf (see o (at + 16) (now (s .entry)) (at + 32) (behindFields (f .seconds) (f .size) total (16 + length (now (s .entry))) ch)) ≡ framed at a) × Fills (16 + length (now (s .entry))) a ⌝ }
+    ensures { λ a. ⌜ ((ch : List R.Channel) → f .filled ≡ 24 + R.sampleBytes (f .seconds) ch →
+        over framesOf (see o (at + 16) (now (s .entry)) (at + 32) (behindFields (f .seconds) (f .size) total (16 + length (now (s .entry))) ch)) ≡ framed at a) ×
+        Fills (16 + length (now (s .entry))) a ⌝ }
 {
     let size = f.size;
     let filled = f.filled;
     let n = s.len();
-    let taken = records::frames_from(
+    let taken = records::frames::frames_from(
         o,
         s,
         at + Head::LENGTH,
@@ -189,14 +201,18 @@ fn frames_body(
     total: u32,
     multiplier: u32,
 ) -> Framed
-    requires { ⌜ (16 ≤ length (now s)) × Addressable (at + 16 + length (now s)) × (total ≤ 1000000) × (cs .count ≤ 128) × (cs .subs + 256 * cs .count ≤ length (now file)) ⌝ }
-    ensures { λ a. ⌜ ((rb : R.Basic) (ch : List R.Channel) (hd : R.Head) → rb .frames ≡ total → length ch ≡ cs .count → Kept o (now (file .entry)) (cs .subs) ch → R.span hd ≡ 16 + length (now (s .entry)) → hd .multiplier ≡ multiplier → over framesOf (see o (at + 16) (now (s .entry)) (at + 16) (R.framesBody rb ch hd)) ≡ framed at a) × Fills (16 + length (now (s .entry))) a ⌝ }
+    requires { ⌜ (16 ≤ length (now s)) × Addressable (at + 16 + length (now s)) × (total ≤ 1000000) × (cs .count ≤ 128) ×
+        (cs .subs + 256 * cs .count ≤ length (now file)) ⌝ }
+    ensures { λ a. ⌜ ((rb : R.Basic) (ch : List R.Channel) (hd : R.Head) → rb .frames ≡ total → length ch ≡ cs .count →
+        Kept o (now (file .entry)) (cs .subs) ch → R.span hd ≡ 16 + length (now (s .entry)) → hd .multiplier ≡ multiplier →
+        over framesOf (see o (at + 16) (now (s .entry)) (at + 16) (R.framesBody rb ch hd)) ≡ framed at a) ×
+        Fills (16 + length (now (s .entry))) a ⌝ }
 {
     let shaped = read_shape(o, file, cs, s, at, total, multiplier);
-    match shaped {
-        Shaped::On(f) => frames_rest(o, s, at, total, f),
-        Shaped::Stop(r) => Framed::Stop(r),
-    }
+    let Shaped::On(f) = shaped else {
+        return Framed::Stop(of_shape(shaped));
+    };
+    frames_rest(o, s, at, total, f)
 }
 
 // Channels that are taken over are as many as the recording's own 100 says.
@@ -220,17 +236,14 @@ pub fn frames_at(
     base: usize,
     h: Head,
 ) -> Framed
-    requires { ⌜ (128 ≤ h .at) × (h .at + 16 ≤ length (now s)) × Addressable (base + length (now s)) × (b .frames ≤ 1000000) × (cs .count ≤ 128) × (cs .subs + 256 * cs .count ≤ length (now file)) ⌝ }
-    ensures { λ a. ⌜ ((rb : R.Basic) (ch : List R.Channel) → rb .channels ≡ b .channels → rb .frames ≡ b .frames → length ch ≡ cs .count → Kept o (now (file .entry)) (cs .subs) ch → over framesOf (see o base (now (s .entry)) (base + (h .at + 16)) (R.frames rb own ch (h .at - 4) (length (now (s .entry)) - h .at) (headOf h))) ≡ framed base a) × Reaches (h .at + 32) (length (now (s .entry))) a ⌝ }
+    requires { ⌜ (128 ≤ h .at) × (h .at + 16 ≤ length (now s)) × Addressable (base + length (now s)) × (b .frames ≤ 1000000) ×
+        (cs .count ≤ 128) × (cs .subs + 256 * cs .count ≤ length (now file)) ⌝ }
+    ensures { λ a. ⌜ ((rb : R.Basic) (ch : List R.Channel) → rb .channels ≡ b .channels → rb .frames ≡ b .frames → length ch ≡ cs .count →
+        Kept o (now (file .entry)) (cs .subs) ch →
+        over framesOf (see o base (now (s .entry)) (base + (h .at + 16)) (R.frames rb own ch (h .at - 4) (length (now (s .entry)) - h .at) (headOf h))) ≡ framed base a) ×
+        Reaches (h .at + 32) (length (now (s .entry))) a ⌝ }
 {
-    let room = records::admit(
-        h,
-        base,
-        s.len(),
-        Head::MOST,
-        Fits::AtLeast(Frames::LEAST),
-        Serial::Is(0),
-    );
+    let room = records::kinds::admit(h, base, s.len(), Kind::Frames);
     let Step::On(end) = room else {
         return Framed::Stop(records::of_step(room));
     };

@@ -35,7 +35,8 @@ pub fn of_frames(a: Framed) -> Refusal
 // What follows the delimiter, which stops at byte `end`: the content's limit, and the padding.
 fn closed(s: &[u8], base: usize, end: usize, padded: usize, multiplier: u32) -> Tested
     requires { ⌜ (end ≤ length (now s)) × (16 ≤ base) × Addressable (base + length (now s)) ⌝ }
-    ensures { λ a. ⌜ ((o : Order) → gate (leb (16 + end - padded) R.contentLimit) (gate (R.padded multiplier (length (now (s .entry)) - end)) (see o base (now (s .entry)) (base + end) (R.padding (length (now (s .entry)) - end))) 10 (base + end)) 14 (base - 16) ≡ tested a (base + length (now (s .entry)))) ⌝ }
+    ensures { λ a. ⌜ ((o : Order) →
+        gate (leb (16 + end - padded) R.contentLimit) (gate (R.padded multiplier (length (now (s .entry)) - end)) (see o base (now (s .entry)) (base + end) (R.padding (length (now (s .entry)) - end))) 10 (base + end)) 14 (base - 16) ≡ tested a (base + length (now (s .entry)))) ⌝ }
 {
     if Recording::CONTENT_LIMIT < records::less(Head::LENGTH + end, padded) {
         return Tested::Stop(Refusal(14, base - Head::LENGTH));
@@ -58,8 +59,10 @@ pub fn signals(
     base: usize,
     multiplier: u32,
 ) -> Framed
-    requires { ⌜ (128 ≤ h .at) × (h .at + 16 ≤ length (now s)) × (16 ≤ base) × Addressable (base + length (now s)) × (b .frames ≤ 1000000) × (cs .count ≤ 128) × (cs .subs + 256 * cs .count ≤ length (now file)) ⌝ }
-    ensures { λ a. ⌜ ((t : Descriptions) (r : R.Head) → Known o (now (file .entry)) cs own b h (now (s .entry)) multiplier t r → Signaled (see o base (now (s .entry)) (base + (h .at + 16)) (signals t r)) (base + length (now (s .entry))) t r a) ⌝ }
+    requires { ⌜ (128 ≤ h .at) × (h .at + 16 ≤ length (now s)) × (16 ≤ base) × Addressable (base + length (now s)) ×
+        (b .frames ≤ 1000000) × (cs .count ≤ 128) × (cs .subs + 256 * cs .count ≤ length (now file)) ⌝ }
+    ensures { λ a. ⌜ ((t : Descriptions) (r : R.Head) → Known o (now (file .entry)) cs own b h (now (s .entry)) multiplier t r →
+        Signaled (see o base (now (s .entry)) (base + (h .at + 16)) (signals t r)) (base + length (now (s .entry))) t r a) ⌝ }
 {
     if h.code != Frames::CODE {
         return Framed::Stop(Refusal(9, base + h.at + Head::CODE));
@@ -68,11 +71,11 @@ pub fn signals(
     let Framed::On(f, end) = held else {
         return held;
     };
-    let found = records::next_head(o, s, base, end);
+    let found = records::makers::next_head(o, s, base, end);
     let Headed::At(d) = found else {
         return Framed::Stop(records::of_head(found));
     };
-    let last = records::delimiter(d, base);
+    let last = records::delimiter::delimiter(d, base);
     let Tested::Fine = last else {
         return Framed::Stop(records::of_test(last));
     };

@@ -1,7 +1,7 @@
 -- The answer of `table` is the one that the rules fix for the file and the buffer; and only one answer and one buffer meet its contract.
 -- Assumes nothing.
 use mathlib.Core.Path.{_≡_, refl, sym, ap, _∙_}
-use mathlib.Core.Bool.{true, false}
+use mathlib.Core.Bool.{Bool, true, false}
 use mathlib.Core.List.{List}
 use Prim.Native.Nat.{ℕ, _*_, _/_, _≤_, _<_}
 use native.Mathlib.Omega.{arith}
@@ -10,24 +10,19 @@ use lib.IntN.{ℤ}
 use lib.ListN.{length}
 use Rattle.walk.specs.Walk as W
 use Rattle.walk.specs.Walk.{Row, refused}
-use Rattle.walk.specs.See.{goes, see}
-use Rattle.walk.specs.Tell.{tell}
 use Rattle.rules.specs.Rules as R
 use Rattle.rules.specs.declared.FileHeader.{FileHeader}
 use Rattle.judge.specs.Judged.{AcceptedAs}
-use Rattle.judge.proofs.Accepted.{walked, went, listed}
+use Rattle.judge.proofs.Accepted.{went, listed}
+use Rattle.children.specs.Recordings.{OfFile}
 use Rattle.rows.specs.Rows.{written, Wrote}
-use Rattle.table.specs.Table.{rows, refusal, meaning, answerOf, afterwards, counted, kept}
+use Rattle.table.specs.Table.{rows, refusal, meaning, answerOf, afterwards, counted, kept, Lists}
 use Rattle.table.specs.declared.Listed.{Listed}
 use Rattle.table.specs.declared.Listed.the-variants as Listed
 
--- what the contract of `table` says
-abbrev pub Lists : List ℕ → List ℤ → List ℤ → Listed → Type 0
-Lists s out out′ a = (meaning a ≡ answerOf s (length out)) × (out′ ≡ afterwards s out)
-
 -- a file that is refused
 pub lists-refused : (s : List ℕ) (out : List ℤ) {n p : ℕ} → R.judge s ≡ refused n p → Lists s out out (Listed.Refused (record { 0 = n; 1 = p }))
-lists-refused s out h = rw h (refl, refl)
+lists-refused s out h = record { answer = rw h; buffer = rw h }
 
 -- rows that were counted and found to have no room, and rows that were written
 counted-short : (rs : List Row) (room : ℕ) → room < 4 * length rs → refusal 17 (4 * length rs) ≡ counted rs room
@@ -45,40 +40,50 @@ kept-room rs out h = rw (le-leb (4 * length rs) (length out) h)
 -- a file that is accepted
 module _ (s : List ℕ) (h : FileHeader) (x : AcceptedAs s h) where
   -- what the code wrote is its rows
-  wrote-listed : (w : _) (out out′ : List ℤ) (k : ℕ) → ((l : List R.Placed) (e : ℕ) → see (h .order) 0 s 32 (walked s h x) ≡ goes l e → Wrote w out out′ 0 k (tell (h .order) 0 s 32 (walked s h x))) → Wrote w out out′ 0 k (W.rows 0 (x .events))
+  wrote-listed : (w : Bool) (out out′ : List ℤ) (k : ℕ) → OfFile (h .order) s (h .count) (Wrote w out out′ 0 k) → Wrote w out out′ 0 k (W.rows 0 (x .events))
   wrote-listed w out out′ k wrote = rw (listed s h x) (wrote (x .file .recordings) (length s) (went s h x))
 
-  module _ (out out₁ : List ℤ) (need : ℕ) (first : (l : List R.Placed) (e : ℕ) → see (h .order) 0 s 32 (walked s h x) ≡ goes l e → Wrote false out out₁ 0 need (tell (h .order) 0 s 32 (walked s h x))) where
+  module _ (out out₁ : List ℤ) (need : ℕ) (first : OfFile (h .order) s (h .count) (Wrote false out out₁ 0 need)) where
     -- counting leaves the buffer as it was
     needs : need ≡ 4 * length (W.rows 0 (x .events))
-    needs = omega (arith, wrote-listed false out out₁ need first .0)
+    needs = omega (arith, wrote-listed false out out₁ need first .next)
 
     leaves : out₁ ≡ out
     unfolding written
-    leaves = wrote-listed false out out₁ need first .1 (λ f. absurd (let z : _≡_ {A = ℕ} 0 1 = cc in omega arith))
+    leaves = wrote-listed false out out₁ need first .holds (λ f. absurd (let z : _≡_ {A = ℕ} 0 1 = cc in omega arith))
 
     pub lists-short : length out₁ < need → Lists s out out₁ (Listed.Refused (record { 0 = 17; 1 = need }))
     lists-short l =
         let i : length out₁ ≡ length out = ap length leaves in
-        rw (x .judged, needs, leaves) (counted-short (W.rows 0 (x .events)) (length out) (omega (arith, needs)), kept-short (W.rows 0 (x .events)) out (omega (arith, needs)))
+        record {
+          answer = rw (x .judged, needs) (counted-short (W.rows 0 (x .events)) (length out) (omega (arith, needs)));
+          buffer = rw (x .judged, leaves) (kept-short (W.rows 0 (x .events)) out (omega (arith, needs)));
+        }
 
-    pub lists-rows : (out₂ : List ℤ) (n : ℕ) → need ≤ length out₁ → ((l : List R.Placed) (e : ℕ) → see (h .order) 0 s 32 (walked s h x) ≡ goes l e → Wrote true out₁ out₂ 0 n (tell (h .order) 0 s 32 (walked s h x))) → Lists s out out₂ (Listed.Rows (n / 4))
+    pub lists-rows : (out₂ : List ℤ) (n : ℕ) → need ≤ length out₁ → OfFile (h .order) s (h .count) (Wrote true out₁ out₂ 0 n) → Lists s out out₂ (Listed.Rows (n / 4))
     lists-rows out₂ n l second =
         let i : length out₁ ≡ length out = ap length leaves in
         let w = wrote-listed true out₁ out₂ n second in
-        let d : n / 4 ≡ length (W.rows 0 (x .events)) = omega (arith, w .0) in
-        let b : out₂ ≡ written true out₁ 0 (W.rows 0 (x .events)) = w .1 (λ _. omega (arith, needs)) in
-        rw (x .judged, d, b, leaves) (counted-room (W.rows 0 (x .events)) (length out) (omega (arith, needs)), kept-room (W.rows 0 (x .events)) out (omega (arith, needs)))
+        let d : n / 4 ≡ length (W.rows 0 (x .events)) = omega (arith, w .next) in
+        let b : out₂ ≡ written true out₁ 0 (W.rows 0 (x .events)) = w .holds (λ _. omega (arith, needs)) in
+        record {
+          answer = rw (x .judged, d) (counted-room (W.rows 0 (x .events)) (length out) (omega (arith, needs)));
+          buffer = rw (x .judged, b, leaves) (kept-room (W.rows 0 (x .events)) out (omega (arith, needs)));
+        }
+
+-- rows are no refusal
+apart : {X : Type 0} {n m p : ℕ} → rows n ≡ refusal m p → X
+apart h = absurd (let z : _≡_ {A = ℕ} 0 1 = cc in omega arith)
 
 -- one answer and one buffer for every file and every buffer
 meaning-one : (a b : Listed) → meaning a ≡ meaning b → a ≡ b
 meaning-one (Listed.Rows n) (Listed.Rows m) h = let i : n ≡ m = cc in rw i
-meaning-one (Listed.Rows n) (Listed.Refused r) h = absurd (let z : _≡_ {A = ℕ} 0 1 = cc in omega arith)
-meaning-one (Listed.Refused r) (Listed.Rows m) h = absurd (let z : _≡_ {A = ℕ} 0 1 = cc in omega arith)
+meaning-one (Listed.Rows n) (Listed.Refused r) h = apart h
+meaning-one (Listed.Refused r) (Listed.Rows m) h = apart (sym h)
 meaning-one (Listed.Refused r) (Listed.Refused u) h =
     let i : r .0 ≡ u .0 = cc in
     let j : r .1 ≡ u .1 = cc in
     ap Listed.Refused (λ n. record { 0 = i n; 1 = j n })
 
 pub table-unique : (s : List ℕ) (out out₁ out₂ : List ℤ) (a b : Listed) → Lists s out out₁ a → Lists s out out₂ b → (a ≡ b) × (out₁ ≡ out₂)
-table-unique s out out₁ out₂ a b x y = (meaning-one a b (x .0 ∙ sym (y .0)), x .1 ∙ sym (y .1))
+table-unique s out out₁ out₂ a b x y = (meaning-one a b (x .answer ∙ sym (y .answer)), x .buffer ∙ sym (y .buffer))

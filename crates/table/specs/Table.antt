@@ -1,5 +1,6 @@
 -- The answer of `table` for a file and a buffer, and what the buffer holds afterwards, by the rules' outcome for the file.
 -- Assumes nothing.
+use mathlib.Core.Path.{_≡_}
 use mathlib.Core.Bool.{true}
 use mathlib.Core.List.{List}
 use Prim.Native.Nat.{ℕ, _*_}
@@ -43,3 +44,9 @@ answerOf s room = answered (R.judge s) room
 
 abbrev pub afterwards : List ℕ → List ℤ → List ℤ
 afterwards s out = holding (R.judge s) out
+
+-- what `table` does with the file s and a buffer
+pub record Lists (s : List ℕ) (out out′ : List ℤ) (a : Listed) : Type 0 where
+  -- the answer, and the buffer afterwards
+  pub answer : meaning a ≡ answerOf s (length out)
+  pub buffer : out′ ≡ afterwards s out

@@ -1,7 +1,5 @@
 // The table of a file's records: four signed numbers a record, by position.
-ghost use mathlib.Core.Path.{_≡_};
-ghost use lib.ListN.{length};
-ghost use Rattle.table.specs.Table.{meaning, answerOf, afterwards};
+ghost use Rattle.table.specs.Table.{Lists};
 use judge::Judged;
 use rules::Refusal;
 
@@ -13,7 +11,7 @@ pub enum Listed {
 
 // Judges the file, then writes its records' position, length, code and serial into `out`.
 pub fn table(file: &[u8], out: &mut [i64]) -> Listed
-    ensures { λ a. ⌜ (meaning a ≡ answerOf (now (file .entry)) (length (now (out .entry)))) × (now (out .exit) ≡ afterwards (now (file .entry)) (now (out .entry))) ⌝ }
+    ensures { λ a. ⌜ Lists (now (file .entry)) (now (out .entry)) (now (out .exit)) a ⌝ }
 {
     let judged = judge::judge(file);
     let Judged::Accepted(h) = judged else {

@@ -26,7 +26,8 @@ use Rattle.records.specs.Says.{headOf}
 use Rattle.rows.specs.Rows.{Marks}
 use Rattle.rows.proofs.Makers.{Listing, listing-none, listing-done, listing-more}
 use Rattle.rows.proofs.Written.{wrote-counted}
-use Rattle.rows.proofs.Lists.{admit-went, part-found, absent-lists, not-admitted, channels-found}
+use Rattle.records.proofs.Opened.{admit-went, not-admitted}
+use Rattle.rows.proofs.Lists.{part-found, absent-lists, channels-found}
 use Rattle.bodies.specs.Copy.{copy, Pastes, PartCopied, RecordCopied}
 use Rattle.bodies.specs.declared.Way.{Way}
 use Rattle.bodies.proofs.Copying.{copy-bind, copy-give, copy-body, length-copy, pastes-join, pastes-nothing}

@@ -1,9 +1,9 @@
 -- What is written of a recording, and of all recordings of a file, from what each of the code's steps wrote.
 -- Assumes nothing.
 use mathlib.Core.Path.{_≡_, refl, sym, ap, subst, _∙_}
-use mathlib.Core.Bool.{Bool, true}
+use mathlib.Core.Bool.{true}
 use mathlib.Core.List.{List, [], _∷_, _++_, append-assoc, append-nil}
-use mathlib.Core.Option.{Option, none, some}
+use mathlib.Core.Option.{Option, none}
 use Prim.Native.Nat.{ℕ, suc, _+_, _-_, _≤_, _<_}
 use native.Mathlib.Nat.{zero-add, sub-zero}
 use native.Mathlib.Numerals.{add-one}
@@ -16,108 +16,52 @@ use Rattle.words.specs.Numbers.{bytesAt}
 use Rattle.words.specs.Runs.{pasted}
 use Rattle.words.specs.declared.Order.{Order}
 use Rattle.words.proofs.Runs.{pasted-pasted, pasted-nothing, set-pasted, more-written}
-use Rattle.walk.specs.Walk.{Letter, laid, Walk, give, _>>=_, _>>_, require}
+use Rattle.walk.specs.Walk.{Letter, laid, Walk, _>>=_, _>>_}
 use Rattle.walk.specs.See.{stops, goes, see, Goes, Stays}
 use Rattle.walk.specs.Trace.{trace, written}
 use Rattle.walk.proofs.Laid.{laid-text, length-laid}
 use Rattle.walk.proofs.Seen.{see-part, body-length}
-use Rattle.walk.proofs.Tracing.{written-append, written-none, written-row, written-piece}
-use Rattle.walk.proofs.Went.{gate-went, went-first, goes-same}
+use Rattle.walk.proofs.Tracing.{written-append, written-none, written-piece}
+use Rattle.walk.proofs.Went.{gate-went, goes-same}
 use Rattle.rules.specs.Rules as R
-use Rattle.rules.specs.Rules.{head, coded, admit, span, basic, next, part, channels, items, patientCode, eventCode, heldChannels, heldPatient, frames, delimiter, padding, Descriptions, descriptions, signals, recordingBody, recording, recordings, fileHeader}
+use Rattle.rules.specs.Rules.{head, coded, admit, span, recordingBody, recording, recordings, fileHeader}
+use Rattle.rules.specs.declared.Channels.{Channels}
 use Rattle.rules.specs.declared.Head.{Head}
 use Rattle.rules.proofs.Room.{stays-recordingBody, stays-recording}
-use Rattle.records.specs.Says.{Kept}
+use Rattle.records.specs.Says.{headOf}
+use Rattle.children.specs.Children.{Known, NoRecord}
+use Rattle.children.proofs.Visiting.{chain-closed}
 use Rattle.descriptions.specs.Tabled.{Stand, HeldAs}
 use Rattle.descriptions.specs.declared.Before.{Before}
 use Rattle.descriptions.specs.declared.Before.the-variants as Before
 use Rattle.descriptions.specs.declared.Places.{Places}
 use Rattle.judge.specs.Recorded.{leaves, Places-of}
 use Rattle.judge.proofs.Led.{Led, led, led-stop}
-use Rattle.rows.specs.Rows.{Marks}
-use Rattle.rows.proofs.Lists.{require-went}
-use Rattle.rows.proofs.Recorded.{Begun, begun, led-events}
-use Rattle.bodies.specs.Copy.{copy, Pastes, Holds, RecordCopied}
+use Rattle.children.proofs.Recordings.{Begun, begun, led-events}
+use Rattle.rows.proofs.Body.{closed-inside}
+use Rattle.bodies.specs.Copy.{copy, Pastes, Holds}
 use Rattle.bodies.specs.declared.Way.{Way}
 use Rattle.bodies.proofs.Copying.{copy-bind, copy-part, length-copy, holds-join}
 use Rattle.transcripts.proofs.Onward.{copy-admit}
-use Rattle.turn.proofs.Turning.{filled-first, read-part, copy-require, copy-padding}
+use Rattle.transcripts.specs.Transcript.{Transcribed}
+use Rattle.transcripts.proofs.Transcribing.{inner-140, Copying, closed-bytes}
+use Rattle.turn.specs.Turn.{Subs, FramesSent, ChildSent, LastSent}
+use Rattle.turn.proofs.Turning.{filled-first, read-part, copy-require}
 
--- two walks, and one that depends on both
-copy-two : {A B C : Type 0} (w : Way) (b : ℕ) (s : List ℕ) (at : ℕ) (v : Walk A) (u : Walk B) (f : A → B → Walk C) {x : A} {y : B} {m n : ℕ} → see (w .from) b s at v ≡ goes x m → see (w .from) b s m u ≡ goes y n →
-    copy w b s at (v >>= λ a. u >>= λ d. f a d) ≡ (copy w b s at v ++ copy w b s m u) ++ copy w b s n (f x y)
-copy-two w b s at v u f {x} {y} {m} {n} g h =
-    copy-bind w b s at v (λ a. u >>= λ d. f a d) g ∙ ap (λ (l : List ℕ). copy w b s at v ++ l) (copy-bind w b s m u (λ d. f x d) h) ∙ sym (append-assoc (copy w b s at v) (copy w b s m u) (copy w b s n (f x y)))
+-- a record of a recording: its 140, or any other
+module _ (w : Way) (file : List ℕ) (cs : Channels) (s : List ℕ) (h : Head) (q : ℕ) (out out′ : List ℕ) (k k′ : ℕ) where
+  pub child-140 : h .code ≡ 140 → FramesSent w file cs s (h .at) q out out′ k k′ → ChildSent w file cs s h q out out′ k k′
+  child-140 code x = record { inside = x .inside; wrote = λ b known l stop subs i. x .wrote b (known .basic) (known .own) (known .channels) (known .back) (headOf h) l stop subs (inner-140 i code) }
 
-module _ (w : Way) (b : ℕ) (s : List ℕ) where
-  -- a delimiter writes nothing behind its head
-  copy-delimiter : {A : Type 0} (at : ℕ) (h : R.Head) (v : Walk A) → copy w b s at (delimiter h >> v) ≡ copy w b s at v
-  unfolding delimiter trace _>>=_ _>>_
-  copy-delimiter at h v = written-row (w .keep) (w .to) _ _ _ _ (trace (w .from) b s at v)
+  pub child-other : (h .code ≡ 140 → ⊥) → Transcribed w s h q out out′ k k′ → ChildSent w file cs s h q out out′ k k′
+  child-other other x = record { inside = x .inside; wrote = λ b known l stop subs i. x .wrote b known l stop other i }
 
-  -- what stands behind the delimiter's head: its tests, and padding
-  module _ (h : R.Head) (c₁ c₂ : Bool) (p left at : ℕ) (x : R.Placed) where
-    abbrev tail : Walk R.Placed
-    tail = delimiter h >> (require c₁ 14 p >> (require c₂ 10 0 >> (padding left >> give x)))
-
-    tail-gives : {y : R.Placed} {e : ℕ} → see (w .from) b s at tail ≡ goes y e → x ≡ y
-    unfolding see _>>_
-    tail-gives g =
-        let f₁ = went-first (w .from) b s at (delimiter h) _ g in
-        let f₂ = require-went (w .from) b s (f₁ .end) c₁ 14 p (require c₂ 10 0 >> (padding left >> give x)) (f₁ .kept) in
-        let f₃ = require-went (w .from) b s (f₁ .end) c₂ 10 0 (padding left >> give x) (f₂ .1) in
-        let f₄ = went-first (w .from) b s (f₁ .end) (padding left) _ (f₃ .1) in
-        goes-same (f₄ .kept) .0
-
-    copy-tail : copy w b s at tail ≡ bytesAt left s (at - b)
-    copy-tail =
-        copy-delimiter at h (require c₁ 14 p >> (require c₂ 10 0 >> (padding left >> give x)))
-        ∙ copy-require w b s at c₁ 14 p (require c₂ 10 0 >> (padding left >> give x))
-        ∙ copy-require w b s at c₂ 10 0 (padding left >> give x)
-        ∙ copy-padding w b s at left x
-
-  -- what the code wrote of a 140 with the head g and of the makers' records behind it, up to the head g′; and of the bytes behind that
-  module _ (file : List ℕ) (subs count : ℕ) (g g′ : Head) (out out₁ out₂ : List ℕ) (k k₁ k₂ : ℕ)
-      (wrote : (c : R.Basic) (own : Bool) (cs : List R.Channel) (back : ℕ) → g .code ≡ 140 → length cs ≡ count → Kept (w .from) file subs cs → RecordCopied w b s g (frames c own cs back) out out₁ k k₁ g′)
-      (last : g′ .at + 16 ≤ length s → Pastes out₁ out₂ k₁ k₂ (take (length s - (g′ .at + 16)) (drop (g′ .at + 16) s))) where
-    signals-copied : (t : Descriptions) (h : R.Head) (x : R.Placed) (e : ℕ) → span h ≡ 16 + length s → length (x .recording .channels) ≡ count → Kept (w .from) file subs (x .recording .channels) →
-        Marks (w .from) b s g (t .events .next) (b + (g .at + 16)) → see (w .from) b s (b + (g .at + 16)) (signals t h) ≡ goes x e → Holds out out₂ k (copy w b s (b + (g .at + 16)) (signals t h))
-    unfolding signals bytesAt
-    signals-copied t h x e n many kept marks went =
-        let o : Order = w .from in
-        let at : ℕ = b + (g .at + 16) in
-        let r = require-went o b s at (eqb (t .events .next .head .code) 140) 9 12 _ went in
-        let v : Walk R.Frames = frames (t .basic) (t .channels .own) (t .channels .value) (span h - t .events .next .room - 20) (t .events .next .room) (t .events .next .head) in
-        let u : Walk R.Next = next (span h) (t .events .next .room - span (t .events .next .head)) in
-        let y = went-first o b s at v _ (r .1) in
-        let z = went-first o b s (y .end) u _ (y .kept) in
-        let i : t .channels .value ≡ x .recording .channels = ap (λ (q : R.Placed). q .recording .channels) (tail-gives (z .value .head) _ _ _ _ (z .end) _ (z .kept)) in
-        let j : g .code ≡ 140 = sym (ap (λ (q : R.Head). q .code) (marks .0)) ∙ eqb-true (t .events .next .head .code) 140 (r .0) in
-        let d = rw (← marks .0, ← marks .1) at (wrote (t .basic) (t .channels .own) (t .channels .value) (span h - t .events .next .room - 20) j (rw i many) (rw i kept) (span h) (y .value) (y .end) (z .value) (z .end) (omega arith)) in
-        let m = d (y .is) (z .is) in
-        let e₁ : z .value .room - 16 ≡ length s - (g′ .at + 16) = omega (arith, m .0 .1) in
-        let e₂ : z .end - b ≡ g′ .at + 16 = omega (arith, m .0 .3) in
-        let rest : List ℕ = take (length s - (g′ .at + 16)) (drop (g′ .at + 16) s) in
-        let q : bytesAt (z .value .room - 16) s (z .end - b) ≡ rest = ap (λ (i : ℕ). take i (drop (z .end - b) s)) e₁ ∙ ap (λ (i : ℕ). take (length s - (g′ .at + 16)) (drop i s)) e₂ in
-        let c : copy w b s at (signals t h) ≡ (copy w b s at v ++ copy w b s (y .end) u) ++ rest =
-        copy-require w b s at (eqb (t .events .next .head .code) 140) 9 12 _ ∙ (copy-two w b s at v u _ (y .is) (z .is) ∙ ap (λ (l : List ℕ). (copy w b s at v ++ copy w b s (y .end) u) ++ l) (copy-tail (z .value .head) _ _ _ _ (z .end) _ ∙ q)) in
-        subst (λ (l : List ℕ). Holds out out₂ k l) (sym c) (holds-join out out₁ out₂ k k₁ k₂ (copy w b s at v ++ copy w b s (y .end) u) rest (m .1) (λ room. last (m .0 .2) room .1))
-
-    -- and of the tables before it, up to the head g
-    pub body-copied : (out₀ : List ℕ) (k₀ : ℕ) →
-        ((held : Option R.Held) (t : Descriptions) (e : ℕ) → see (w .from) b s b (descriptions held (16 + length s)) ≡ goes t e → Marks (w .from) b s g (t .events .next) e × Pastes out₀ out k₀ k (copy w b s b (descriptions held (16 + length s)))) →
-        (held : Option R.Held) (h : R.Head) (x : R.Placed) (e : ℕ) → span h ≡ 16 + length s → length (x .recording .channels) ≡ count → Kept (w .from) file subs (x .recording .channels) →
-        see (w .from) b s b (recordingBody held h) ≡ goes x e → Holds out₀ out₂ k₀ (copy w b s b (recordingBody held h))
-    unfolding recordingBody
-    body-copied out₀ k₀ first held h x e n many kept went =
-        let v : Walk Descriptions = descriptions held (span h) in
-        let f : Descriptions → Walk R.Placed = λ t. signals t h in
-        let y = went-first (w .from) b s b v f went in
-        let m = rw (← n) at (first held (y .value) (y .end)) (y .is) in
-        let r = signals-copied (y .value) h x e n many kept (m .0 .0, m .0 .1, m .0 .2, refl) (ap (λ (i : ℕ). see (w .from) b s i (signals (y .value) h)) (sym (m .0 .3)) ∙ y .kept) in
-        let c : copy w b s b (recordingBody held h) ≡ copy w b s b v ++ copy w b s (b + (g .at + 16)) (signals (y .value) h) =
-        copy-bind w b s b v f (y .is) ∙ ap (λ (i : ℕ). copy w b s b v ++ copy w b s i (signals (y .value) h)) (m .0 .3) in
-        subst (λ (l : List ℕ). Holds out₀ out₂ k₀ l) (sym c) (holds-join out₀ out out₂ k₀ k k₂ (copy w b s b v) (copy w b s (b + (g .at + 16)) (signals (y .value) h)) (m .1) r)
+-- the delimiter is written behind the records of a body, and the bytes behind it
+pub copying-last : {w : Way} {b : ℕ} {s : List ℕ} {known : Known} {out out₁ : List ℕ} {k k₁ p : ℕ} {all : List ℕ} (out₂ : List ℕ) → Copying w b s known out out₁ k k₁ p all → p ≤ length s →
+    NoRecord (w .from) b s p → LastSent w s p out₁ out₂ k₁ → Holds out out₂ k all
+copying-last {w} {b} {s} {known} {out} {out₁} {k} {k₁} {p} out₂ g fit ends last =
+    let c = chain-closed (w .from) b s ends (g .chain) in
+    rw (g .is, closed-bytes w b s p fit c) (holds-join out out₁ out₂ k k₁ k₁ (g .done) _ (g .wrote) (last (closed-inside (w .from) b s p fit c) b (length s - p)))
 
 -- the bytes of a recording that the walk accepted: those of its head, and of its body
 begun-bytes : (w : Way) (s : List ℕ) (p : ℕ) (held : Option R.Held) (i : ℕ) {x : R.Placed} {e : ℕ} (v : Begun (w .from) s p held i x e) →
@@ -143,7 +87,7 @@ module _ (w : Way) (s : List ℕ) (p q : ℕ) where
   -- the code wrote its head, and its body as a part of the file
   pub recording-copied : (at count : ℕ) (out out₁ out₂ : List ℕ) (k : ℕ) → length s ≤ length out →
       ((b room : ℕ) → Pastes out out₁ p k (copy w b s (b + p) (head room))) →
-      ((held : Option R.Held) (h : R.Head) (x : R.Placed) (e : ℕ) → span h ≡ 16 + length within → length (x .recording .channels) ≡ count → Kept (w .from) s (at + 32) (x .recording .channels) → see (w .from) (p + 16) within (p + 16) (recordingBody held h) ≡ goes x e → Holds out₁ out₂ k (copy w (p + 16) within (p + 16) (recordingBody held h))) →
+      ((held : Option R.Held) (h : R.Head) (x : R.Placed) (e : ℕ) → span h ≡ 16 + length within → Subs (w .from) s (record { subs = at + 32; count = count }) (x .recording .channels) → see (w .from) (p + 16) within (p + 16) (recordingBody held h) ≡ goes x e → Holds out₁ out₂ k (copy w (p + 16) within (p + 16) (recordingBody held h))) →
       (held : Option R.Held) (i : ℕ) (x : R.Placed) → see (w .from) 0 s p (recording held (length s - p) i) ≡ goes x q → Stand (w .from) s at count (x .recording .channels) → out₂ ≡ pasted out p (copy w 0 s p (recording held (length s - p) i))
   recording-copied at count out out₁ out₂ k fit first later held i x g stand =
       let v = begun (w .from) s p held i g in
@@ -154,7 +98,7 @@ module _ (w : Way) (s : List ℕ) (p q : ℕ) where
       let stays = rw z at (stays-recordingBody held (v .opens .top) (p + 16) (v .least)) in
       let f : p + 16 + (q - (p + 16)) ≤ length s = omega (arith, v .ends, v .least, v .inside) in
       let same : copy w (p + 16) within (p + 16) u ≡ copy w 0 s (p + 16) u = copy-part w 0 (p + 16) (p + 16) (q - (p + 16)) s (omega arith) f u (p + 16) _ (omega arith) stays (v .opens .given .rest) in
-      let body = later held (v .opens .top) x q (omega (arith, l, v .ends)) (stand .0) (stand .1) (see-part (w .from) 0 (p + 16) (p + 16) (q - (p + 16)) s (omega arith) f u (p + 16) _ (omega arith) stays ∙ v .opens .given .rest) in
+      let body = later held (v .opens .top) x q (omega (arith, l, v .ends)) (record { many = stand .0; kept = stand .1 }) (see-part (w .from) 0 (p + 16) (p + 16) (q - (p + 16)) s (omega arith) f u (p + 16) _ (omega arith) stays ∙ v .opens .given .rest) in
       let n = length-copy w 0 s (p + (length s - p)) (omega (arith, v .ends, v .inside)) (recording held (length s - p) i) p _ (omega arith) (stays-recording held i p (length s - p)) g in
       let m : p + length (xs ++ copy w (p + 16) within (p + 16) u) ≤ length out = subst (λ (y : List ℕ). p + length y ≤ length out) (begun-bytes w s p held i v ∙ ap (λ (y : List ℕ). xs ++ y) (sym same)) (omega (arith, n, v .inside)) in
       holds-join out out₁ out₂ p k k xs (copy w (p + 16) within (p + 16) u) (rw zero-add at (first 0 (length s - p))) body m ∙ ap (pasted out p) (ap (λ (y : List ℕ). xs ++ y) same ∙ sym (begun-bytes w s p held i v))

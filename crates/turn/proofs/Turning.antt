@@ -15,25 +15,27 @@ use Rattle.words.specs.Numbers.{bytesAt, numberAt}
 use Rattle.words.specs.Runs.{pasted}
 use Rattle.words.specs.declared.Order.{Order}
 use Rattle.words.proofs.Runs.{part-pasted, more-written, all-written, length-pasted}
-use Rattle.walk.specs.Walk.{Padding, laid, Event, row, Walk, give, refuse, check, number, read, skip, list, _>>=_, _>>_, require, reserve}
+use Rattle.walk.specs.Walk.{Event, row, Walk, give, refuse, check, number, read, skip, list, _>>=_, _>>_, require, reserve}
 use Rattle.walk.specs.See.{goes, see, Goes, Stays, numbered}
 use Rattle.walk.specs.Trace.{trace, written}
-use Rattle.walk.proofs.Laid.{laid-padding}
-use Rattle.walk.proofs.Seen.{went, when-then, stays-weaken, stays-goes, see-body, and-left}
-use Rattle.walk.proofs.Tracing.{trace-bind, trace-give, written-append, written-none, written-row, written-piece}
+use Rattle.walk.proofs.Seen.{went, when-then, stays-weaken, stays-goes, stays-require, body-length, and-left}
+use Rattle.walk.proofs.Tracing.{trace-bind, trace-give, written-append, written-none, written-row}
 use Rattle.walk.proofs.Went.{gate-went, went-first, goes-same}
-use Rattle.rules.specs.Rules.{Head, head, coded, admit, span, zeros, padding, series, Basic, Channel, sampleBytes, numberList, samples, Frame, frame, frameBody, Frames, frames, framesBody, padOk}
-use Rattle.rules.specs.declared.Head as At
+use Rattle.rules.specs.Rules.{Head, head, coded, admit, span, padding, series, Basic, Channel, sampleBytes, numberList, samples, Frame, frame, frameBody, Frames, frames, framesBody, padOk}
+use Rattle.rules.specs.declared.Channels.{Channels}
 use Rattle.rules.proofs.Room.{stays-series, stays-frame, stays-frameBody, stays-framesBody}
-use Rattle.records.specs.Says.{headOf}
+use Rattle.records.specs.Says.{Kept}
 use Rattle.records.proofs.Facts.{between-in, both-false}
 use Rattle.records.proofs.Steps.{ends-samples}
+use Rattle.children.specs.Children.{Said, Reads}
 use Rattle.signals.proofs.FramesBody.{size-fits}
-use Rattle.rows.proofs.Lists.{admit-went, require-went}
-use Rattle.bodies.specs.Copy.{copy, filling}
+use Rattle.records.proofs.Opened.{admit-went, require-went}
+use Rattle.bodies.specs.Copy.{copy, filling, Pastes}
 use Rattle.bodies.specs.declared.Way.{Way}
-use Rattle.bodies.proofs.Copying.{copy-part, copy-body, length-copy}
-use Rattle.transcripts.proofs.Onward.{copy-admit}
+use Rattle.bodies.proofs.Copying.{copy-give, copy-part, length-copy}
+use Rattle.transcripts.specs.Transcript.{anew}
+use Rattle.transcripts.proofs.Transcribing.{behind, padding-stands, record-copied}
+use Rattle.turn.specs.Turn.{FramesSent}
 
 -- bytes written front to back: the first of them, and a part behind what stands
 pub filled-first : (d₀ ys : List ℕ) (m : ℕ) → length ys ≡ m → ys ++ drop m d₀ ≡ pasted d₀ 0 ys
@@ -52,11 +54,6 @@ filled-last d₀ d xs ys at e h l =
 written-four : (keep : Bool) (o : Order) (t u v x : List Event) → written keep o (t ++ (u ++ (v ++ x))) ≡ written keep o t ++ (written keep o u ++ (written keep o v ++ written keep o x))
 written-four keep o t u v x = written-append keep o t (u ++ (v ++ x)) ∙ rw (written-append keep o u (v ++ x), written-append keep o v x)
 
-trace-zeros : {A : Type 0} (o : Order) (b : ℕ) (s : List ℕ) (at : ℕ) (bs : List ℕ) (k : Unit {0} → Walk A) → trace o b s at (zeros bs >>= k) ≡ trace o b s at (k tt)
-unfolding zeros trace _>>=_
-trace-zeros o b s at [] k = refl
-trace-zeros o b s at (x ∷ bs) k = trace-zeros o b s at bs k
-
 module _ {A : Type 0} (w : Way) (b : ℕ) (s : List ℕ) (at : ℕ) where
   -- a test writes nothing
   pub copy-require : (c : Bool) (n p : ℕ) (v : Walk A) → copy w b s at (require c n p >> v) ≡ copy w b s at v
@@ -65,10 +62,8 @@ module _ {A : Type 0} (w : Way) (b : ℕ) (s : List ℕ) (at : ℕ) where
 
   -- padding stands as it is
   pub copy-padding : (n : ℕ) (a : A) → copy w b s at (padding n >> give a) ≡ bytesAt n s (at - b)
-  unfolding padding trace _>>=_ _>>_
-  copy-padding n a =
-      let bs : List ℕ = laid (w .from) Padding (bytesAt n s (at - b)) in
-      rw (trace-zeros (w .from) b s (at + n) bs (λ _. give a), written-piece (w .keep) (w .to) Padding bs [], written-none, append-nil, laid-padding (w .to), laid-padding (w .from))
+  unfolding _>>_
+  copy-padding n a = copy-give w b s at (padding n) (λ _. a) ∙ padding-stands w b s at n
 
   -- a record: its head, and its body
   pub copy-record : (room code most : ℕ) (fits : Head → ℕ → Bool) (serial : ℕ → Bool) (body : Walk A) →
@@ -348,23 +343,45 @@ module _ {w : Way} {b : ℕ} {s : List ℕ} {cs : List Channel} {t size n : ℕ}
         let k : length ys ≡ length s - at = ap length q ∙ length-take-le (length s - at) (drop at s) (rw length-drop (omega arith)) in
         filled-last (x .under) d (x .done) ys at (x .wrote) (x .place) (omega (arith, k, x .same)) ∙ sym (x .rest ∙ rw (a, written-none, ← e, q))
 
--- a 140 with the code's head h, which stops at q: its body is a part of s
-module _ (w : Way) (base : ℕ) (s : List ℕ) (h : At.Head) (q : ℕ) (stop : q ≡ h .at + span (headOf h)) (inside : q ≤ length s) (least : 32 ≤ span (headOf h)) (c : Basic) (own : Bool) (cs : List Channel) (back : ℕ) where
-  abbrev body : List ℕ
-  body = take (q - (h .at + 16)) (drop (h .at + 16) s)
+-- a 140 at byte p, which ends at q: its body is a part of s
+module _ (w : Way) (b : ℕ) (s : List ℕ) (p q : ℕ) (h : Head) (stop : q ≡ p + span h) (least : p + 16 ≤ q) (inside : q ≤ length s) (c : Basic) (own : Bool) (cs : List Channel) (back : ℕ) where
+  abbrev from : ℕ
+  from = b + p + 16
 
-  pub frames-in : {f : Frames} {e : ℕ} → see (w .from) base s (base + (h .at + 16)) (frames c own cs back (length s - h .at) (headOf h)) ≡ goes f e →
-      (see (w .from) (base + h .at + 16) body (base + h .at + 16) (framesBody c cs (headOf h)) ≡ goes f e) ×
-      (copy w (base + h .at + 16) body (base + h .at + 16) (framesBody c cs (headOf h)) ≡ copy w base s (base + (h .at + 16)) (frames c own cs back (length s - h .at) (headOf h)))
+  abbrev body : List ℕ
+  body = take (q - (p + 16)) (drop (p + 16) s)
+
+  abbrev counted : Bool
+  counted = own || eqb (length cs) (c .channels)
+
+  -- it has room for its numbers
+  pub frames-least : {l : Said} → Reads (w .from) b s p (frames c own cs back (length s - p) h) l → 32 ≤ q - p
   unfolding frames
-  frames-in g =
-      let o : Order = w .from in
-      let at : ℕ = base + (h .at + 16) in
-      let v : Walk Frames = framesBody c cs (headOf h) in
-      let d = admit-went o base s at (length s - h .at) 128 (leb 32) (eqb 0) (headOf h) (require (own || eqb (length cs) (c .channels)) 14 back >> v) g in
-      let t = require-went o base s at (own || eqb (length cs) (c .channels)) 14 back v (d .rest) in
-      let z : base + h .at + 16 + (span (headOf h) - 16) ≡ base + q = omega arith in
-      let r = rw z at (stays-framesBody c cs (headOf h) (base + h .at + 16) least) in (
-        see-body o base (h .at) q s v _ (omega arith) inside r ∙ t .1,
-        copy-body w base (h .at) q s v _ (omega arith) inside r (t .1) ∙ sym (copy-admit w base s at (length s - h .at) 128 (leb 32) (eqb 0) (headOf h) (require (own || eqb (length cs) (c .channels)) 14 back >> v) ∙ copy-require w base s at (own || eqb (length cs) (c .channels)) 14 back v),
-      )
+  frames-least r =
+      let f = leb-true 32 (span h) (admit-went (w .from) b s (b + (p + 16)) (length s - p) 128 (leb 32) (eqb 0) h (require counted 14 back >> framesBody c cs h) (r .is) .length) in
+      omega arith
+
+  pub frames-in : {l : Said} (r : Reads (w .from) b s p (frames c own cs back (length s - p) h) l) →
+      (span h ≡ 16 + length body) × (see (w .from) from body from (framesBody c cs h) ≡ goes (r .value) (r .end)) × (copy w from body from (framesBody c cs h) ≡ anew w l)
+  unfolding frames
+  frames-in r =
+      let v : Walk Frames = require counted 14 back >> framesBody c cs h in
+      let z = behind w b s p q h stop least inside 128 (leb 32) (eqb 0) v (λ e at. stays-require counted 14 back (framesBody c cs h) _ at _ refl (λ _. stays-framesBody c cs h at (leb-true 32 (span h) e))) r in
+      let t = require-went (w .from) from body from counted 14 back (framesBody c cs h) (z .reads) in
+      (omega (arith, body-length p q s least inside), t .1, sym (copy-require w from body from counted 14 back (framesBody c cs h)) ∙ z .is)
+
+-- the code's part in it: a record that is too short, or its head and then its body
+module _ (w : Way) (file : List ℕ) (at : Channels) (s : List ℕ) (p q : ℕ) (least : p + 16 ≤ q) (inside : q ≤ length s) (out : List ℕ) (k : ℕ) where
+  pub frames-short : k ≤ length out → q - p < 32 → FramesSent w file at s p q out out k k
+  frames-short fit short = record { inside = fit; wrote = λ b c own cs back h l stop subs r. absurd (omega (arith, short, frames-least w b s p q h stop least inside c own cs back r)) }
+
+  pub frames-sent : (out₁ out₂ : List ℕ) (k₁ k₂ : ℕ) → ((b room : ℕ) → Pastes out out₁ k k₁ (copy w b s (b + p) (head room))) → k₂ ≤ length out →
+      ((b : ℕ) (c : Basic) (cs : List Channel) (h : Head) (f : Frames) (e : ℕ) → length cs ≡ at .count → Kept (w .from) file (at .subs) cs → span h ≡ 16 + length (take (q - (p + 16)) (drop (p + 16) s)) →
+      see (w .from) b (take (q - (p + 16)) (drop (p + 16) s)) b (framesBody c cs h) ≡ goes f e → Pastes out₁ out₂ k₁ k₂ (copy w b (take (q - (p + 16)) (drop (p + 16) s)) b (framesBody c cs h))) → FramesSent w file at s p q out out₂ k k₂
+  frames-sent out₁ out₂ k₁ k₂ headed fit body =
+      record {
+        inside = fit;
+        wrote = λ b c own cs back h l stop subs r.
+            let t = frames-in w b s p q h stop least inside c own cs back r in
+            record-copied w b s p l out out₁ out₂ k k₁ k₂ headed (rw (t .2) at (body (b + p + 16) c cs h (r .value) (r .end) (subs .many) (subs .kept) (t .0) (t .1)));
+      }

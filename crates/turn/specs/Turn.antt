@@ -1,15 +1,24 @@
 -- The answer of `turn` for a file and a buffer, and what the buffer holds afterwards, by the rules' outcome for the file.
 -- Assumes nothing.
-use mathlib.Core.Bool.{true}
-use mathlib.Core.List.{List}
-use Prim.Native.Nat.{ℕ}
-use lib.ListN.{length}
+use mathlib.Core.Path.{_≡_}
+use mathlib.Core.Bool.{Bool, true}
+use mathlib.Core.List.{List, _++_}
+use mathlib.Core.Option.{Option}
+use Prim.Native.Nat.{ℕ, _+_, _-_, _≤_}
+use lib.ListN.{length, take, drop}
 use Rattle.words.specs.Numbers.{other}
 use Rattle.words.specs.declared.Order.{Order}
+use Rattle.walk.specs.See.{goes, see}
 use Rattle.walk.specs.Walk.{Outcome, refused, passed, rows}
 use Rattle.rules.specs.Rules as R
 use Rattle.rules.specs.Turned as T
+use Rattle.rules.specs.declared.Channels.{Channels}
+use Rattle.rules.specs.declared.Head.{Head}
+use Rattle.records.specs.Says.{headOf, Kept}
+use Rattle.children.specs.Children.{Said, Known, Reads, Inner}
+use Rattle.bodies.specs.Copy.{copy, Holds}
 use Rattle.bodies.specs.declared.Way.{Way}
+use Rattle.transcripts.specs.Transcript.{Copied}
 use Rattle.makers.specs.Makers.{firstMaker}
 use Rattle.permit.specs.Permit.{Answer, refusal, permitted, settled}
 
@@ -28,3 +37,30 @@ answerOf s room = answered (R.judge s) (length s) room
 -- the buffer afterwards: the turned file in its first bytes where the answer is a length, else as it was
 abbrev pub afterwards : List ℕ → List ℕ → List ℕ
 afterwards s out = settled (answerOf s (length out)) (T.turned s) out
+
+-- the records 125 from which a recording's channels are read, of which the code knows where they stand and how many there are
+pub record Subs (o : Order) (file : List ℕ) (cs : Channels) (ch : List R.Channel) : Type 0 where
+  pub many : length ch ≡ cs .count
+  pub kept : Kept o file (cs .subs) ch
+
+-- the 140 at byte p of the part s, which ends at byte q: where the walk reads it with these channels, its head and its rest are written from k on, and the next bytes go at k′
+pub record FramesSent (w : Way) (file : List ℕ) (cs : Channels) (s : List ℕ) (p q : ℕ) (out out′ : List ℕ) (k k′ : ℕ) : Type 0 where
+  pub inside : k′ ≤ length out
+  pub wrote : (b : ℕ) (c : R.Basic) (own : Bool) (ch : List R.Channel) (back : ℕ) (h : R.Head) (l : Said) → q ≡ p + R.span h → Subs (w .from) file cs ch →
+      Reads (w .from) b s p (R.frames c own ch back (length s - p) h) l → Copied w b s p l out out′ k k′
+
+-- any record that stands in a recording, with the code's head h
+pub record ChildSent (w : Way) (file : List ℕ) (cs : Channels) (s : List ℕ) (h : Head) (q : ℕ) (out out′ : List ℕ) (k k′ : ℕ) : Type 0 where
+  pub inside : k′ ≤ length out
+  pub wrote : (b : ℕ) (known : Known) (l : Said) → q ≡ h .at + R.span (headOf h) → Subs (w .from) file cs (known .channels) →
+      Inner (w .from) b s (h .at) known (headOf h) l → Copied w b s (h .at) l out out′ k k′
+
+-- the delimiter at byte p and the bytes behind it, as they stand
+abbrev pub LastSent : Way → List ℕ → ℕ → List ℕ → List ℕ → ℕ → Type 0
+LastSent w s p out out′ k = p + 16 ≤ length s → (b room : ℕ) → Holds out out′ k (copy w b s (b + p) (R.head room) ++ take (length s - (p + 16)) (drop (p + 16) s))
+
+-- a recording's body, where the walk accepts it
+abbrev pub BodySent : Way → List ℕ → Channels → List ℕ → ℕ → List ℕ → List ℕ → ℕ → Type 0
+BodySent w file cs s b out out′ k =
+    (held : Option R.Held) (h : R.Head) (x : R.Placed) (e : ℕ) → R.span h ≡ 16 + length s → Subs (w .from) file cs (x .recording .channels) →
+    see (w .from) b s b (R.recordingBody held h) ≡ goes x e → Holds out out′ k (copy w b s b (R.recordingBody held h))

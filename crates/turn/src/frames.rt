@@ -1,15 +1,14 @@
 // Record 140 and its frames, turned into a part of the same length.
 ghost use mathlib.Core.Path.{_≡_};
-ghost use mathlib.Core.Bool.{Bool};
 ghost use mathlib.Core.List.{List};
 ghost use Prim.Native.Nat.{ℕ, _+_, _-_, _*_, _≤_, _<_};
 ghost use lib.ListN.{length};
-ghost use Rattle.words.specs.Sizes.{Addressable};
 ghost use Rattle.words.specs.Numbers.{numberAt};
 ghost use Rattle.walk.specs.See.{see, goes};
 ghost use Rattle.rules.specs.Rules as R;
 ghost use Rattle.records.specs.Says.{Kept};
-ghost use Rattle.bodies.specs.Copy.{widthsIn, copy, Pastes, RecordCopied};
+ghost use Rattle.bodies.specs.Copy.{widthsIn, copy, Pastes};
+ghost use Rattle.turn.specs.Turn.{FramesSent};
 use bodies::Way;
 use bodies::Widths;
 use bodies::fits;
@@ -18,15 +17,11 @@ use bodies::runs::numbers;
 use bodies::runs::reserved;
 use bodies::widths_of;
 use bulk::copy_run;
-use records::Fits;
-use records::Serial;
-use records::Step;
 use rules::Channels;
 use rules::Frame;
 use rules::Frames;
 use rules::Head;
-use transcripts::Marked;
-use transcripts::next;
+use transcripts::head;
 
 // A record 145 whose samples end at byte `filled`.
 fn frame(
@@ -39,11 +34,13 @@ fn frame(
     s: &[u8],
     d: &mut [u8],
 )
-    requires { ⌜ (cs .subs + 256 * cs .count ≤ length (now file)) × (t ≤ 3600) × (24 ≤ filled) × (filled ≤ length (now s)) × (length (now d) ≡ length (now s)) × (widths ≡ widthsIn (w .from) (now file) (cs .subs) (cs .count)) ⌝ }
-    ensures { λ _. ⌜ ((b room i : ℕ) (ch : List R.Channel) → length ch ≡ cs .count → Kept (w .from) (now (file .entry)) (cs .subs) ch → filled ≡ 24 + R.sampleBytes t ch → now (d .exit) ≡ copy w b (now (s .entry)) b (R.frame (length (now (s .entry))) t ch room i)) ⌝ }
+    requires { ⌜ (cs .subs + 256 * cs .count ≤ length (now file)) × (t ≤ 3600) × (24 ≤ filled) × (filled ≤ length (now s)) ×
+        (length (now d) ≡ length (now s)) × (widths ≡ widthsIn (w .from) (now file) (cs .subs) (cs .count)) ⌝ }
+    ensures { λ _. ⌜ ((b room i : ℕ) (ch : List R.Channel) → length ch ≡ cs .count → Kept (w .from) (now (file .entry)) (cs .subs) ch →
+        filled ≡ 24 + R.sampleBytes t ch → now (d .exit) ≡ copy w b (now (s .entry)) b (R.frame (length (now (s .entry))) t ch room i)) ⌝ }
 {
     let body = Head::LENGTH;
-    numbers(w, 4, 4, &s[..body], &mut d[..body]);
+    numbers(w, Head::WIDTH, Head::NUMBERS, &s[..body], &mut d[..body]);
     frame_body(
         w,
         file,
@@ -68,15 +65,27 @@ fn frames_body(
     s: &[u8],
     d: &mut [u8],
 )
-    requires { ⌜ (cs .subs + 256 * cs .count ≤ length (now file)) × (t ≤ 3600) × (24 ≤ filled) × (filled ≤ size) × (16 + size * count ≤ length (now s)) × (length (now d) ≡ length (now s)) ⌝ }
-    ensures { λ _. ⌜ ((b : ℕ) (c : R.Basic) (ch : List R.Channel) (hd : R.Head) (f : R.Frames) (e : ℕ) → length ch ≡ cs .count → Kept (w .from) (now (file .entry)) (cs .subs) ch → filled ≡ 24 + R.sampleBytes t ch → numberAt (w .from) 4 (now (s .entry)) 0 ≡ t → numberAt (w .from) 4 (now (s .entry)) 4 ≡ size → numberAt (w .from) 4 (now (s .entry)) 8 ≡ count → R.span hd ≡ 16 + length (now (s .entry)) → see (w .from) b (now (s .entry)) b (R.framesBody c ch hd) ≡ goes f e → now (d .exit) ≡ copy w b (now (s .entry)) b (R.framesBody c ch hd)) ⌝ }
+    requires { ⌜ (cs .subs + 256 * cs .count ≤ length (now file)) × (t ≤ 3600) × (24 ≤ filled) × (filled ≤ size) ×
+        (16 + size * count ≤ length (now s)) × (length (now d) ≡ length (now s)) ⌝ }
+    ensures { λ _. ⌜ ((b : ℕ) (c : R.Basic) (ch : List R.Channel) (hd : R.Head) (f : R.Frames) (e : ℕ) → length ch ≡ cs .count →
+        Kept (w .from) (now (file .entry)) (cs .subs) ch → filled ≡ 24 + R.sampleBytes t ch →
+        numberAt (w .from) 4 (now (s .entry)) 0 ≡ t → numberAt (w .from) 4 (now (s .entry)) 4 ≡ size →
+        numberAt (w .from) 4 (now (s .entry)) 8 ≡ count → R.span hd ≡ 16 + length (now (s .entry)) →
+        see (w .from) b (now (s .entry)) b (R.framesBody c ch hd) ≡ goes f e →
+        now (d .exit) ≡ copy w b (now (s .entry)) b (R.framesBody c ch hd)) ⌝ }
 {
     let o = w.from;
     let widths = widths_of(o, file, cs);
     let reserve = Frames::BODY_RESERVE;
     let mut from = Frames::BODY_FIRST;
     let mut k = Frames::BODY_FIRST;
-    numbers(w, 4, 3, &s[..reserve], &mut d[..reserve]);
+    numbers(
+        w,
+        Head::WIDTH,
+        Frames::NUMBERS,
+        &s[..reserve],
+        &mut d[..reserve],
+    );
     reserved(w, &s[reserve..from], &mut d[reserve..k]);
     let mut i: u32 = 0;
     while i < count {
@@ -101,7 +110,10 @@ fn frames_body(
 // The body s of a 140, with the records 125 that hold for it, if there is room for it.
 fn body_if_room(w: Way, file: &[u8], cs: Channels, s: &[u8], out: &mut [u8], k: usize) -> usize
     requires { ⌜ (cs .subs + 256 * cs .count ≤ length (now file)) × (cs .count ≤ 128) × (16 ≤ length (now s)) × (k ≤ length (now out)) ⌝ }
-    ensures { λ r. ⌜ (r ≤ length (now (out .entry))) × ((b : ℕ) (c : R.Basic) (ch : List R.Channel) (hd : R.Head) (f : R.Frames) (e : ℕ) → length ch ≡ cs .count → Kept (w .from) (now (file .entry)) (cs .subs) ch → R.span hd ≡ 16 + length (now (s .entry)) → see (w .from) b (now (s .entry)) b (R.framesBody c ch hd) ≡ goes f e → Pastes (now (out .entry)) (now (out .exit)) k r (copy w b (now (s .entry)) b (R.framesBody c ch hd))) ⌝ }
+    ensures { λ r. ⌜ (r ≤ length (now (out .entry))) × ((b : ℕ) (c : R.Basic) (ch : List R.Channel) (hd : R.Head) (f : R.Frames) (e : ℕ) →
+        length ch ≡ cs .count → Kept (w .from) (now (file .entry)) (cs .subs) ch → R.span hd ≡ 16 + length (now (s .entry)) →
+        see (w .from) b (now (s .entry)) b (R.framesBody c ch hd) ≡ goes f e →
+        Pastes (now (out .entry)) (now (out .exit)) k r (copy w b (now (s .entry)) b (R.framesBody c ch hd))) ⌝ }
 {
     let o = w.from;
     let t = records::field(o, s, Frames::SECONDS);
@@ -110,7 +122,7 @@ fn body_if_room(w: Way, file: &[u8], cs: Channels, s: &[u8], out: &mut [u8], k: 
     if Frames::MOST_SECONDS < t {
         return k;
     }
-    let bytes = records::sample_bytes(o, file, cs.subs, cs.count, t);
+    let bytes = records::channels::sample_bytes(o, file, cs.subs, cs.count, t);
     if !fits(bytes, size, count, s.len()) {
         return k;
     }
@@ -123,32 +135,25 @@ fn body_if_room(w: Way, file: &[u8], cs: Channels, s: &[u8], out: &mut [u8], k: 
     end
 }
 
-// The rest of the 140 whose head is h, with the records 125 that hold for it, and what `next` writes behind it.
+// The 140 at byte p of the part s, which ends at byte `end`, with the records 125 that hold for it: where the next bytes go.
 pub fn frames(
     w: Way,
     file: &[u8],
     cs: Channels,
     s: &[u8],
-    base: usize,
-    h: Head,
+    p: usize,
+    end: usize,
     out: &mut [u8],
     k: usize,
-) -> Marked
-    requires { ⌜ (cs .subs + 256 * cs .count ≤ length (now file)) × (cs .count ≤ 128) × (h .at ≤ length (now s)) × Addressable (base + length (now s)) × (k ≤ length (now out)) ⌝ }
-    ensures { λ r. ⌜ (r .next .at ≤ length (now (s .entry))) × (r .k ≤ length (now (out .entry))) × ((c : R.Basic) (own : Bool) (ch : List R.Channel) (back : ℕ) → h .code ≡ 140 → length ch ≡ cs .count → Kept (w .from) (now (file .entry)) (cs .subs) ch → RecordCopied w base (now (s .entry)) h (R.frames c own ch back) (now (out .entry)) (now (out .exit)) k (r .k) (r .next)) ⌝ }
+) -> usize
+    requires { ⌜ (cs .subs + 256 * cs .count ≤ length (now file)) × (cs .count ≤ 128) ×
+        (p + 16 ≤ end) × (end ≤ length (now s)) × (k ≤ length (now out)) ⌝ }
+    ensures { λ r. ⌜ FramesSent w (now (file .entry)) cs (now (s .entry)) p end (now (out .entry)) (now (out .exit)) k r ⌝ }
 {
-    let room = records::admit(
-        h,
-        base,
-        s.len(),
-        Head::MOST,
-        Fits::AtLeast(Frames::LEAST),
-        Serial::Is(0),
-    );
-    let Step::On(end) = room else {
-        return Marked { next: h, k };
-    };
-    let from = h.at + Head::LENGTH;
-    let behind = body_if_room(w, file, cs, &s[from..end], out, k);
-    next(w, s, base, end, out, behind)
+    if end - p < Frames::LEAST {
+        return k;
+    }
+    let from = p + Head::LENGTH;
+    let at = head(w, s, p, out, k);
+    body_if_room(w, file, cs, &s[from..end], out, at)
 }

@@ -11,7 +11,8 @@ use permit::Written;
 
 // Judges the file, then writes it in the other byte order into `out`.
 pub fn turn(file: &[u8], out: &mut [u8]) -> Written
-    ensures { λ a. ⌜ (meaning a ≡ answerOf (now (file .entry)) (length (now (out .entry)))) × (now (out .exit) ≡ afterwards (now (file .entry)) (now (out .entry))) ⌝ }
+    ensures { λ a. ⌜ (meaning a ≡ answerOf (now (file .entry)) (length (now (out .entry)))) ×
+        (now (out .exit) ≡ afterwards (now (file .entry)) (now (out .entry))) ⌝ }
 {
     let judged = judge::judge(file);
     let Judged::Accepted(h) = judged else {

@@ -9,19 +9,21 @@ ghost use Rattle.words.specs.Numbers as N;
 ghost use Rattle.words.specs.Runs.{pasted};
 ghost use Rattle.walk.specs.See.{see, goes};
 ghost use Rattle.rules.specs.Rules as R;
-ghost use Rattle.records.specs.Says.{Kept};
 ghost use Rattle.descriptions.specs.Tabled.{Room, Stand};
-ghost use Rattle.bodies.specs.Copy.{copy, Holds};
-ghost use Rattle.turn.specs.Turn.{turning};
+ghost use Rattle.bodies.specs.Copy.{copy};
+ghost use Rattle.turn.specs.Turn.{turning, ChildSent, LastSent, BodySent};
 use bodies::Way;
 use bodies::runs::letter;
 use bulk::copy_run;
+use children::Direct;
 use descriptions::Before;
 use descriptions::Places;
 use judge::recording::Recorded;
 use judge::recording::recording_again;
 use rules::Channels;
+use rules::Delimiter;
 use rules::FileHeader;
+use rules::Frames;
 use rules::Head;
 use words::Order;
 
@@ -38,31 +40,76 @@ fn other(o: Order) -> Order
 // The file header, with the letter of the order that is written.
 fn header(w: Way, s: &[u8], d: &mut [u8])
     requires { ⌜ (length (now s) ≡ 32) × (length (now d) ≡ 32) ⌝ }
-    ensures { λ _. ⌜ ((n : ℕ) (f : R.FileHeader) (e : ℕ) → see (w .from) 0 (now (s .entry)) 0 (R.fileHeader n) ≡ goes f e → now (d .exit) ≡ copy w 0 (now (s .entry)) 0 (R.fileHeader n)) ⌝ }
+    ensures { λ _. ⌜ ((n : ℕ) (f : R.FileHeader) (e : ℕ) → see (w .from) 0 (now (s .entry)) 0 (R.fileHeader n) ≡ goes f e →
+        now (d .exit) ≡ copy w 0 (now (s .entry)) 0 (R.fileHeader n)) ⌝ }
 {
     let to = w.to;
     copy_run(s, d);
     d[FileHeader::ORDER] = letter(to);
 }
 
-// A recording's body, which stands at `base`, with the records 125 that hold for it.
-fn body(w: Way, file: &[u8], cs: Channels, s: &[u8], base: usize, out: &mut [u8], k: usize)
-    requires { ⌜ (cs .subs + 256 * cs .count ≤ length (now file)) × (cs .count ≤ 128) × Addressable (base + length (now s)) × (k ≤ length (now out)) ⌝ }
-    ensures { λ _. ⌜ ((held : Option R.Held) (h : R.Head) (x : R.Placed) (e : ℕ) → R.span h ≡ 16 + length (now (s .entry)) → length (x .recording .channels) ≡ cs .count → Kept (w .from) (now (file .entry)) (cs .subs) (x .recording .channels) → see (w .from) base (now (s .entry)) base (R.recordingBody held h) ≡ goes x e → Holds (now (out .entry)) (now (out .exit)) k (copy w base (now (s .entry)) base (R.recordingBody held h))) ⌝ }
+// The record with the head h that stands in a recording, up to byte `end` of its body s, with the records 125 that hold for it.
+fn child(
+    w: Way,
+    file: &[u8],
+    cs: Channels,
+    s: &[u8],
+    h: Head,
+    end: usize,
+    out: &mut [u8],
+    k: usize,
+) -> usize
+    requires { ⌜ (cs .subs + 256 * cs .count ≤ length (now file)) × (cs .count ≤ 128) ×
+        (h .at + 16 ≤ end) × (end ≤ length (now s)) × (k ≤ length (now out)) ⌝ }
+    ensures { λ r. ⌜ ChildSent w (now (file .entry)) cs (now (s .entry)) h end (now (out .entry)) (now (out .exit)) k r ⌝ }
 {
-    let t = transcripts::tables(w, s, base, out, k);
-    let d = crate::frames::frames(w, file, cs, s, base, t.next, out, t.k);
-    let rest = d.next.at + Head::LENGTH;
-    if s.len() < rest {
+    if h.code == Frames::CODE {
+        return crate::frames::frames(w, file, cs, s, h.at, end, out, k);
+    }
+    transcripts::transcribe(w, s, h, end, out, k)
+}
+
+// The delimiter at byte p of a recording's body s, and what pads the recording.
+fn last(w: Way, s: &[u8], p: usize, out: &mut [u8], k: usize)
+    requires { ⌜ (p ≤ length (now s)) × (k ≤ length (now out)) ⌝ }
+    ensures { λ _. ⌜ LastSent w (now (s .entry)) p (now (out .entry)) (now (out .exit)) k ⌝ }
+{
+    if s.len() - p < Delimiter::LENGTH {
         return;
     }
-    transcripts::text(&s[rest..], out, d.k);
+    let rest = p + Delimiter::LENGTH;
+    let at = transcripts::head(w, s, p, out, k);
+    transcripts::text(&s[rest..], out, at);
+}
+
+// A recording's body, which stands at `base`, with the records 125 that hold for it.
+fn body(w: Way, file: &[u8], cs: Channels, s: &[u8], base: usize, out: &mut [u8], k: usize)
+    requires { ⌜ (cs .subs + 256 * cs .count ≤ length (now file)) × (cs .count ≤ 128) ×
+        Addressable (base + length (now s)) × (k ≤ length (now out)) ⌝ }
+    ensures { λ _. ⌜ BodySent w (now (file .entry)) cs (now (s .entry)) base (now (out .entry)) (now (out .exit)) k ⌝ }
+{
+    let o = w.from;
+    let mut p: usize = 0;
+    let mut next = k;
+    loop {
+        let there = children::record_at(o, s, base, p);
+        let Direct::Record(h, end) = there else {
+            last(w, s, p, out, next);
+            return;
+        };
+        next = child(w, file, cs, s, h, end, out, next);
+        p = end;
+    }
 }
 
 // The recording from byte p of the file on, which has these places.
 fn recording(w: Way, file: &[u8], p: usize, q: Places, out: &mut [u8])
-    requires { ⌜ (p ≤ q .end) × (q .end ≤ length (now file)) × Addressable (length (now file)) × (length (now file) ≤ length (now out)) × Room (length (now file)) (q .channels) (q .count) ⌝ }
-    ensures { λ _. ⌜ ((held : Option R.Held) (i : ℕ) (x : R.Placed) → see (w .from) 0 (now (file .entry)) p (R.recording held (length (now (file .entry)) - p) i) ≡ goes x (q .end) → Stand (w .from) (now (file .entry)) (q .channels) (q .count) (x .recording .channels) → now (out .exit) ≡ pasted (now (out .entry)) p (copy w 0 (now (file .entry)) p (R.recording held (length (now (file .entry)) - p) i))) ⌝ }
+    requires { ⌜ (p ≤ q .end) × (q .end ≤ length (now file)) × Addressable (length (now file)) × (length (now file) ≤ length (now out)) ×
+        Room (length (now file)) (q .channels) (q .count) ⌝ }
+    ensures { λ _. ⌜ ((held : Option R.Held) (i : ℕ) (x : R.Placed) →
+        see (w .from) 0 (now (file .entry)) p (R.recording held (length (now (file .entry)) - p) i) ≡ goes x (q .end) →
+        Stand (w .from) (now (file .entry)) (q .channels) (q .count) (x .recording .channels) →
+        now (out .exit) ≡ pasted (now (out .entry)) p (copy w 0 (now (file .entry)) p (R.recording held (length (now (file .entry)) - p) i))) ⌝ }
 {
     let base = p + Head::LENGTH;
     let end = q.end;
@@ -80,7 +127,12 @@ fn recording(w: Way, file: &[u8], p: usize, q: Places, out: &mut [u8])
 // A file with so many recordings.
 pub fn file_turned(o: Order, file: &[u8], count: u32, out: &mut [u8])
     requires { ⌜ (32 ≤ length (now file)) × Addressable (length (now file)) × (length (now file) ≤ length (now out)) ⌝ }
-    ensures { λ _. ⌜ ((f : R.FileHeader) (ps : List R.Placed) (e : ℕ) → see o 0 (now (file .entry)) 0 (R.fileHeader (length (now (file .entry)))) ≡ goes f 32 → see o 0 (now (file .entry)) 32 (R.recordings count none (length (now (file .entry)) - 32) 1) ≡ goes ps e → now (out .exit) ≡ pasted (now (out .entry)) 0 (copy (turning o) 0 (now (file .entry)) 0 (R.fileHeader (length (now (file .entry)))) ++ copy (turning o) 0 (now (file .entry)) 32 (R.recordings count none (length (now (file .entry)) - 32) 1))) ⌝ }
+    ensures { λ _. ⌜ ((f : R.FileHeader) (ps : List R.Placed) (e : ℕ) →
+        see o 0 (now (file .entry)) 0 (R.fileHeader (length (now (file .entry)))) ≡ goes f 32 →
+        see o 0 (now (file .entry)) 32 (R.recordings count none (length (now (file .entry)) - 32) 1) ≡ goes ps e →
+        now (out .exit) ≡ pasted (now (out .entry)) 0
+        (copy (turning o) 0 (now (file .entry)) 0 (R.fileHeader (length (now (file .entry)))) ++
+        copy (turning o) 0 (now (file .entry)) 32 (R.recordings count none (length (now (file .entry)) - 32) 1))) ⌝ }
 {
     let w = Way {
         from: o,

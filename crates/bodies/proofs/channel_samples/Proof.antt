@@ -6,7 +6,7 @@ use denote.Ref.{now}
 use lib.ListN.{length-take, length-drop}
 use borrow.Author.Needs.{needs}
 use Rattle.records.proofs.Facts.{bytes-short}
-use Rattle.bodies.proofs.Filling.{two-wide, samples-past, samples-copied}
+use Rattle.bodies.proofs.Filling.{sample-wide, samples-past, samples-copied}
 use Rattle.bodies.proofs.channel_samples.Statement.{statement}
 use Rattle.bodies.proofs.channel_samples.Tie as tie
 
@@ -68,7 +68,7 @@ part-numbers-end-2 c = search needs
 
 numbers-requires : tie.Need-numbers-requires
 numbers-requires c κs =
-    (rw (c .before .before .before .before .width .ensures .0) (two-wide _), c .before .before .before .before .width .ensures .1, simp (length-take, length-drop) (omega arith), simp (length-take, length-drop) (omega arith))
+    (rw (c .before .before .before .before .width .ensures .0) (sample-wide _ .0), c .before .before .before .before .width .ensures .1, simp (length-take, length-drop) (omega arith), simp (length-take, length-drop) (omega arith))
 
 same-length : tie.Need-same-length
 same-length c = search needs

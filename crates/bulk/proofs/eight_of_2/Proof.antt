@@ -17,11 +17,11 @@ start c = c .before .before .before .before .before .before .before .before .bef
 
 -- the place of a store, after the stores vs
 next : (c : tie.After-shared-slice-known16) (vs : List ℕ) → length vs < 16 → length vs < length (sets (start c .args .d .now) 0 vs)
-next c vs h = next-store 16 _ vs (start c .pre .1) h
+next c vs h = next-store 16 _ vs (start c .pre .room) h
 
 returns : tie.Need-returns
 unfolding turned
-returns c = block-turned 2 8 (1 ∷ 0 ∷ 3 ∷ 2 ∷ 5 ∷ 4 ∷ 7 ∷ 6 ∷ 9 ∷ 8 ∷ 11 ∷ 10 ∷ 13 ∷ 12 ∷ 15 ∷ 14 ∷ []) (start c .args .s .now) (start c .args .d .now) (start c .pre .0) (start c .pre .1) refl
+returns c = block-turned (1 ∷ 0 ∷ 3 ∷ 2 ∷ 5 ∷ 4 ∷ 7 ∷ 6 ∷ 9 ∷ 8 ∷ 11 ∷ 10 ∷ 13 ∷ 12 ∷ 15 ∷ 14 ∷ []) (start c .pre) refl refl
 
 pub eight-of-2-spec : {M : Type 1} → statement M
 eight-of-2-spec =

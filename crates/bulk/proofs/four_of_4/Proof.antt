@@ -17,11 +17,11 @@ start c = c .before .before .before .before .before .before .before .before .bef
 
 -- the place of a store, after the stores vs
 next : (c : tie.After-shared-slice-known16) (vs : List ℕ) → length vs < 16 → length vs < length (sets (start c .args .d .now) 0 vs)
-next c vs h = next-store 16 _ vs (start c .pre .1) h
+next c vs h = next-store 16 _ vs (start c .pre .room) h
 
 returns : tie.Need-returns
 unfolding turned
-returns c = block-turned 4 4 (3 ∷ 2 ∷ 1 ∷ 0 ∷ 7 ∷ 6 ∷ 5 ∷ 4 ∷ 11 ∷ 10 ∷ 9 ∷ 8 ∷ 15 ∷ 14 ∷ 13 ∷ 12 ∷ []) (start c .args .s .now) (start c .args .d .now) (start c .pre .0) (start c .pre .1) refl
+returns c = block-turned (3 ∷ 2 ∷ 1 ∷ 0 ∷ 7 ∷ 6 ∷ 5 ∷ 4 ∷ 11 ∷ 10 ∷ 9 ∷ 8 ∷ 15 ∷ 14 ∷ 13 ∷ 12 ∷ []) (start c .pre) refl refl
 
 pub four-of-4-spec : {M : Type 1} → statement M
 four-of-4-spec =

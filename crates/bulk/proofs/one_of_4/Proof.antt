@@ -8,11 +8,12 @@ use Rattle.bulk.proofs.Blocks.{block-turned}
 use Rattle.bulk.proofs.one_of_4.Statement.{statement}
 use Rattle.bulk.proofs.one_of_4.Tie as tie
 
+abbrev start : tie.After-shared-slice-known4 → tie.Start
+start c = c .before .before .before .before
+
 returns : tie.Need-returns
 unfolding turned
-returns c =
-    let start = c .before .before .before .before in
-    block-turned 4 1 (3 ∷ 2 ∷ 1 ∷ 0 ∷ []) (start .args .s .now) (start .args .d .now) (start .pre .0) (start .pre .1) refl
+returns c = block-turned (3 ∷ 2 ∷ 1 ∷ 0 ∷ []) (start c .pre) refl refl
 
 pub one-of-4-spec : {M : Type 1} → statement M
 one-of-4-spec =

@@ -1,25 +1,33 @@
--- `bulk::put_words` meets its contract.
+-- `bulk::put_words` meets its contract: three parts, one behind the other.
 -- Assumes nothing.
-use mathlib.Core.Path.{ap, _∙_}
-use mathlib.Core.List.{_++_}
-use lib.ListN.{length}
+use mathlib.Core.Path.{refl}
+use mathlib.Core.List.{[]}
+use native.Mathlib.Omega.{arith}
 use borrow.Author.Needs.{needs}
-use Rattle.words.proofs.Words.{length-bytesOf}
-use Rattle.bulk.proofs.Blocks.{three-parts}
+use Rattle.words.specs.Numbers.{bytesOf}
+use Rattle.words.proofs.Fronts.{begun, begun-more}
+use Rattle.bulk.proofs.Blocks.{begun-all}
 use Rattle.bulk.proofs.put_words.Statement.{statement}
 use Rattle.bulk.proofs.put_words.Tie as tie
 
+-- behind the second word, the first word, and the start
+abbrev second : tie.After-put-83 → tie.After-put-82
+second c = c .before .before .before .before
+
+abbrev first : tie.After-put-82 → tie.After-put-8
+first c = c .before .before .before .before
+
 returns : tie.Need-returns
+unfolding bytesOf
 returns c =
     let p₃ = c .before .before in
-    let p₂ = p₃ .before .before .before .before in
-    let p₁ = p₂ .before .before .before .before in
+    let p₂ = second p₃ in
+    let p₁ = first p₂ in
     let start = p₁ .before .before .before in
-    let x = p₁ .put-8 .ensures in
-    let y = p₂ .put-82 .ensures in
-    let z = p₃ .put-83 .ensures in
-    three-parts 8 (start .args .d .now) (p₁ .put-8 .last .0) (p₂ .put-82 .last .0) (ap length x ∙ length-bytesOf 8 _) (ap length y ∙ length-bytesOf 8 _) (p₃ .put-83 .last .0) (ap length z ∙ length-bytesOf 8 _) (start .pre)
-    ∙ (λ i. (x i ++ y i) ++ z i)
+    begun-all
+    (begun-more _ 16 8 _ _ [] (p₃ .put-83 .ensures) refl (omega arith)
+    (begun-more _ 8 8 _ _ _ (p₂ .put-82 .ensures) refl (omega arith) (begun-more (start .args .d .now) 0 8 _ _ _ (p₁ .put-8 .ensures) refl (omega arith) (begun _ (start .pre)))))
+    (omega arith)
 
 pub put-words-spec : {M : Type 1} → statement M
 put-words-spec =

@@ -1,29 +1,31 @@
 -- `bulk::turn4` meets its contract, by the laws of a turning loop.
 -- Assumes nothing.
+use mathlib.Core.Path.{refl}
 use Prim.Native.Nat.{_+_, _-_}
 use native.Mathlib.Omega.{arith}
-use lib.ListN.{length}
 use borrow.Author.Needs.{needs}
-use Rattle.bulk.proofs.Loops.{Turning, turning-none, turning-more, turning-last}
+use Rattle.bulk.proofs.Loops.{Turning, turning-none, turning-more, turning-rest}
 use Rattle.bulk.proofs.turn4.Statement.{statement}
 use Rattle.bulk.proofs.turn4.Tie as tie
 
 abbrev Inv-loop : tie.InvT-loop
-Inv-loop src dst₀ n i₀ at₀ dst i at = Turning 4 n src dst₀ dst i at
+Inv-loop src dst₀ n i₀ at₀ dst i at = Turning 4 n src dst i at
 
 abbrev μ-loop : tie.MeasureT-loop
 μ-loop src dst₀ n i₀ at₀ dst i at = n - i
 
+-- the loop's test, before the block that was turned and before the rest
+abbrev top : tie.After-slice-known2 Inv-loop μ-loop → tie.At-loop Inv-loop μ-loop
+top c = c .before .before .before .before .before .before
+
+abbrev end : tie.After-slice-known3 Inv-loop μ-loop → tie.At-loop Inv-loop μ-loop
+end c = c .before .before .before .before .before .before
+
 loop-again : tie.Need-loop-again Inv-loop μ-loop
-loop-again c =
-    let l = c .before .before .before .before .before .before .loop in
-    turning-more 4 _ _ _ (omega arith) (omega arith) 4 (l .i) (l .at) (l .at + 16) (l .at + 16 - l .at) (l .at + 16 - l .at) (l .dst) _ (l .inv) (omega arith) (omega arith) (omega arith) (omega arith) (c .before .before .four-of-4 .ensures)
+loop-again c = turning-more 4 (top c .loop .at + 16) (top c .loop .inv) (omega arith) refl (c .before .before .four-of-4 .ensures)
 
 returns : tie.Need-returns Inv-loop μ-loop
-returns c =
-    let l = c .before .before .before .before .before .before .loop in
-    let a = c .before .before .before .before .before .before .before .before .before .args in
-    turning-last 4 _ _ _ (omega arith) (omega arith) (a .n - l .i) (l .i) (l .at) (length (a .src .now) - l .at) (length (l .dst) - l .at) (l .dst) _ (l .inv) (omega arith) (omega arith) (omega arith) (c .before .before .rest-of-4 .ensures)
+returns c = turning-rest (end c .loop .inv) (c .before .before .rest-of-4 .ensures)
 
 pub turn4-spec : {M : Type 1} → statement M
 turn4-spec =
@@ -31,7 +33,7 @@ turn4-spec =
     (tie.spec
     Inv-loop
     μ-loop
-    (λ c. turning-none _ _ _ _)
+    (λ c. turning-none (c .before .before .pre))
     (λ c. search needs)
     (λ c. search needs)
     (λ c. search needs)

@@ -1,11 +1,14 @@
--- `bulk::woven` meets its contract.
+-- `bulk::woven` meets its contract: three words, each by its own call.
 -- Assumes nothing.
 use borrow.Author.Needs.{needs}
 use Rattle.bulk.proofs.woven.Statement.{statement}
 use Rattle.bulk.proofs.woven.Tie as tie
 
 returns : tie.Need-returns
-returns c = rw (c .before .before .before .before .word-of-8 .ensures, c .before .before .word-of-82 .ensures, c .word-of-83 .ensures)
+returns c =
+    let middle = c .before .before in
+    let last = middle .before .before in
+    rw (last .word-of-8 .ensures, middle .word-of-82 .ensures, c .word-of-83 .ensures)
 
 pub woven-spec : {M : Type 1} → statement M
 woven-spec =

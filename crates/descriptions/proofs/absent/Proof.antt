@@ -1,3 +1,4 @@
+-- `descriptions::absent` meets its contract: a part that is absent: what holds in its place, or the refusal of the head that stands there.
 use native.Mathlib.Nat.{add-assoc}
 use borrow.Author.Needs.{needs}
 use Rattle.descriptions.proofs.absent.Statement.{statement}

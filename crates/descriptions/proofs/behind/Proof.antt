@@ -1,3 +1,4 @@
+-- `descriptions::behind` meets its contract: a part that stands at byte `at` and stops at byte `end`: the head of the next record.
 use mathlib.Core.Path.{refl}
 use borrow.Author.Needs.{needs}
 use Rattle.descriptions.proofs.behind.Statement.{statement}
@@ -16,15 +17,15 @@ of-head-requires : tie.Need-of-head-requires
 of-head-requires c κs = search needs
 
 returns : tie.Need-returns
-returns c = simp (c .of-head .ensures, c .before .enum-told .given .1) (rw (c .before .enum-told .given .1) at (c .before .before .before .next-head .ensures .0), tt)
+returns c = simp (c .of-head .ensures, c .before .enum-told .given .1) (rw (c .before .enum-told .given .1) at (c .before .before .before .next-head .ensures .seen), tt)
 
 add-t9 : tie.Need-add-t9
 add-t9 c = search needs
 
 returns-2 : tie.Need-returns-2
 returns-2 c =
-    let w = rw (c .before .found .given .1) at (c .before .before .before .next-head .ensures .1) in
-    (rw (c .before .found .given .1) at (c .before .before .before .next-head .ensures .0), (refl, refl, w .0, w .1))
+    let w = rw (c .before .found .given .1) at (c .before .before .before .next-head .ensures .stands) in
+    (rw (c .before .found .given .1) at (c .before .before .before .next-head .ensures .seen), (refl, refl, w .0, w .1))
 
 pub behind-spec : {M : Type 1} → statement M
 behind-spec =

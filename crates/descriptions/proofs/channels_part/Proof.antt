@@ -1,3 +1,4 @@
+-- `descriptions::channels_part` meets its contract.
 use Prim.Native.Nat.{_+_}
 use native.Mathlib.Omega.{arith}
 use borrow.Author.Tests.{eq-eqb, ne-eqb}
@@ -45,10 +46,10 @@ returns-2 c =
     let h = c .before .before .before .before .before .before .before .args .h in
     let held = c .before .before .before .before .before .before .before .args .held in
     let m = c .before .before .before .before .before .before .before .args .channels in
-    simp (c .of-step .ensures, c .before .enum-told .given .1) ((λ x e. judges-stop o base s 120 (R.channels x) (Owned o s (h .at) m) h held (eq-eqb _ _ (c .before .before .before .before .if1 .left)) _ (rw (c .before .enum-told .given .1) at (c .before .before .before .channels-at .ensures .0 x e))), tt)
+    simp (c .of-step .ensures, c .before .enum-told .given .1) ((λ x e. judges-stop o base s 120 (R.channels x) (Owned o s (h .at) m) h held (eq-eqb _ _ (c .before .before .before .before .if1 .left)) _ (rw (c .before .enum-told .given .1) at (c .before .before .before .channels-at .ensures .seen x e))), tt)
 
 behind-requires : tie.Need-behind-requires
-behind-requires c κs = let w = rw (c .before .step .given .1) at (c .before .before .before .channels-at .ensures .1) in omega arith
+behind-requires c κs = let w = rw (c .before .step .given .1) at (c .before .before .before .channels-at .ensures .stands) in omega arith
 
 returns-3 : tie.Need-returns-3
 returns-3 c =
@@ -59,8 +60,8 @@ returns-3 c =
     let held = c .before .before .before .before .before .before .before .before .args .held in
     let m = c .before .before .before .before .before .before .before .before .args .channels in
     let q = c .before .before .step .given .0 .0 in
-    let w = rw (c .before .before .step .given .1) at (c .before .before .before .before .channels-at .ensures .1) in
-    ((λ x e. judges-behind o base s 120 (R.channels x) (Owned o s (h .at) m) h held (eq-eqb _ _ (c .before .before .before .before .before .if1 .left)) (stays-channelsRest x) q (c .before .before .before .before .before .before .before .before .pre .0) (w .1) (rw (c .before .before .step .given .1) at (c .before .before .before .before .channels-at .ensures .0 x e)) (owned o base s x _ _ (h .at) q m e (w .1)) (c .behind .result) (c .behind .ensures .0) (c .behind .ensures .1)), follows-stood (base + h .at) (h .at) q (length s) (c .behind .result) (omega arith) (c .behind .ensures .1))
+    let w = rw (c .before .before .step .given .1) at (c .before .before .before .before .channels-at .ensures .stands) in
+    ((λ x e. judges-behind o base s 120 (R.channels x) (Owned o s (h .at) m) h held (eq-eqb _ _ (c .before .before .before .before .before .if1 .left)) (stays-channelsRest x) q (c .before .before .before .before .before .before .before .before .pre .0) (w .1) (rw (c .before .before .step .given .1) at (c .before .before .before .before .channels-at .ensures .seen x e)) (owned o base s x _ _ (h .at) q m e (w .1)) (c .behind .result) (c .behind .ensures .0) (c .behind .ensures .1)), follows-stood (base + h .at) (h .at) q (length s) (c .behind .result) (omega arith) (c .behind .ensures .1))
 
 pub channels-part-spec : {M : Type 1} → statement M
 channels-part-spec =

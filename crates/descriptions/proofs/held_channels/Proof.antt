@@ -1,3 +1,4 @@
+-- `descriptions::held_channels` meets its contract.
 use borrow.Author.Needs.{needs}
 use Rattle.descriptions.proofs.held_channels.Statement.{statement}
 use Rattle.descriptions.proofs.held_channels.Tie as tie

@@ -1,3 +1,4 @@
+-- `descriptions::held_patient` meets its contract.
 use borrow.Author.Needs.{needs}
 use Rattle.descriptions.proofs.held_patient.Statement.{statement}
 use Rattle.descriptions.proofs.held_patient.Tie as tie

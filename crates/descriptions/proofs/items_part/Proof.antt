@@ -1,3 +1,4 @@
+-- `descriptions::items_part` meets its contract.
 use Prim.Native.Nat.{_+_}
 use native.Mathlib.Omega.{arith}
 use borrow.Author.Tests.{eq-eqb, ne-eqb}
@@ -48,10 +49,10 @@ returns-2 c =
     let h = c .before .before .before .before .before .before .before .before .args .h in
     let held = c .before .before .before .before .before .before .before .before .args .held in
     let k = c .before .before .before .before .before .before .before .before .args .k in
-    simp (c .of-step .ensures, c .before .enum-told .given .1) (judges-stop o base s (codeOf k) (R.items (okOf k)) (λ _. Unit {0}) h held (eq-eqb _ _ (rw (c .before .before .before .before .before .before .items-code .ensures) at (c .before .before .before .before .if1 .left))) _ (rw (c .before .enum-told .given .1) at (c .before .before .before .items-at .ensures .0)), tt)
+    simp (c .of-step .ensures, c .before .enum-told .given .1) (judges-stop o base s (codeOf k) (R.items (okOf k)) (λ _. Unit {0}) h held (eq-eqb _ _ (rw (c .before .before .before .before .before .before .items-code .ensures) at (c .before .before .before .before .if1 .left))) _ (rw (c .before .enum-told .given .1) at (c .before .before .before .items-at .ensures .seen)), tt)
 
 behind-requires : tie.Need-behind-requires
-behind-requires c κs = let w = rw (c .before .step .given .1) at (c .before .before .before .items-at .ensures .1) in omega arith
+behind-requires c κs = let w = rw (c .before .step .given .1) at (c .before .before .before .items-at .ensures .stands) in omega arith
 
 returns-3 : tie.Need-returns-3
 returns-3 c =
@@ -62,8 +63,8 @@ returns-3 c =
     let held = c .before .before .before .before .before .before .before .before .before .args .held in
     let k = c .before .before .before .before .before .before .before .before .before .args .k in
     let q = c .before .before .step .given .0 .0 in
-    let w = rw (c .before .before .step .given .1) at (c .before .before .before .before .items-at .ensures .1) in
-    (judges-behind o base s (codeOf k) (R.items (okOf k)) (λ _. Unit {0}) h held (eq-eqb _ _ (rw (c .before .before .before .before .before .before .before .items-code .ensures) at (c .before .before .before .before .before .if1 .left))) (stays-itemsRest (okOf k)) q (c .before .before .before .before .before .before .before .before .before .pre .0) (w .1) (rw (c .before .before .step .given .1) at (c .before .before .before .before .items-at .ensures .0)) (λ _ _. tt) (c .behind .result) (c .behind .ensures .0) (c .behind .ensures .1), follows-stood (base + h .at) (h .at) q (length s) (c .behind .result) (omega arith) (c .behind .ensures .1))
+    let w = rw (c .before .before .step .given .1) at (c .before .before .before .before .items-at .ensures .stands) in
+    (judges-behind o base s (codeOf k) (R.items (okOf k)) (λ _. Unit {0}) h held (eq-eqb _ _ (rw (c .before .before .before .before .before .before .before .items-code .ensures) at (c .before .before .before .before .before .if1 .left))) (stays-itemsRest (okOf k)) q (c .before .before .before .before .before .before .before .before .before .pre .0) (w .1) (rw (c .before .before .step .given .1) at (c .before .before .before .before .items-at .ensures .seen)) (λ _ _. tt) (c .behind .result) (c .behind .ensures .0) (c .behind .ensures .1), follows-stood (base + h .at) (h .at) q (length s) (c .behind .result) (omega arith) (c .behind .ensures .1))
 
 pub items-part-spec : {M : Type 1} → statement M
 items-part-spec =

@@ -1,3 +1,4 @@
+-- `descriptions::of_basic` meets its contract.
 use borrow.Author.Needs.{needs}
 use Rattle.descriptions.proofs.of_basic.Statement.{statement}
 use Rattle.descriptions.proofs.of_basic.Tie as tie

@@ -1,3 +1,4 @@
+-- `descriptions::of_part` meets its contract.
 use borrow.Author.Needs.{needs}
 use Rattle.descriptions.proofs.of_part.Statement.{statement}
 use Rattle.descriptions.proofs.of_part.Tie as tie

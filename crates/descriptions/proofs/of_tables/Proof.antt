@@ -1,3 +1,4 @@
+-- `descriptions::of_tables` meets its contract.
 use borrow.Author.Needs.{needs}
 use Rattle.descriptions.proofs.of_tables.Statement.{statement}
 use Rattle.descriptions.proofs.of_tables.Tie as tie

@@ -1,3 +1,4 @@
+-- `descriptions::read_tables` meets its contract: the tables of the recording whose body is s, which stands at `base` in the file.
 use Prim.Native.Nat.{_+_}
 use native.Mathlib.Omega.{arith}
 use denote.Ref.{now}
@@ -48,14 +49,14 @@ returns-2 c =
     let o = c .before .before .before .before .before .before .before .before .before .args .o in
     let s = now (c .before .before .before .before .before .before .before .before .before .args .s) in
     let base = c .before .before .before .before .before .before .before .before .before .args .base in
-    simp (c .of-head .ensures, c .before .enum-told2 .given .1) ((λ file held is has. tables-next o base s held (c .before .before .before .before .before .first .given .0 .0) (rw (c .before .before .before .before .before .first .given .1) at (c .before .before .before .before .before .before .before .basic-at .ensures)) (rw (c .before .enum-told2 .given .1) at (c .before .before .before .next-head .ensures .0 (16 + length s) (omega arith)))), tt)
+    simp (c .of-head .ensures, c .before .enum-told2 .given .1) ((λ file held is has. tables-next o base s held (c .before .before .before .before .before .first .given .0 .0) (rw (c .before .before .before .before .before .first .given .1) at (c .before .before .before .before .before .before .before .basic-at .ensures)) (rw (c .before .enum-told2 .given .1) at (c .before .before .before .next-head .ensures .seen (16 + length s) (omega arith)))), tt)
 
 held-channels-requires : tie.Need-held-channels-requires
 held-channels-requires c κs = search needs
 
 channels-part-requires : tie.Need-channels-part-requires
 channels-part-requires c κs =
-    let w = rw (c .before .before .found .given .1) at (c .before .before .before .before .next-head .ensures .1) in
+    let w = rw (c .before .before .found .given .1) at (c .before .before .before .before .next-head .ensures .stands) in
     (w .1, c .before .before .before .before .before .before .before .before .before .before .pre .1)
 
 enum-known-cs : tie.Need-enum-known-cs
@@ -72,7 +73,7 @@ returns-3 c =
     let o = c .before .before .before .before .before .before .before .before .before .before .before .before .before .before .args .o in
     let s = now (c .before .before .before .before .before .before .before .before .before .before .before .before .before .before .args .s) in
     let base = c .before .before .before .before .before .before .before .before .before .before .before .before .before .before .args .base in
-    let g = begun o base s (c .before .before .before .before .before .before .before .before .before .before .first .given .0 .0) (c .before .before .before .before .before .before .found .given .0 .0) (rw (c .before .before .before .before .before .before .before .before .before .before .first .given .1) at (c .before .before .before .before .before .before .before .before .before .before .before .before .basic-at .ensures)) (rw (c .before .before .before .before .before .before .found .given .1) at (c .before .before .before .before .before .before .before .before .next-head .ensures .0 (16 + length s) (omega arith))) (rw (c .before .before .before .before .before .before .found .given .1) at (c .before .before .before .before .before .before .before .before .next-head .ensures .1)) in
+    let g = begun o base s (c .before .before .before .before .before .before .before .before .before .before .first .given .0 .0) (c .before .before .before .before .before .before .found .given .0 .0) (rw (c .before .before .before .before .before .before .before .before .before .before .first .given .1) at (c .before .before .before .before .before .before .before .before .before .before .before .before .basic-at .ensures)) (rw (c .before .before .before .before .before .before .found .given .1) at (c .before .before .before .before .before .before .before .before .next-head .ensures .seen (16 + length s) (omega arith))) (rw (c .before .before .before .before .before .before .found .given .1) at (c .before .before .before .before .before .before .before .before .next-head .ensures .stands)) in
     simp (c .of-part .ensures, c .before .enum-told3 .given .1) ((λ file held is has. channels-stop o base s g (c .before .before .before .before .before .before .before .before .before .before .before .before .before .before .args .before) (c .before .before .before .before .held-channels .ensures) file held has (rw (c .before .enum-told3 .given .1) at (c .before .before .before .channels-part .ensures .0))), tt)
 
 held-patient-requires : tie.Need-held-patient-requires
@@ -97,7 +98,7 @@ returns-4 c =
     let o = c .before .before .before .before .before .before .before .before .before .before .before .before .before .before .before .before .before .before .before .args .o in
     let s = now (c .before .before .before .before .before .before .before .before .before .before .before .before .before .before .before .before .before .before .before .args .s) in
     let base = c .before .before .before .before .before .before .before .before .before .before .before .before .before .before .before .before .before .before .before .args .base in
-    let g = begun o base s (c .before .before .before .before .before .before .before .before .before .before .before .before .before .before .before .first .given .0 .0) (c .before .before .before .before .before .before .before .before .before .before .before .found .given .0 .0) (rw (c .before .before .before .before .before .before .before .before .before .before .before .before .before .before .before .first .given .1) at (c .before .before .before .before .before .before .before .before .before .before .before .before .before .before .before .before .before .basic-at .ensures)) (rw (c .before .before .before .before .before .before .before .before .before .before .before .found .given .1) at (c .before .before .before .before .before .before .before .before .before .before .before .before .before .next-head .ensures .0 (16 + length s) (omega arith))) (rw (c .before .before .before .before .before .before .before .before .before .before .before .found .given .1) at (c .before .before .before .before .before .before .before .before .before .before .before .before .before .next-head .ensures .1)) in
+    let g = begun o base s (c .before .before .before .before .before .before .before .before .before .before .before .before .before .before .before .first .given .0 .0) (c .before .before .before .before .before .before .before .before .before .before .before .found .given .0 .0) (rw (c .before .before .before .before .before .before .before .before .before .before .before .before .before .before .before .first .given .1) at (c .before .before .before .before .before .before .before .before .before .before .before .before .before .before .before .before .before .basic-at .ensures)) (rw (c .before .before .before .before .before .before .before .before .before .before .before .found .given .1) at (c .before .before .before .before .before .before .before .before .before .before .before .before .before .next-head .ensures .seen (16 + length s) (omega arith))) (rw (c .before .before .before .before .before .before .before .before .before .before .before .found .given .1) at (c .before .before .before .before .before .before .before .before .before .before .before .before .before .next-head .ensures .stands)) in
     simp (c .of-part2 .ensures, c .before .enum-told4 .given .1) ((λ file held is has. patient-stop o base s g (c .before .before .before .before .before .before .before .before .before .before .before .before .before .before .before .before .before .before .before .args .before) (c .before .before .before .before .before .before .before .before .before .held-channels .ensures) file held has (rw (c .before .before .before .before .before .before .cs .given .1) at (c .before .before .before .before .before .before .before .before .channels-part .ensures .0)) (c .before .before .before .before .held-patient .ensures) (rw (c .before .enum-told4 .given .1) at (c .before .before .before .items-part .ensures .0))), tt)
 
 items-part-requires-2 : tie.Need-items-part-requires-2
@@ -119,7 +120,7 @@ returns-5 c =
     let o = c .before .before .before .before .before .before .before .before .before .before .before .before .before .before .before .before .before .before .before .before .before .before .before .args .o in
     let s = now (c .before .before .before .before .before .before .before .before .before .before .before .before .before .before .before .before .before .before .before .before .before .before .before .args .s) in
     let base = c .before .before .before .before .before .before .before .before .before .before .before .before .before .before .before .before .before .before .before .before .before .before .before .args .base in
-    let g = begun o base s (c .before .before .before .before .before .before .before .before .before .before .before .before .before .before .before .before .before .before .before .first .given .0 .0) (c .before .before .before .before .before .before .before .before .before .before .before .before .before .before .before .found .given .0 .0) (rw (c .before .before .before .before .before .before .before .before .before .before .before .before .before .before .before .before .before .before .before .first .given .1) at (c .before .before .before .before .before .before .before .before .before .before .before .before .before .before .before .before .before .before .before .before .before .basic-at .ensures)) (rw (c .before .before .before .before .before .before .before .before .before .before .before .before .before .before .before .found .given .1) at (c .before .before .before .before .before .before .before .before .before .before .before .before .before .before .before .before .before .next-head .ensures .0 (16 + length s) (omega arith))) (rw (c .before .before .before .before .before .before .before .before .before .before .before .before .before .before .before .found .given .1) at (c .before .before .before .before .before .before .before .before .before .before .before .before .before .before .before .before .before .next-head .ensures .1)) in
+    let g = begun o base s (c .before .before .before .before .before .before .before .before .before .before .before .before .before .before .before .before .before .before .before .first .given .0 .0) (c .before .before .before .before .before .before .before .before .before .before .before .before .before .before .before .found .given .0 .0) (rw (c .before .before .before .before .before .before .before .before .before .before .before .before .before .before .before .before .before .before .before .first .given .1) at (c .before .before .before .before .before .before .before .before .before .before .before .before .before .before .before .before .before .before .before .before .before .basic-at .ensures)) (rw (c .before .before .before .before .before .before .before .before .before .before .before .before .before .before .before .found .given .1) at (c .before .before .before .before .before .before .before .before .before .before .before .before .before .before .before .before .before .next-head .ensures .seen (16 + length s) (omega arith))) (rw (c .before .before .before .before .before .before .before .before .before .before .before .before .before .before .before .found .given .1) at (c .before .before .before .before .before .before .before .before .before .before .before .before .before .before .before .before .before .next-head .ensures .stands)) in
     simp (c .of-part3 .ensures, c .before .enum-told5 .given .1) ((λ file held is has. events-stop o base s g (c .before .before .before .before .before .before .before .before .before .before .before .before .before .before .before .before .before .before .before .before .before .before .before .args .before) (c .before .before .before .before .before .before .before .before .before .before .before .before .before .held-channels .ensures) file held has (rw (c .before .before .before .before .before .before .before .before .before .before .cs .given .1) at (c .before .before .before .before .before .before .before .before .before .before .before .before .channels-part .ensures .0)) (c .before .before .before .before .before .before .before .before .held-patient .ensures) (rw (c .before .before .before .before .before .ps .given .1) at (c .before .before .before .before .before .before .before .items-part .ensures .0)) (rw (c .before .enum-told5 .given .1) at (c .before .before .before .items-part2 .ensures .0))), tt)
 
 count-of-requires : tie.Need-count-of-requires
@@ -130,7 +131,7 @@ returns-6 c =
     let o = c .before .before .before .before .before .before .before .before .before .before .before .before .before .before .before .before .before .before .before .before .before .before .before .before .before .args .o in
     let s = now (c .before .before .before .before .before .before .before .before .before .before .before .before .before .before .before .before .before .before .before .before .before .before .before .before .before .args .s) in
     let base = c .before .before .before .before .before .before .before .before .before .before .before .before .before .before .before .before .before .before .before .before .before .before .before .before .before .args .base in
-    let g = begun o base s (c .before .before .before .before .before .before .before .before .before .before .before .before .before .before .before .before .before .before .before .before .before .first .given .0 .0) (c .before .before .before .before .before .before .before .before .before .before .before .before .before .before .before .before .before .found .given .0 .0) (rw (c .before .before .before .before .before .before .before .before .before .before .before .before .before .before .before .before .before .before .before .before .before .first .given .1) at (c .before .before .before .before .before .before .before .before .before .before .before .before .before .before .before .before .before .before .before .before .before .before .before .basic-at .ensures)) (rw (c .before .before .before .before .before .before .before .before .before .before .before .before .before .before .before .before .before .found .given .1) at (c .before .before .before .before .before .before .before .before .before .before .before .before .before .before .before .before .before .before .before .next-head .ensures .0 (16 + length s) (omega arith))) (rw (c .before .before .before .before .before .before .before .before .before .before .before .before .before .before .before .before .before .found .given .1) at (c .before .before .before .before .before .before .before .before .before .before .before .before .before .before .before .before .before .before .before .next-head .ensures .1)) in
+    let g = begun o base s (c .before .before .before .before .before .before .before .before .before .before .before .before .before .before .before .before .before .before .before .before .before .first .given .0 .0) (c .before .before .before .before .before .before .before .before .before .before .before .before .before .before .before .before .before .found .given .0 .0) (rw (c .before .before .before .before .before .before .before .before .before .before .before .before .before .before .before .before .before .before .before .before .before .first .given .1) at (c .before .before .before .before .before .before .before .before .before .before .before .before .before .before .before .before .before .before .before .before .before .before .before .basic-at .ensures)) (rw (c .before .before .before .before .before .before .before .before .before .before .before .before .before .before .before .before .before .found .given .1) at (c .before .before .before .before .before .before .before .before .before .before .before .before .before .before .before .before .before .before .before .next-head .ensures .seen (16 + length s) (omega arith))) (rw (c .before .before .before .before .before .before .before .before .before .before .before .before .before .before .before .before .before .found .given .1) at (c .before .before .before .before .before .before .before .before .before .before .before .before .before .before .before .before .before .before .before .next-head .ensures .stands)) in
     rw (c .count-of .ensures) (
       (λ file held is has. tables-hold o base s g (c .before .before .before .before .before .before .before .before .before .before .before .before .before .before .before .before .before .before .before .before .before .before .before .before .before .args .before) (c .before .before .before .before .before .before .before .before .before .before .before .before .before .before .before .held-channels .ensures) file held has (rw (c .before .before .before .before .before .before .before .before .before .before .before .before .cs .given .1) at (c .before .before .before .before .before .before .before .before .before .before .before .before .before .before .channels-part .ensures .0)) (c .before .before .before .before .before .before .before .before .before .before .held-patient .ensures) (rw (c .before .before .before .before .before .before .before .ps .given .1) at (c .before .before .before .before .before .before .before .before .before .items-part .ensures .0)) (c .before .before .before .es .given .0 .0) (rw (c .before .before .before .es .given .1) at (c .before .before .before .before .before .items-part2 .ensures .0)) (rw (c .before .before .before .before .before .before .before .before .before .before .before .before .cs .given .1) at (c .before .before .before .before .before .before .before .before .before .before .before .before .before .before .channels-part .ensures .1)) (rw (c .before .before .before .before .before .before .before .ps .given .1) at (c .before .before .before .before .before .before .before .before .before .items-part .ensures .1)) (c .before .before .before .before .before .before .before .before .before .before .before .before .before .before .before .before .before .before .before .before .before .before .before .before .before .pre .0) is),
       tables-ready o base s g (c .before .before .before .before .before .before .before .before .before .before .before .before .before .before .before .before .before .before .before .before .before .before .before .before .before .args .before) (c .before .before .before .before .before .before .before .before .before .before .before .before .before .before .before .held-channels .ensures) (c .before .before .before .before .before .before .before .before .before .before .before .before .cs .given .0 .0) (c .before .before .before .before .before .before .before .ps .given .0 .0) (c .before .before .before .es .given .0 .0) (rw (c .before .before .before .before .before .before .before .before .before .before .before .before .cs .given .1) at (c .before .before .before .before .before .before .before .before .before .before .before .before .before .before .channels-part .ensures .0)) (rw (c .before .before .before .before .before .before .before .before .before .before .before .before .cs .given .1) at (c .before .before .before .before .before .before .before .before .before .before .before .before .before .before .channels-part .ensures .1)) (rw (c .before .before .before .before .before .before .before .ps .given .1) at (c .before .before .before .before .before .before .before .before .before .items-part .ensures .1)) (rw (c .before .before .before .es .given .1) at (c .before .before .before .before .before .items-part2 .ensures .1)),

@@ -1,3 +1,4 @@
+-- `header::count_of` meets its contract. The loop's invariant: the value so far is that of the digits passed. The measure is how many bytes are left. Assumes nothing.
 use mathlib.Core.Path.{_≡_, sym, _∙_}
 use Prim.Native.Nat.{_-_, _^_, _<_}
 use native.Mathlib.Omega.{arith}

@@ -1,3 +1,4 @@
+-- `header::names_ok` meets its contract: one case a return. Assumes nothing.
 use borrow.Author.Tests.{not-true, not-false}
 use borrow.Author.Needs.{needs}
 use Rattle.words.specs.Numbers.{bytesAt}

@@ -1,3 +1,4 @@
+-- `header::of_opened` meets its contract: one case a return. Assumes nothing.
 use borrow.Author.Needs.{needs}
 use Rattle.header.proofs.of_opened.Statement.{statement}
 use Rattle.header.proofs.of_opened.Tie as tie

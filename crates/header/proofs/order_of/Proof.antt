@@ -1,3 +1,4 @@
+-- `header::order_of` meets its contract: one case a return. Assumes nothing.
 use borrow.Author.Tests.{eq-eqb}
 use Rattle.walk.proofs.Seen.{tests}
 use Rattle.header.specs.Opened.{lettered}

@@ -1,3 +1,4 @@
+-- `header::script_ok` meets its contract: one case a return. Assumes nothing.
 use borrow.Author.Tests.{eq-eqb}
 use Rattle.walk.proofs.Seen.{tests}
 use Rattle.header.proofs.script_ok.Statement.{statement}

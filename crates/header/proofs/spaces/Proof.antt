@@ -1,3 +1,4 @@
+-- `header::spaces` meets its contract. The loop's invariant: all bytes so far are spaces. The measure is how many are left. Assumes nothing.
 use mathlib.Core.Path.{_≡_, refl, sym, _∙_}
 use Prim.Native.Nat.{_-_}
 use borrow.Author.Needs.{needs}

@@ -1,3 +1,4 @@
+-- `judge::of_judged` meets its contract: the refusal of a file.
 use borrow.Author.Needs.{needs}
 use Rattle.judge.proofs.of_judged.Statement.{statement}
 use Rattle.judge.proofs.of_judged.Tie as tie

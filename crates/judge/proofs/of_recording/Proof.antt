@@ -1,3 +1,4 @@
+-- `judge::of_recording` meets its contract.
 use borrow.Author.Needs.{needs}
 use Rattle.judge.proofs.of_recording.Statement.{statement}
 use Rattle.judge.proofs.of_recording.Tie as tie

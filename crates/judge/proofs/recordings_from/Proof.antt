@@ -1,3 +1,4 @@
+-- `judge::recordings_from` meets its contract: so many recordings from byte 32 of the file on: where they end.
 use Prim.Native.Nat.{_-_, _≤_}
 use native.Mathlib.Nat.{zero-add}
 use native.Mathlib.Omega.{arith}

@@ -1,110 +1,59 @@
 -- `makers::in_recording` meets its contract: the first is that of the body, by the laws of Recorded.
--- x: behind the head; y: behind its tests; z: the start. Assumes nothing.
+-- y: behind the cursor's step. Assumes nothing.
 use native.Mathlib.Omega.{arith}
-use denote.Ref.{now}
 use lib.ListN.{length-take, length-drop}
-use Rattle.rows.proofs.Recorded.{recording-unread, recording-refused}
+use Rattle.children.proofs.Visiting.{recorded}
+use Rattle.children.proofs.Recordings.{recording-none}
 use Rattle.makers.proofs.Recorded.{finds-recording}
 use borrow.Author.Needs.{needs}
 use Rattle.makers.proofs.in_recording.Statement.{statement}
 use Rattle.makers.proofs.in_recording.Tie as tie
 
-head-at-requires : tie.Need-head-at-requires
-head-at-requires c κs = search needs
-
-enum-known-head : tie.Need-enum-known-head
-enum-known-head c = search needs
-
-enum-told : tie.Need-enum-told
-enum-told c = search needs
-
 returns : tie.Need-returns
 returns c =
     let z = c .before .before .before .before in
-    let k = rw (c .enum-told .given .1) at (c .before .before .head-at .ensures .0) in
-    (omega arith, z .pre .0, λ held i x e g. absurd (recording-unread (z .args .o) (now (z .args .file)) (z .args .p) k held i g))
+    let v = rw (c .enum-told .given .1) at (c .before .before .record-at .ensures) in
+    record { on = omega arith; inside = z .pre .low; first = λ held i x e g. recording-none v held i g }
 
-admit-requires : tie.Need-admit-requires
-admit-requires c κs =
-    let x = c .before in
-    let w = rw (x .head .given .1) at (x .before .before .head-at .ensures .1) in
-    search needs
-
-enum-known-room : tie.Need-enum-known-room
-enum-known-room c = search needs
-
-enum-told-2 : tie.Need-enum-told-2
-enum-told-2 c = search needs
-
-returns-2 : tie.Need-returns-2
-returns-2 c =
-    let x = c .before .before .before .before in
-    let z = x .before .before .before .before in
-    let f = rw (x .head .given .1) at (x .before .before .head-at .ensures .0) in
-    let w = rw (x .head .given .1) at (x .before .before .head-at .ensures .1) in
-    let r = rw (c .enum-told2 .given .1) at (c .before .before .admit .ensures .0 (z .args .o) 0 (now (z .args .file))) in
-    (omega arith, z .pre .0, λ held i x e g. absurd (recording-refused (z .args .o) (now (z .args .file)) (z .args .p) _ _ f (w .0) r held i g))
-
-add-base : tie.Need-add-base
-add-base c = search needs
-
+-- the part behind the head, of which the body is handed on
 sub-in-body : tie.Need-sub-in-body
 sub-in-body c =
-    let y = c .before in
-    let x = y .before .before .before .before in
-    let w = rw (x .head .given .1) at (x .before .before .head-at .ensures .1) in
-    let v = rw (y .room .given .1) at (y .before .before .admit .ensures .1) in
-    omega arith
+    let v = recorded (c .before .there .given .1) (c .before .before .before .record-at .ensures) in
+    omega (arith, v .least)
 
 part-in-body-start : tie.Need-part-in-body-start
 part-in-body-start c =
-    let y = c .before in
-    let x = y .before .before .before .before in
-    let w = rw (x .head .given .1) at (x .before .before .head-at .ensures .1) in
-    let v = rw (y .room .given .1) at (y .before .before .admit .ensures .1) in
-    omega arith
+    let v = recorded (c .before .there .given .1) (c .before .before .before .record-at .ensures) in
+    omega (arith, v .least, v .inside)
 
 part-in-body-end : tie.Need-part-in-body-end
 part-in-body-end c =
-    let y = c .before in
-    let x = y .before .before .before .before in
-    let w = rw (x .head .given .1) at (x .before .before .head-at .ensures .1) in
-    let v = rw (y .room .given .1) at (y .before .before .admit .ensures .1) in
-    omega arith
+    let v = recorded (c .before .there .given .1) (c .before .before .before .record-at .ensures) in
+    omega (arith, v .least, v .inside)
 
 in-body-requires : tie.Need-in-body-requires
 in-body-requires c κs =
     let y = c .before .before in
-    let x = y .before .before .before .before in
-    let w = rw (x .head .given .1) at (x .before .before .head-at .ensures .1) in
-    let v = rw (y .room .given .1) at (y .before .before .admit .ensures .1) in
-    simp (length-take, length-drop) (omega arith)
+    let v = recorded (y .there .given .1) (y .before .before .record-at .ensures) in
+    simp (length-take, length-drop) (omega (arith, v .inside, v .least))
 
-returns-3 : tie.Need-returns-3
-returns-3 c =
+returns-2 : tie.Need-returns-2
+returns-2 c =
     let y = c .before .before .before in
-    let x = y .before .before .before .before in
-    let z = x .before .before .before .before in
-    let f = rw (x .head .given .1) at (x .before .before .head-at .ensures .0) in
-    let w = rw (x .head .given .1) at (x .before .before .head-at .ensures .1) in
-    let v = rw (y .room .given .1) at (y .before .before .admit .ensures .1) in
-    (omega (arith, w .0, v .0, v .2), v .1, finds-recording (z .args .o) (now (z .args .file)) (z .args .p) _ _ f (w .0) (y .room .given .0 .0) (v .0) (v .1) (v .2) (c .in-body .result) (c .in-body .ensures))
+    let v = recorded (y .there .given .1) (y .before .before .record-at .ensures) in
+    record { on = omega (arith, v .least); inside = v .inside; first = finds-recording v (c .in-body .result) (c .in-body .ensures) }
 
 pub in-recording-spec : {M : Type 1} → statement M
 in-recording-spec =
     tie.close
     (tie.spec
-    head-at-requires
-    enum-known-head
-    enum-told
+    (λ c κs. search needs)
+    (λ c. search needs)
+    (λ c. search needs)
     returns
-    admit-requires
-    enum-known-room
-    enum-told-2
-    returns-2
-    add-base
+    (λ c. search needs)
     sub-in-body
     part-in-body-start
     part-in-body-end
     in-body-requires
-    returns-3)
+    returns-2)

@@ -1,4 +1,4 @@
--- `measures::multiplier_for` meets its contract.
+-- `measures::multiplier_for` meets its contract: the length's shares, rounded up.
 -- Assumes nothing.
 use mathlib.Core.Path.{sym}
 use borrow.Author.Needs.{needs}
@@ -9,8 +9,8 @@ use Rattle.measures.proofs.multiplier_for.Tie as tie
 returns : tie.Need-returns
 returns c =
     let n = c .args .n in
-    let l = times-low n (c .pre .0) (c .pre .1) in
-    (sym (is-times n (c .pre .0) (c .pre .1)), l .0, l .1)
+    let l = times-low n (c .pre) in
+    record { is = sym (is-times n (c .pre)); low = l .0; high = l .1 }
 
 pub multiplier-for-spec : {M : Type 1} → statement M
 multiplier-for-spec = tie.close (tie.spec (λ c. search needs) returns)

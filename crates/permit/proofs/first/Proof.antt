@@ -1,11 +1,11 @@
--- `permit::first` meets its contract.
+-- `permit::first` meets its contract: the first answer where it is a refusal, else the second.
 -- Assumes nothing.
 use borrow.Author.Needs.{needs}
 use Rattle.permit.proofs.first.Statement.{statement}
 use Rattle.permit.proofs.first.Tie as tie
 
 returns : tie.Need-returns
-returns c = simp (c .before .a .given .1)
+returns c = simp (c .enum-told2 .given .1)
 
 returns-2 : tie.Need-returns-2
 returns-2 c = simp (c .enum-told .given .1)

@@ -1,4 +1,4 @@
--- `permit::short` meets its contract.
+-- `permit::short` meets its contract: 17 with the length needed, where the room is smaller.
 -- Assumes nothing.
 use borrow.Author.Tests.{le-leb, lt-leb}
 use Rattle.permit.proofs.short.Statement.{statement}

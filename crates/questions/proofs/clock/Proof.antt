@@ -13,22 +13,14 @@ time-at-requires c κs =
 
 returns : tie.Need-returns
 returns c =
+    let e = c .before .enum-told .given .1 in
+    rw (c .of-frame-found .ensures, e) (clock-refused _ _ _ (rw e at (c .before .before .before .frame-asked .ensures)))
+
+returns-2 : tie.Need-returns-2
+returns-2 c =
     let x = c .before .before in
     let y = rw (x .framed .given .1) at (x .before .before .frame-asked .ensures) in
     clock-told (y .1) _ (c .time-at .ensures)
 
-returns-2 : tie.Need-returns-2
-returns-2 c =
-    let x = c .before in
-    clock-refused _ _ _ (rw (x .framed2 .given .1) at (x .before .before .frame-asked .ensures))
-
 pub clock-spec : {M : Type 1} → statement M
-clock-spec =
-    tie.close
-    (tie.spec
-    (λ c κs. search needs)
-    (λ c. search needs)
-    time-at-requires
-    (λ c. search needs)
-    returns
-    returns-2)
+clock-spec = tie.close (tie.spec (λ c κs. search needs) (λ c. search needs) (λ c. search needs) (λ c κs. search needs) returns time-at-requires returns-2)

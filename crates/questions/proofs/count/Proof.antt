@@ -7,14 +7,14 @@ use Rattle.questions.proofs.count.Tie as tie
 
 returns : tie.Need-returns
 returns c =
-    let x = c .before in
-    let y = rw (x .ran .given .1) at (x .before .before .samples-asked .ensures) in
-    count-told (y .1)
+    let e = c .before .enum-told .given .1 in
+    rw (c .of-samples-found .ensures, e) (count-refused _ _ _ _ (rw e at (c .before .before .before .samples-asked .ensures)))
 
 returns-2 : tie.Need-returns-2
 returns-2 c =
     let x = c .before in
-    count-refused _ _ _ _ (rw (x .ran2 .given .1) at (x .before .before .samples-asked .ensures))
+    let y = rw (x .ran .given .1) at (x .before .before .samples-asked .ensures) in
+    count-told (y .1)
 
 pub count-spec : {M : Type 1} → statement M
-count-spec = tie.close (tie.spec (λ c κs. search needs) (λ c. search needs) (λ c. search needs) returns returns-2)
+count-spec = tie.close (tie.spec (λ c κs. search needs) (λ c. search needs) (λ c. search needs) (λ c κs. search needs) returns returns-2)

@@ -1,37 +1,20 @@
+-- `questions::facts` meets its contract: from the recording found, by the laws of Replies.
+-- Assumes nothing.
 use borrow.Author.Needs.{needs}
-use Rattle.questions.proofs.Replies.{facts-found}
+use Rattle.questions.proofs.Replies.{facts-refused, facts-found}
 use Rattle.questions.proofs.facts.Statement.{statement}
 use Rattle.questions.proofs.facts.Tie as tie
 
-recording-asked-requires : tie.Need-recording-asked-requires
-recording-asked-requires c κs = search needs
-
-enum-known-found : tie.Need-enum-known-found
-enum-known-found c = search needs
-
-facts-of-requires : tie.Need-facts-of-requires
-facts-of-requires c κs = search needs
-
-enum-known-found-2 : tie.Need-enum-known-found-2
-enum-known-found-2 c = search needs
-
 returns : tie.Need-returns
 returns c =
-    let f = rw (c .before .before .found .given .1) at (c .before .before .before .before .recording-asked .ensures) in
-    rw (c .facts-of .ensures) (facts-found (f .1))
+    let e = c .before .enum-told .given .1 in
+    rw (c .of-recording-found .ensures, e) (facts-refused _ _ (rw e at (c .before .before .before .recording-asked .ensures)))
 
 returns-2 : tie.Need-returns-2
 returns-2 c =
-    let f = rw (c .before .found2 .given .1) at (c .before .before .before .recording-asked .ensures) in
-    rw f
+    let x = c .before .before in
+    let f = rw (x .found .given .1) at (x .before .before .recording-asked .ensures) in
+    rw (c .facts-of .ensures) (facts-found (f .1))
 
 pub facts-spec : {M : Type 1} → statement M
-facts-spec =
-    tie.close
-    (tie.spec
-    recording-asked-requires
-    enum-known-found
-    facts-of-requires
-    enum-known-found-2
-    returns
-    returns-2)
+facts-spec = tie.close (tie.spec (λ c κs. search needs) (λ c. search needs) (λ c. search needs) (λ c κs. search needs) returns (λ c κs. search needs) returns-2)

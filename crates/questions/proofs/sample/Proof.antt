@@ -1,51 +1,64 @@
 -- `questions::sample` meets its contract: from the samples found, by the laws of Replies.
 -- Assumes nothing.
-use mathlib.Core.Path.{_≡_}
 use Prim.Native.Nat.{_+_, _*_, _≤_}
 use native.Mathlib.Omega.{arith}
 use borrow.Author.Needs.{needs}
 use denote.Ref.{now}
 use lib.ListN.{length}
+use Rattle.samples.specs.Asked.{SamplesFoundAs}
+use Rattle.samples.specs.declared.SamplesFound.the-variants as SamplesFound
 use Rattle.questions.proofs.Replies.{among, sample-refused, sample-outside, sample-told}
 use Rattle.questions.proofs.sample.Statement.{statement}
 use Rattle.questions.proofs.sample.Tie as tie
 
+-- what was known behind the samples found, and at the start
+abbrev back : tie.After-width → tie.After-ran
+back c = c .before .before .before .before
+
+abbrev start : tie.After-ran → tie.Start
+start x = x .before .before .before .before
+
+-- the samples found
+known : (x : tie.After-ran) →
+    SamplesFoundAs (now (start x .args .file)) (start x .args .recording) (start x .args .frame) (start x .args .channel) (SamplesFound.At (x .ran .given .0 .0) (x .ran .given .0 .1 .0))
+known x = rw (x .ran .given .1) at (x .before .before .samples-asked .ensures)
+
 returns : tie.Need-returns
 returns c =
     let e = c .before .enum-told .given .1 in
-    rw (c .of-ran .ensures, e) (sample-refused _ _ _ _ _ (rw e at (c .before .before .before .samples-asked .ensures)))
+    rw (c .of-samples-found .ensures, e) (sample-refused _ _ _ _ _ (rw e at (c .before .before .before .samples-asked .ensures)))
 
 returns-2 : tie.Need-returns-2
 returns-2 c =
     let x = c .before .before .before in
-    let y = rw (x .ran .given .1) at (x .before .before .samples-asked .ensures) in
+    let y = known x in
     sample-outside (y .1) _ (c .if1 .taken)
 
--- the sample that the code passes to lies in the file
+-- the sample asked for lies in the file
 placed : (c : tie.After-width) →
-    let x = c .before .before .before .before .before in
-    let z = x .before .before .before .before in
-    x .ran .given .0 .1 .0 .at + c .width .result * c .before .less .result + c .width .result ≤ length (now (z .args .file))
+    let x = back c in
+    let z = start x in
+    x .ran .given .0 .1 .0 .at + c .width .result * z .args .sample + c .width .result ≤ length (now (z .args .file))
 placed c =
-    let x = c .before .before .before .before .before in
-    let y = rw (x .ran .given .1) at (x .before .before .samples-asked .ensures) in
-    among _ _ _ (x .ran .given .0 .1 .0 .count) _ (omega (arith, c .before .less .ensures, c .before .before .if1 .left)) (rw (c .width .ensures .0) (y .1 .inside))
+    let x = back c in
+    let y = known x in
+    among _ _ _ _ (x .ran .given .0 .1 .0 .count) _ (c .width .ensures .0) (c .before .if1 .left) (y .1 .inside)
 
 mul-at : tie.Need-mul-at
-mul-at c = record { fits = omega (arith, placed c, c .before .before .before .before .before .before .before .before .before .good) }
+mul-at c = record { fits = omega (arith, placed c, start (back c) .good) }
 
 add-at : tie.Need-add-at
-add-at c = record { fits = omega (arith, placed (c .before), c .before .before .before .before .before .before .before .before .before .before .good) }
+add-at c = record { fits = omega (arith, placed (c .before), start (back (c .before)) .good) }
 
 number-at-requires : tie.Need-number-at-requires
 number-at-requires c κs = omega (arith, placed (c .before), c .before .width .ensures .0)
 
 returns-3 : tie.Need-returns-3
 returns-3 c =
-    let x = c .before .before .before .before .before .before .before in
-    let y = rw (x .ran .given .1) at (x .before .before .samples-asked .ensures) in
-    let same : c .before .before .before .less .result ≡ x .before .before .before .before .args .sample = omega (arith, c .before .before .before .less .ensures) in
-    sample-told (y .1) _ _ (c .before .before .width .ensures .0) (c .before .before .before .before .if1 .left) _ (rw same at (c .number-at .ensures))
+    let b = c .before .before in
+    let x = back b in
+    let y = known x in
+    sample-told (y .1) _ _ (b .width .ensures .0) (b .before .if1 .left) _ (c .number-at .ensures)
 
 pub sample-spec : {M : Type 1} → statement M
 sample-spec =
@@ -57,7 +70,6 @@ sample-spec =
     (λ c κs. search needs)
     returns
     returns-2
-    (λ c κs. search needs)
     (λ c κs. search needs)
     mul-at
     add-at

@@ -1,3 +1,5 @@
+-- `recordings::recording_asked` meets its contract: the file's refusal, 19 outside its recordings, and else the one that the walk reaches.
+-- Assumes nothing.
 use mathlib.Core.Path.{refl, sym, _∙_}
 use native.Mathlib.Omega.{arith}
 use denote.Ref.{now}
@@ -42,27 +44,41 @@ cast-recordings-to c =
 
 recordings-to-requires : tie.Need-recordings-to-requires
 recordings-to-requires c κs =
-    let x = rw (c .before .before .before .judged .given .1) at (c .before .before .before .before .before .judge .ensures) in
-    (accepted-seen _ _ x .long, omega (arith, c .before .before .before .before .before .before .before .good))
-
-enum-told-2 : tie.Need-enum-told-2
-enum-told-2 c = search needs
+    let b = c .before .before .before in
+    let x = rw (b .judged .given .1) at (b .before .before .judge .ensures) in
+    let l = sym (c .before .within .ensures) ∙ not-false (c .before .within .result) (c .if1 .left) in
+    record {
+      header = accepted-seen _ _ x .long;
+      addressable = omega (arith, b .before .before .before .before .good);
+      first = between-in 1 _ _ l .0;
+    }
 
 enum-known-last : tie.Need-enum-known-last
 enum-known-last c = search needs
 
+enum-told-2 : tie.Need-enum-told-2
+enum-told-2 c = search needs
+
+of-recording-requires : tie.Need-of-recording-requires
+of-recording-requires c κs = search needs
+
 returns-3 : tie.Need-returns-3
 returns-3 c =
-    let x = rw (c .before .before .before .before .before .before .judged .given .1) at (c .before .before .before .before .before .before .before .before .judge .ensures) in
-    let l = sym (c .before .before .before .before .within .ensures) ∙ not-false (c .before .before .before .before .within .result) (c .before .before .before .if1 .left) in
-    absurd (omega (arith, between-in 1 _ _ l .0, rw (c .enum-told2 .given .1) at (c .before .before .recordings-to .ensures _ x refl (between-in 1 _ _ l .1))))
+    let b : tie.After-recordings-to = c .before .before .before in
+    let d = b .before .before in
+    let x = rw (d .before .before .judged .given .1) at (d .before .before .before .before .judge .ensures) in
+    let l = sym (d .within .ensures) ∙ not-false (d .within .result) (b .before .if1 .left) in
+    absurd (rw (c .before .enum-told2 .given .1) at (b .recordings-to .ensures _ x refl (between-in 1 _ _ l .1)))
 
 returns-4 : tie.Need-returns-4
 returns-4 c =
-    let x = rw (c .before .before .before .before .before .before .before .judged .given .1) at (c .before .before .before .before .before .before .before .before .before .judge .ensures) in
-    let l = sym (c .before .before .before .before .before .within .ensures) ∙ not-false (c .before .before .before .before .before .within .result) (c .before .before .before .before .if1 .left) in
-    let b = bytes (now (c .before .before .before .before .before .before .before .before .before .before .before .args .file)) (λ k. omega (arith, c .before .before .before .before .before .before .before .before .before .before .shared-slice-known .given k)) in
-    asked-found _ _ x b _ refl _ _ (rw (c .before .last .given .1) at (c .before .before .before .recordings-to .ensures _ x refl (between-in 1 _ _ l .1)))
+    let b : tie.After-recordings-to = c .before .before .before in
+    let d = b .before .before in
+    let j = d .before .before .before .before in
+    let x = rw (d .before .before .judged .given .1) at (j .judge .ensures) in
+    let l = sym (d .within .ensures) ∙ not-false (d .within .result) (b .before .if1 .left) in
+    let s = bytes (now (j .before .before .args .file)) (λ k. omega (arith, j .before .shared-slice-known .given k)) in
+    asked-found _ _ x s _ refl _ _ (rw (c .before .last .given .1) at (b .recordings-to .ensures _ x refl (between-in 1 _ _ l .1)))
 
 pub recording-asked-spec : {M : Type 1} → statement M
 recording-asked-spec =
@@ -77,7 +93,8 @@ recording-asked-spec =
     returns-2
     cast-recordings-to
     recordings-to-requires
-    enum-told-2
     enum-known-last
+    enum-told-2
+    of-recording-requires
     returns-3
     returns-4)

@@ -1,3 +1,5 @@
+-- `recordings::recordings_to` meets its contract: each answer of `recording_again` is that of the next recording.
+-- Assumes nothing.
 use mathlib.Core.Path.{_≡_}
 use Prim.Native.Nat.{_-_, _≤_, _<_}
 use native.Mathlib.Omega.{arith}
@@ -5,70 +7,66 @@ use denote.Ref.{now}
 use borrow.Author.Needs.{needs}
 use lib.ListN.{length}
 use Rattle.words.proofs.Words.{bytes}
-use Rattle.rules.specs.declared.FileHeader.{FileHeader}
-use Rattle.descriptions.specs.Tabled.{Within}
-use Rattle.judge.specs.Judged.{AcceptedAs}
-use Rattle.recordings.proofs.Reach.{Going, ok-of, going-start, next-led, going-stop, going-on}
+use Rattle.recordings.proofs.Reach.{Walked, ok-of, going-start, met, met-reached}
 use Rattle.recordings.proofs.recordings_to.Statement.{statement}
 use Rattle.recordings.proofs.recordings_to.Tie as tie
 
 abbrev Inv-loop : tie.InvT-loop
-Inv-loop o file n p₀ i₀ before₀ p i before = (i ≤ n) × (p ≤ length file) × Within (length file) before × ((h : FileHeader) (x : AcceptedAs file h) → o ≡ h .order → n ≤ h .count → Going o file (x .file .recordings) p i before)
+Inv-loop o file n step₀ i₀ step i = Walked o file n i step
 
 abbrev μ-loop : tie.MeasureT-loop
-μ-loop o file n p₀ i₀ before₀ p i before = n - i
-
-loop-holds : tie.Need-loop-holds Inv-loop μ-loop
-loop-holds c = (search needs, search needs, tt, λ h x e l. going-start (now (c .before .args .file)) h x (c .before .args .o) e)
+μ-loop o file n step₀ i₀ step i = n - i
 
 recording-again-requires : tie.Need-recording-again-requires Inv-loop μ-loop
-recording-again-requires c κs = search needs
+recording-again-requires c κs = (c .before .pre .header, c .before .pre .addressable, tt)
 
-enum-known-step : tie.Need-enum-known-step Inv-loop μ-loop
-enum-known-step c = search needs
-
-enum-told : tie.Need-enum-told Inv-loop μ-loop
-enum-told c = search needs
+loop-holds : tie.Need-loop-holds Inv-loop μ-loop
+loop-holds c =
+    let a = c .before .before .args in
+    let p = c .before .before .pre in
+    let k = c .recording-again .ensures in
+    record {
+      within = p .first;
+      start = 32;
+      bounds = k .1;
+      meets = λ h x e l.
+          let b = bytes (now (a .file)) (λ j. omega (arith, c .before .shared-slice-known .given j)) in
+          let m : 0 < length (x .file .recordings) = omega (arith, x .count, l, p .first) in
+          met (going-start (now (a .file)) h x (a .o) e) m (p .header) (ok-of _ b h x) (c .recording-again .result) (k .0) (k .1);
+    }
 
 returns : tie.Need-returns Inv-loop μ-loop
-returns c =
-    let e = c .enum-told .given .1 in
-    let k = c .before .before .before .before .loop in
-    let i = k .inv in
-    λ h x o l.
-    let g = i .3 h x o l in
-    let m : k .i < length (x .file .recordings) = omega (arith, x .count, l, c .before .before .before .loop-test .taken) in
-    let v = next-led g m (i .1) in
-    absurd (going-stop g m (i .1) (rw e at (c .before .before .recording-again .ensures .0 (g .held) _ (v .one) (v .mid) (g .holds) (v .is))))
+returns c = λ h x o l. absurd (rw (c .enum-told .given .1) at (c .before .before .before .loop .inv .meets h x o l))
 
-add-i : tie.Need-add-i Inv-loop μ-loop
-add-i c = search needs
-
-loop-less : tie.Need-loop-less Inv-loop μ-loop
-loop-less c = search needs
+recording-again-requires-2 : tie.Need-recording-again-requires-2 Inv-loop μ-loop
+recording-again-requires-2 c κs =
+    let k = c .before .before .before .before in
+    let a = rw (c .before .step .given .1) at (k .loop .inv .bounds) in
+    (a .1, k .before .before .before .pre .addressable, a .2)
 
 loop-again : tie.Need-loop-again Inv-loop μ-loop
 loop-again c =
-    let e = c .before .step .given .1 in
-    let a = rw e at (c .before .before .before .recording-again .ensures .1) in
-    let k = c .before .before .before .before .before .loop in
-    let i = k .inv in (
-      omega arith,
-      a .1,
-      a .2,
-      λ h x o l.
-          let g = i .3 h x o l in
-          let b = bytes (now (c .before .before .before .before .before .before .before .args .file)) (λ j. omega (arith, c .before .before .before .before .before .before .shared-slice-known .given j)) in
-          let m : k .i < length (x .file .recordings) = omega (arith, x .count, l, c .before .before .before .before .loop-test .taken) in
-          let v = next-led g m (i .1) in
-          going-on g m (i .1) (ok-of _ b h x) (rw e at (c .before .before .before .recording-again .ensures .0 (g .held) _ (v .one) (v .mid) (g .holds) (v .is))) (a .2),
-    )
+    let d = c .before .before in
+    let k = d .before .before .before in
+    let i = k .loop .inv in
+    let f = k .before .before .before in
+    let u = c .recording-again2 .ensures in
+    record {
+      within = omega arith;
+      start = d .step .given .0 .0 .end;
+      bounds = u .1;
+      meets = λ h x o l.
+          let b = bytes (now (f .args .file)) (λ j. omega (arith, k .before .before .shared-slice-known .given j)) in
+          let m : k .loop .i < length (x .file .recordings) = omega (arith, x .count, l, d .before .before .loop-test .taken) in
+          met (rw (d .step .given .1) at (i .meets h x o l)) m ((rw (d .step .given .1) at (i .bounds)) .1) (ok-of _ b h x) (c .recording-again2 .result) (u .0) (u .1);
+    }
 
 returns-2 : tie.Need-returns-2 Inv-loop μ-loop
 returns-2 c =
-    let i = c .before .loop .inv in
-    let d : c .before .loop .i ≡ c .before .before .before .args .n = omega arith in
-    λ h x o l. rw d at (i .3 h x o l .reached)
+    let k = c .before .loop in
+    let a = c .before .before .before .before .args in
+    let d : k .i ≡ a .n = omega (arith, k .inv .within) in
+    λ h x o l. met-reached (a .o) (now (a .file)) (x .file .recordings) (a .n) (k .step) (rw d at (k .inv .meets h x o l))
 
 pub recordings-to-spec : {M : Type 1} → statement M
 recordings-to-spec =
@@ -76,12 +74,13 @@ recordings-to-spec =
     (tie.spec
     Inv-loop
     μ-loop
-    loop-holds
     recording-again-requires
-    enum-known-step
-    enum-told
+    loop-holds
+    (λ c. search needs)
+    (λ c. search needs)
     returns
-    add-i
-    loop-less
+    recording-again-requires-2
+    (λ c. search needs)
+    (λ c. search needs)
     loop-again
     returns-2)

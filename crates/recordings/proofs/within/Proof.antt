@@ -1,3 +1,5 @@
+-- `recordings::within` meets its contract: the two tests of a range.
+-- Assumes nothing.
 use borrow.Author.Tests.{lt-leb, le-leb}
 use Rattle.rules.specs.Rules.{between}
 use Rattle.recordings.proofs.within.Statement.{statement}

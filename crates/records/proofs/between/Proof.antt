@@ -1,3 +1,4 @@
+-- `records::between` meets its contract: both bounds are tested. Assumes nothing.
 use Rattle.walk.proofs.Seen.{tests}
 use Rattle.rules.specs.Rules.{between}
 use Rattle.records.proofs.between.Statement.{statement}

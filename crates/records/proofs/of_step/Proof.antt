@@ -1,3 +1,4 @@
+-- `records::of_step` meets its contract: one case for each answer. Assumes nothing.
 use borrow.Author.Needs.{needs}
 use Rattle.records.proofs.of_step.Statement.{statement}
 use Rattle.records.proofs.of_step.Tie as tie

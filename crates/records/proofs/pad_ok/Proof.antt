@@ -1,3 +1,4 @@
+-- `records::pad_ok` meets its contract: no padding without a multiplier, and less than the multiplier with one. Assumes nothing.
 use Rattle.rules.specs.Rules.{padded}
 use Rattle.records.proofs.Facts.{max-one}
 use Rattle.records.proofs.pad_ok.Statement.{statement}

@@ -1,3 +1,4 @@
+-- `records::same` meets its contract: the bytes up to i are the same. Assumes nothing.
 use native.Mathlib.Omega.{arith}
 use Rattle.rules.specs.Rules.{sameBytes}
 use Rattle.records.proofs.Facts.{same-end, same-more, same-not, same-length}

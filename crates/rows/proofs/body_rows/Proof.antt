@@ -1,58 +1,40 @@
 -- `rows::body_rows` meets its contract. The loop's invariant: the rows up to byte p are written. The measure is what is left of the part.
 -- y: behind the cursor's step. Assumes nothing.
-use mathlib.Core.Option.{Option}
+use mathlib.Core.Bool.{Bool}
+use mathlib.Core.List.{List}
 use mathlib.Core.Path.{_≡_, refl}
 use Prim.Native.Nat.{ℕ, _+_, _-_, _≤_}
 use native.Mathlib.Omega.{arith}
+use lib.IntN.{ℤ}
 use lib.ListN.{length}
-use Rattle.walk.specs.See.{goes, see}
-use Rattle.walk.specs.Tell.{tell}
-use Rattle.rules.specs.Rules.{Held, Head, Placed, span, recordingBody}
+use Rattle.children.proofs.Visiting.{recorded}
+use Rattle.words.specs.declared.Order.{Order}
+use Rattle.children.specs.Recordings.{OfBody}
 use Rattle.rows.proofs.Body.{Listed, listed-none, listed-all, listed-short, listed-more}
 use borrow.Author.Needs.{needs}
 use Rattle.rows.proofs.body_rows.Statement.{statement}
 use Rattle.rows.proofs.body_rows.Tie as tie
 
+record Going (o : Order) (s : List ℕ) (base : ℕ) (out₀ : List ℤ) (k : ℕ) (write : Bool) (out : List ℤ) (p next : ℕ) : Type 0 where
+  inside : p ≤ length s
+  reaches : next ≤ base + p
+  same : length out ≡ length out₀
+  listed : OfBody o base s (Listed o base s write out₀ out k next p)
+
 abbrev Inv-loop : tie.InvT-loop
-Inv-loop o s base out₀ k write p₀ next₀ out p next =
-    (p ≤ length s) × (next ≤ base + p) × (length out ≡ length out₀) ×
-    ((held : Option Held) (h : Head) (x : Placed) (e : ℕ) → span h ≡ 16 + length s → see o base s base (recordingBody held h) ≡ goes x e → Listed o base s write out₀ out k next p (tell o base s base (recordingBody held h)))
+Inv-loop o s base out₀ k write p₀ next₀ out p next = Going o s base out₀ k write out p next
 
 abbrev μ-loop : tie.MeasureT-loop
 μ-loop o s base out₀ k write p₀ next₀ out p next = length s - p
 
 loop-holds : tie.Need-loop-holds Inv-loop μ-loop
-loop-holds c = (omega arith, omega arith, refl, listed-none)
-
-record-at-requires : tie.Need-record-at-requires Inv-loop μ-loop
-record-at-requires c κs = search needs
-
-enum-known-there : tie.Need-enum-known-there Inv-loop μ-loop
-enum-known-there c = search needs
-
-enum-told : tie.Need-enum-told Inv-loop μ-loop
-enum-told c = search needs
-
-add-if1 : tie.Need-add-if1 Inv-loop μ-loop
-add-if1 c = search needs
-
-same-length : tie.Need-same-length Inv-loop μ-loop
-same-length c = search needs
+loop-holds c = record { inside = omega arith; reaches = omega arith; same = refl; listed = listed-none }
 
 returns : tie.Need-returns Inv-loop μ-loop
 returns c =
     let w = c .before .before .before .before .loop .inv in
     let v = rw (c .before .enum-told .given .1) at (c .before .before .before .record-at .ensures) in
-    (omega arith, λ held h x e n g. listed-short (w .0) (w .3 held h x e n g) v (c .if1 .taken))
-
-add-put : tie.Need-add-put Inv-loop μ-loop
-add-put c = search needs
-
-put-requires : tie.Need-put-requires Inv-loop μ-loop
-put-requires c κs = search needs
-
-same-length-2 : tie.Need-same-length-2 Inv-loop μ-loop
-same-length-2 c = search needs
+    record { reaches = omega arith; wrote = λ held h x e n g. listed-short (w .inside) (w .listed held h x e n g) v (c .if1 .taken) }
 
 returns-2 : tie.Need-returns-2 Inv-loop μ-loop
 returns-2 c =
@@ -60,26 +42,30 @@ returns-2 c =
     let w = y .before .before .before .loop .inv in
     let v = rw (y .enum-told .given .1) at (y .before .before .record-at .ensures) in
     let u = c .before .put .ensures in
-    (omega (arith, u .0), λ held h x e n g. listed-all (w .0) (w .3 held h x e n g) v u)
+    record { reaches = omega (arith, u .next); wrote = λ held h x e n g. listed-all (w .inside) (w .listed held h x e n g) v u }
 
 record-rows-requires : tie.Need-record-rows-requires Inv-loop μ-loop
 record-rows-requires c κs =
     let y = c .before .before in
-    let v = rw (y .there .given .1) at (y .before .before .record-at .ensures) in
-    omega (arith, v .0, v .2, v .3)
+    let v = recorded (y .there .given .1) (y .before .before .record-at .ensures) in
+    record { starts = omega (arith, v .place, v .least); inside = v .inside; short = search needs; low = omega (arith, v .place) }
+
+-- behind the cursor's step, seen from behind the record's rows
+abbrev stepped : tie.After-out2 Inv-loop μ-loop → tie.After-there Inv-loop μ-loop
+stepped c = c .before .before .before .before
 
 loop-less : tie.Need-loop-less Inv-loop μ-loop
 loop-less c =
-    let y = c .before .before .before .before in
-    let v = rw (y .there .given .1) at (y .before .before .record-at .ensures) in
-    omega (arith, v .2, v .3)
+    let y = stepped c in
+    let v = recorded (y .there .given .1) (y .before .before .record-at .ensures) in
+    omega (arith, v .least, v .inside)
 
 loop-again : tie.Need-loop-again Inv-loop μ-loop
 loop-again c =
-    let y = c .before .before .before .before in
+    let y = stepped c in
     let w = y .before .before .before .loop .inv in
-    let v = rw (y .there .given .1) at (y .before .before .record-at .ensures) in
-    (v .3, c .before .record-rows .ensures .0, search needs, λ held h x e n g. listed-more (w .0) (w .3 held h x e n g) (v .1) (v .4) (rw (v .0) at (c .before .record-rows .ensures .1)))
+    let v = recorded (y .there .given .1) (y .before .before .record-at .ensures) in
+    record { inside = v .inside; reaches = c .before .record-rows .ensures .reaches; same = search needs; listed = λ held h x e n g. listed-more (w .inside) (w .listed held h x e n g) v (c .before .record-rows .ensures .wrote) }
 
 pub body-rows-spec : {M : Type 1} → statement M
 body-rows-spec =
@@ -88,15 +74,15 @@ body-rows-spec =
     Inv-loop
     μ-loop
     loop-holds
-    record-at-requires
-    enum-known-there
-    enum-told
-    add-if1
-    same-length
+    (λ c κs. search needs)
+    (λ c. search needs)
+    (λ c. search needs)
+    (λ c. search needs)
+    (λ c. search needs)
     returns
-    add-put
-    put-requires
-    same-length-2
+    (λ c. search needs)
+    (λ c κs. search needs)
+    (λ c. search needs)
     returns-2
     record-rows-requires
     loop-less

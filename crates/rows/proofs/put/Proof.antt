@@ -19,65 +19,23 @@ use Rattle.rows.proofs.put.Tie as tie
 wide : (z : ℤ) → mag z < 2 ^ 31 → SFits w64 z
 wide z h = record { sfits = omega arith }
 
-add-end : tie.Need-add-end
-add-end c = search needs
-
 returns : tie.Need-returns
 returns c = wrote-counted _ _ _ _ (not-true (c .before .args .write) (c .if1 .taken))
 
 returns-2 : tie.Need-returns-2
 returns-2 c = wrote-out _ _ _ _ (not-false (c .before .before .args .write) (c .before .if1 .left)) (omega arith)
 
-cast-out : tie.Need-cast-out
-cast-out c = search needs
-
-mul-out : tie.Need-mul-out
-mul-out c = search needs
-
-slice-set-from-out : tie.Need-slice-set-from-out
-slice-set-from-out c = search needs
-
-cast-out-2 : tie.Need-cast-out-2
-cast-out-2 c = search needs
-
-add-out : tie.Need-add-out
-add-out c = search needs
-
-mul-out-2 : tie.Need-mul-out-2
-mul-out-2 c = search needs
-
 slice-set-from-out-2 : tie.Need-slice-set-from-out-2
 slice-set-from-out-2 c = simp length-set (omega arith)
-
-cast-out-3 : tie.Need-cast-out-3
-cast-out-3 c = search needs
-
-add-out-2 : tie.Need-add-out-2
-add-out-2 c = search needs
-
-mul-out-3 : tie.Need-mul-out-3
-mul-out-3 c = search needs
 
 slice-set-from-out-3 : tie.Need-slice-set-from-out-3
 slice-set-from-out-3 c = simp length-set (omega arith)
 
-signed4-requires : tie.Need-signed4-requires
-signed4-requires c κs = search needs
-
 cast-out-4 : tie.Need-cast-out-4
 cast-out-4 c = rw (kept (c .signed4 .result) (c .signed4 .ok)) (wide (c .signed4 .result) (c .signed4 .ok))
 
-add-t10 : tie.Need-add-t10
-add-t10 c = search needs
-
-mul-t13 : tie.Need-mul-t13
-mul-t13 c = search needs
-
 slice-set-from-out-4 : tie.Need-slice-set-from-out-4
 slice-set-from-out-4 c = simp length-set (omega arith)
-
-same-length : tie.Need-same-length
-same-length c = search needs
 
 returns-3 : tie.Need-returns-3
 returns-3 c =
@@ -88,24 +46,24 @@ pub put-spec : {M : Type 1} → statement M
 put-spec =
     tie.close
     (tie.spec
-    add-end
+    (λ c. search needs)
     returns
     returns-2
-    cast-out
-    mul-out
-    slice-set-from-out
-    cast-out-2
-    add-out
-    mul-out-2
+    (λ c. search needs)
+    (λ c. search needs)
+    (λ c. search needs)
+    (λ c. search needs)
+    (λ c. search needs)
+    (λ c. search needs)
     slice-set-from-out-2
-    cast-out-3
-    add-out-2
-    mul-out-3
+    (λ c. search needs)
+    (λ c. search needs)
+    (λ c. search needs)
     slice-set-from-out-3
-    signed4-requires
+    (λ c κs. search needs)
     cast-out-4
-    add-t10
-    mul-t13
+    (λ c. search needs)
+    (λ c. search needs)
     slice-set-from-out-4
-    same-length
+    (λ c. search needs)
     returns-3)

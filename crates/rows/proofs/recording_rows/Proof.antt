@@ -1,133 +1,89 @@
--- `rows::recording_rows` meets its contract: what the walk lists is its head's row and the body's, by the laws of Recorded.
--- x: behind the head; y: behind its tests; z: the start. Assumes nothing.
+-- `rows::recording_rows` meets its contract: its head's row and its body's, by the laws of Recorded.
+-- y: behind the cursor's step. Assumes nothing.
 use native.Mathlib.Omega.{arith}
-use denote.Ref.{now}
 use lib.ListN.{length-take, length-drop}
-use Rattle.rows.proofs.Recorded.{recording-unread, recording-refused, wrote-recording}
+use Rattle.children.proofs.Recordings.{recording-none}
+use Rattle.children.proofs.Visiting.{recorded}
+use Rattle.rows.proofs.Recorded.{wrote-recording}
 use borrow.Author.Needs.{needs}
 use Rattle.rows.proofs.recording_rows.Statement.{statement}
 use Rattle.rows.proofs.recording_rows.Tie as tie
 
-head-at-requires : tie.Need-head-at-requires
-head-at-requires c κs = search needs
-
-enum-known-found : tie.Need-enum-known-found
-enum-known-found c = search needs
-
-enum-told : tie.Need-enum-told
-enum-told c = search needs
-
 returns : tie.Need-returns
 returns c =
     let z = c .before .before .before .before in
-    let h = rw (c .enum-told .given .1) at (c .before .before .head-at .ensures .0) in
-    (omega arith, z .pre .0, z .pre .2, λ held i x e g. absurd (recording-unread (z .args .o) (now (z .args .file)) (z .args .p) h held i g))
-
-admit-requires : tie.Need-admit-requires
-admit-requires c κs =
-    let x = c .before in
-    let w = rw (x .found .given .1) at (x .before .before .head-at .ensures .1) in
-    search needs
-
-enum-known-room : tie.Need-enum-known-room
-enum-known-room c = search needs
-
-enum-told-2 : tie.Need-enum-told-2
-enum-told-2 c = search needs
-
-returns-2 : tie.Need-returns-2
-returns-2 c =
-    let x = c .before .before .before .before in
-    let z = x .before .before .before .before in
-    let w = rw (x .found .given .1) at (x .before .before .head-at .ensures .1) in
-    let f = rw (x .found .given .1) at (x .before .before .head-at .ensures .0) in
-    let r = rw (c .enum-told2 .given .1) at (c .before .before .admit .ensures .0 (z .args .o) 0 (now (z .args .file))) in
-    (omega arith, z .pre .0, z .pre .2, λ held i x e g. absurd (recording-refused (z .args .o) (now (z .args .file)) (z .args .p) _ _ f (w .0) r held i g))
+    let v = rw (c .enum-told .given .1) at (c .before .before .record-at .ensures) in
+    record { on = omega arith; inside = z .pre .inside; reaches = z .pre .low; wrote = λ held i x e g. recording-none v held i g }
 
 sub-put : tie.Need-sub-put
 sub-put c =
     let y = c .before .before in
-    let x = y .before .before .before .before in
-    let w = rw (x .found .given .1) at (x .before .before .head-at .ensures .1) in
-    let v = rw (y .room .given .1) at (y .before .before .admit .ensures .1) in
-    omega arith
+    let v = recorded (y .there .given .1) (y .before .before .record-at .ensures) in
+    omega (arith, v .least)
 
 put-requires : tie.Need-put-requires
 put-requires c κs =
     let y = c .before .before in
-    let x = y .before .before .before .before in
-    let w = rw (x .found .given .1) at (x .before .before .head-at .ensures .1) in
-    let v = rw (y .room .given .1) at (y .before .before .admit .ensures .1) in
-    search needs
+    let v = recorded (y .there .given .1) (y .before .before .record-at .ensures) in
+    record { low = search needs; short = search needs; small = omega (arith, v .inside, v .least) }
 
-add-base : tie.Need-add-base
-add-base c = search needs
+-- behind the cursor's step
+abbrev step : tie.After-out → tie.After-there
+step c = c .before .before .before .before
 
+-- the part behind the head, of which the body is handed on
 sub-body-rows : tie.Need-sub-body-rows
 sub-body-rows c =
-    let y = c .before .before .before .before in
-    let x = y .before .before .before .before in
-    let w = rw (x .found .given .1) at (x .before .before .head-at .ensures .1) in
-    let v = rw (y .room .given .1) at (y .before .before .admit .ensures .1) in
-    omega arith
+    let y = step c in
+    let v = recorded (y .there .given .1) (y .before .before .record-at .ensures) in
+    omega (arith, v .least)
 
 part-body-rows-start : tie.Need-part-body-rows-start
 part-body-rows-start c =
-    let y = c .before .before .before .before in
-    let x = y .before .before .before .before in
-    let w = rw (x .found .given .1) at (x .before .before .head-at .ensures .1) in
-    let v = rw (y .room .given .1) at (y .before .before .admit .ensures .1) in
-    omega arith
+    let y = step c in
+    let v = recorded (y .there .given .1) (y .before .before .record-at .ensures) in
+    omega (arith, v .least, v .inside)
 
 part-body-rows-end : tie.Need-part-body-rows-end
 part-body-rows-end c =
-    let y = c .before .before .before .before in
-    let x = y .before .before .before .before in
-    let w = rw (x .found .given .1) at (x .before .before .head-at .ensures .1) in
-    let v = rw (y .room .given .1) at (y .before .before .admit .ensures .1) in
-    omega arith
+    let y = step c in
+    let v = recorded (y .there .given .1) (y .before .before .record-at .ensures) in
+    omega (arith, v .least, v .inside)
 
 body-rows-requires : tie.Need-body-rows-requires
 body-rows-requires c κs =
-    let y = c .before .before .before .before .before .before in
-    let x = y .before .before .before .before in
-    let w = rw (x .found .given .1) at (x .before .before .head-at .ensures .1) in
-    let v = rw (y .room .given .1) at (y .before .before .admit .ensures .1) in
-    simp (length-take, length-drop) (omega (arith, c .before .before .before .put .ensures .0), omega (arith, c .before .before .before .put .ensures .0))
+    let y = step (c .before .before) in
+    let v = recorded (y .there .given .1) (y .before .before .record-at .ensures) in
+    let u = c .before .before .before .put .ensures in
+    record { short = simp (length-take, length-drop) (omega (arith, v .inside, v .least)); low = omega (arith, u .next, v .least) }
 
-same-length : tie.Need-same-length
-same-length c = search needs
-
-returns-3 : tie.Need-returns-3
-returns-3 c =
-    let y = c .before .before .before .before .before .before .before .before in
-    let x = y .before .before .before .before in
-    let z = x .before .before .before .before in
-    let w = rw (x .found .given .1) at (x .before .before .head-at .ensures .1) in
-    let v = rw (y .room .given .1) at (y .before .before .admit .ensures .1) in
-    let f = rw (x .found .given .1) at (x .before .before .head-at .ensures .0) in
+returns-2 : tie.Need-returns-2
+returns-2 c =
+    let y = step (c .before .before .before .before) in
+    let v = recorded (y .there .given .1) (y .before .before .record-at .ensures) in
     let b = c .before .body-rows .ensures in
-    let l = simp (length-take, length-drop) at (b .0) in
-    (omega (arith, w .0, v .0, v .2), v .1, omega (arith, w .0, v .0, v .1, v .2, l), wrote-recording (z .args .o) (now (z .args .file)) (z .args .p) _ _ f (w .0) (y .room .given .0 .0) (v .0) (v .1) (v .2) (z .args .write) _ _ _ (z .args .k) (c .before .before .before .before .before .put .result) (c .before .body-rows .result) (c .before .before .before .before .before .put .ensures) (b .1))
+    let l = simp (length-take, length-drop) at (b .reaches) in
+    record {
+      on = omega (arith, v .least);
+      inside = v .inside;
+      reaches = omega (arith, l, v .least, v .inside);
+      wrote = wrote-recording v (c .before .before .before .before .before .put .ensures) (b .wrote);
+    }
 
 pub recording-rows-spec : {M : Type 1} → statement M
 recording-rows-spec =
     tie.close
     (tie.spec
-    head-at-requires
-    enum-known-found
-    enum-told
+    (λ c κs. search needs)
+    (λ c. search needs)
+    (λ c. search needs)
     returns
-    admit-requires
-    enum-known-room
-    enum-told-2
-    returns-2
     sub-put
     put-requires
-    add-base
+    (λ c. search needs)
     sub-body-rows
     part-body-rows-start
     part-body-rows-end
     body-rows-requires
-    same-length
-    returns-3)
+    (λ c. search needs)
+    returns-2)

@@ -1,3 +1,5 @@
+-- `samples::time_at` meets its contract: the clock of a frame that a walk gave is in the bytes of its record.
+-- Assumes nothing.
 use borrow.Author.Needs.{needs}
 use Rattle.samples.proofs.Clocked.{clock-read}
 use Rattle.samples.proofs.time_at.Statement.{statement}

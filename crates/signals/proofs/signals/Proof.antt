@@ -52,10 +52,10 @@ returns-3 c =
     let base = z .args .base in
     λ t r k.
     let a = frames-on k base (z .pre .1) (x .before .before .before .before .if1 .left) (rw (x .before .held .given .1) at (x .before .before .before .frames-at .ensures .0 (t .basic) (t .channels .value) (k .channels) (k .frames) (k .count) (k .kept))) in
-    simp (c .of-head .ensures, c .before .enum-told2 .given .1) (found-stop a (rw (c .before .enum-told2 .given .1) at (c .before .before .before .next-head .ensures .0 (16 + length s) (omega arith))))
+    simp (c .of-head .ensures, c .before .enum-told2 .given .1) (found-stop a (rw (c .before .enum-told2 .given .1) at (c .before .before .before .next-head .ensures .seen (16 + length s) (omega arith))))
 
 delimiter-requires : tie.Need-delimiter-requires
-delimiter-requires c κs = let w = rw (c .before .found .given .1) at (c .before .before .before .next-head .ensures .1) in search needs
+delimiter-requires c κs = let w = rw (c .before .found .given .1) at (c .before .before .before .next-head .ensures .stands) in search needs
 
 enum-told-3 : tie.Need-enum-told-3
 enum-told-3 c = search needs
@@ -71,20 +71,20 @@ returns-4 c =
     let y = c .before .before .before .before in
     let x = y .before .before .before .before in
     let z = x .before .before .before .before .before .before .before .before in
-    let w = rw (y .before .found .given .1) at (y .before .before .before .next-head .ensures .1) in
+    let w = rw (y .before .found .given .1) at (y .before .before .before .next-head .ensures .stands) in
     let o = z .args .o in
     let s = now (z .args .s) in
     let base = z .args .base in
     λ t r k.
     let a = frames-on k base (z .pre .1) (x .before .before .before .before .if1 .left) (rw (x .before .held .given .1) at (x .before .before .before .frames-at .ensures .0 (t .basic) (t .channels .value) (k .channels) (k .frames) (k .count) (k .kept))) in
-    let d = found-on (y .before .found .given .0 .0 .at) (k .bytes) (w .1) a (rw (y .before .found .given .1) at (y .before .before .before .next-head .ensures .0 (16 + length s) (omega arith))) in
+    let d = found-on (y .before .found .given .0 .0 .at) (k .bytes) (w .1) a (rw (y .before .found .given .1) at (y .before .before .before .next-head .ensures .seen (16 + length s) (omega arith))) in
     simp (c .of-test .ensures, c .before .enum-told4 .given .1) (delimiter-stop d (rw (c .before .enum-told4 .given .1) at (c .before .before .before .delimiter .ensures o base s)))
 
 add-closed : tie.Need-add-closed
-add-closed c = let w = rw (c .before .before .before .before .before .found .given .1) at (c .before .before .before .before .before .before .before .next-head .ensures .1) in search needs
+add-closed c = let w = rw (c .before .before .before .before .before .found .given .1) at (c .before .before .before .before .before .before .before .next-head .ensures .stands) in search needs
 
 closed-requires : tie.Need-closed-requires
-closed-requires c κs = let w = rw (c .before .before .before .before .before .found .given .1) at (c .before .before .before .before .before .before .before .next-head .ensures .1) in search needs
+closed-requires c κs = let w = rw (c .before .before .before .before .before .found .given .1) at (c .before .before .before .before .before .before .before .next-head .ensures .stands) in search needs
 
 enum-told-5 : tie.Need-enum-told-5
 enum-told-5 c = search needs
@@ -100,13 +100,13 @@ returns-5 c =
     let y = c .before .before .before .before .before .before .before .before in
     let x = y .before .before .before .before in
     let z = x .before .before .before .before .before .before .before .before in
-    let w = rw (y .before .found .given .1) at (y .before .before .before .next-head .ensures .1) in
+    let w = rw (y .before .found .given .1) at (y .before .before .before .next-head .ensures .stands) in
     let o = z .args .o in
     let s = now (z .args .s) in
     let base = z .args .base in
     λ t r k.
     let a = frames-on k base (z .pre .1) (x .before .before .before .before .if1 .left) (rw (x .before .held .given .1) at (x .before .before .before .frames-at .ensures .0 (t .basic) (t .channels .value) (k .channels) (k .frames) (k .count) (k .kept))) in
-    let d = found-on (y .before .found .given .0 .0 .at) (k .bytes) (w .1) a (rw (y .before .found .given .1) at (y .before .before .before .next-head .ensures .0 (16 + length s) (omega arith))) in
+    let d = found-on (y .before .found .given .0 .0 .at) (k .bytes) (w .1) a (rw (y .before .found .given .1) at (y .before .before .before .next-head .ensures .seen (16 + length s) (omega arith))) in
     simp (c .of-test2 .ensures, c .before .enum-told6 .given .1) (closed-stop d (k .multiplier) (rw (c .before .before .before .before .before .enum-told3 .given .1) at (c .before .before .before .before .before .before .before .delimiter .ensures o base s)) (z .pre .2) (c .before .before .before .closed .ensures o) (rw (c .before .enum-told6 .given .1)))
 
 returns-6 : tie.Need-returns-6
@@ -114,13 +114,13 @@ returns-6 c =
     let y = c .before .before .before .before .before .before .before in
     let x = y .before .before .before .before in
     let z = x .before .before .before .before .before .before .before .before in
-    let w = rw (y .before .found .given .1) at (y .before .before .before .next-head .ensures .1) in
+    let w = rw (y .before .found .given .1) at (y .before .before .before .next-head .ensures .stands) in
     let o = z .args .o in
     let s = now (z .args .s) in
     let base = z .args .base in
     λ t r k.
     let a = frames-on k base (z .pre .1) (x .before .before .before .before .if1 .left) (rw (x .before .held .given .1) at (x .before .before .before .frames-at .ensures .0 (t .basic) (t .channels .value) (k .channels) (k .frames) (k .count) (k .kept))) in
-    let d = found-on (y .before .found .given .0 .0 .at) (k .bytes) (w .1) a (rw (y .before .found .given .1) at (y .before .before .before .next-head .ensures .0 (16 + length s) (omega arith))) in
+    let d = found-on (y .before .found .given .0 .0 .at) (k .bytes) (w .1) a (rw (y .before .found .given .1) at (y .before .before .before .next-head .ensures .seen (16 + length s) (omega arith))) in
     closed-on d (k .multiplier) (rw (c .before .before .before .before .enum-told3 .given .1) at (c .before .before .before .before .before .before .delimiter .ensures o base s)) (z .pre .2) (c .before .before .closed .ensures o) (rw (c .enum-told5 .given .1))
 
 pub signals-spec : {M : Type 1} → statement M

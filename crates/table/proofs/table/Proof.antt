@@ -7,18 +7,6 @@ use borrow.Author.Needs.{needs}
 use Rattle.table.proofs.table.Statement.{statement}
 use Rattle.table.proofs.table.Tie as tie
 
-judge-requires : tie.Need-judge-requires
-judge-requires c κs = search needs
-
-enum-known-judged : tie.Need-enum-known-judged
-enum-known-judged c = search needs
-
-enum-told : tie.Need-enum-told
-enum-told c = search needs
-
-of-judged-requires : tie.Need-of-judged-requires
-of-judged-requires c κs = search needs
-
 returns : tie.Need-returns
 returns c =
     let z = c .before .before .before .before .before in
@@ -30,15 +18,12 @@ file-rows-requires c κs =
     let j = rw (x .judged .given .1) at (x .before .before .judge .ensures) in
     (accepted-long _ _ j, search needs)
 
-same-length : tie.Need-same-length
-same-length c = search needs
-
 returns-2 : tie.Need-returns-2
 returns-2 c =
     let x = c .before .before .before .before .before in
     let z = x .before .before .before .before in
     let j = rw (x .judged .given .1) at (x .before .before .judge .ensures) in
-    lists-short (now (z .args .file)) _ j (now (z .args .out)) _ _ (c .before .before .file-rows .ensures .1) (c .if1 .taken)
+    lists-short (now (z .args .file)) _ j (now (z .args .out)) _ _ (c .before .before .file-rows .ensures .wrote) (c .if1 .taken)
 
 file-rows-requires-2 : tie.Need-file-rows-requires-2
 file-rows-requires-2 c κs =
@@ -46,28 +31,25 @@ file-rows-requires-2 c κs =
     let j = rw (x .judged .given .1) at (x .before .before .judge .ensures) in
     (accepted-long _ _ j, search needs)
 
-same-length-2 : tie.Need-same-length-2
-same-length-2 c = search needs
-
 returns-3 : tie.Need-returns-3
 returns-3 c =
     let x = c .before .before .before .before .before .before .before .before in
     let z = x .before .before .before .before in
     let j = rw (x .judged .given .1) at (x .before .before .judge .ensures) in
-    lists-rows (now (z .args .file)) _ j (now (z .args .out)) _ _ (c .before .before .before .before .before .file-rows .ensures .1) _ _ (c .before .before .before .if1 .left) (c .before .file-rows2 .ensures .1)
+    lists-rows (now (z .args .file)) _ j (now (z .args .out)) _ _ (c .before .before .before .before .before .file-rows .ensures .wrote) _ _ (c .before .before .before .if1 .left) (c .before .file-rows2 .ensures .wrote)
 
 pub table-spec : {M : Type 1} → statement M
 table-spec =
     tie.close
     (tie.spec
-    judge-requires
-    enum-known-judged
-    enum-told
-    of-judged-requires
+    (λ c κs. search needs)
+    (λ c. search needs)
+    (λ c. search needs)
+    (λ c κs. search needs)
     returns
     file-rows-requires
-    same-length
+    (λ c. search needs)
     returns-2
     file-rows-requires-2
-    same-length-2
+    (λ c. search needs)
     returns-3)

@@ -1,3 +1,4 @@
+-- `transcripts::basic` meets its contract: the 100 at the start of a recording's body, if there is room for it.
 use mathlib.Core.Path.{sym}
 use native.Mathlib.Omega.{arith}
 use lib.ListN.{length-take, length-drop}

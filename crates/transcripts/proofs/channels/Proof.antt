@@ -1,3 +1,4 @@
+-- `transcripts::channels` meets its contract: the rest of a 120, if the head is one's, and what `next` writes behind it.
 use native.Mathlib.Omega.{arith}
 use denote.Ref.{now}
 use Rattle.rules.specs.Rules as R
@@ -25,7 +26,7 @@ returns-2 : tie.Need-returns-2
 returns-2 c =
     let a = c .before .before .before .before .before .before .before .args in
     let p = c .before .before .before .before .before .before .before .pre in
-    let stop = rw (c .enum-told .given .1) at (c .before .before .admit .ensures .0 (a .w .from) (a .base) (now (a .s))) in
+    let stop = rw (c .enum-told .given .1) at (c .before .before .admit .ensures .seen (a .w .from) (a .base) (now (a .s))) in
     (omega arith, p .0, p .2, channels-refused (a .w) (a .base) (now (a .s)) (a .h) 120 (c .before .before .before .if1 .left) (now (a .out)) (a .k) stop)
 
 add-from : tie.Need-add-from
@@ -33,12 +34,12 @@ add-from c = search needs
 
 sub-n : tie.Need-sub-n
 sub-n c =
-    let w = rw (c .before .before .room .given .1) at (c .before .before .before .before .admit .ensures .1) in
+    let w = rw (c .before .before .room .given .1) at (c .before .before .before .before .admit .ensures .stands) in
     omega arith
 
 number4-requires : tie.Need-number4-requires
 number4-requires c κs =
-    let w = rw (c .before .before .room .given .1) at (c .before .before .before .before .admit .ensures .1) in
+    let w = rw (c .before .before .room .given .1) at (c .before .before .before .before .admit .ensures .stands) in
     omega arith
 
 add-if2 : tie.Need-add-if2
@@ -58,7 +59,7 @@ returns-3 c =
     let a = c .before .before .before .before .before .before .before .before .before .before .before .args in
     let p = c .before .before .before .before .before .before .before .before .before .before .before .pre in
     let q = c .before .before .before .before .room .given .0 .0 in
-    let w = rw (c .before .before .before .before .room .given .1) at (c .before .before .before .before .before .before .admit .ensures .1) in
+    let w = rw (c .before .before .before .before .room .given .1) at (c .before .before .before .before .before .before .admit .ensures .stands) in
     let n = c .before .number4 in
     (omega arith, p .0, p .2, λ b. channels-odd (a .w) (a .base) (now (a .s)) (a .h) (p .0) q (w .0) (w .1) (now (a .out)) _ (a .k) _ _ (c .before .before .before .before .before .before .before .if1 .left) (w .2) b (n .result) (n .ensures .0) (c .if2 .taken))
 
@@ -67,7 +68,7 @@ sub-if3 c = search needs
 
 next-requires : tie.Need-next-requires
 next-requires c κs =
-    let w = rw (c .before .before .before .before .before .before .room .given .1) at (c .before .before .before .before .before .before .before .before .admit .ensures .1) in
+    let w = rw (c .before .before .before .before .before .before .room .given .1) at (c .before .before .before .before .before .before .before .before .admit .ensures .stands) in
     search needs
 
 same-length : tie.Need-same-length
@@ -78,7 +79,7 @@ returns-4 c =
     let a = c .before .before .before .before .before .before .before .before .before .before .before .before .before .before .before .before .args in
     let p = c .before .before .before .before .before .before .before .before .before .before .before .before .before .before .before .before .pre in
     let q = c .before .before .before .before .before .before .before .before .before .room .given .0 .0 in
-    let w = rw (c .before .before .before .before .before .before .before .before .before .room .given .1) at (c .before .before .before .before .before .before .before .before .before .before .before .admit .ensures .1) in
+    let w = rw (c .before .before .before .before .before .before .before .before .before .room .given .1) at (c .before .before .before .before .before .before .before .before .before .before .before .admit .ensures .stands) in
     let m = c .before .before .next .ensures in
     (omega arith, m .1, m .2, λ b. channels-full (a .w) (a .base) (now (a .s)) (a .h) (p .0) q (w .0) (w .1) (now (a .out)) _ (a .k) _ _ (c .before .before .before .before .before .before .before .before .before .before .before .before .if1 .left) (w .2) b (c .before .before .before .before .if3 .taken) (m .3))
 
@@ -90,7 +91,7 @@ part-channels-body-start c = search needs
 
 part-channels-body-end : tie.Need-part-channels-body-end
 part-channels-body-end c =
-    let w = rw (c .before .before .before .before .before .room .given .1) at (c .before .before .before .before .before .before .before .admit .ensures .1) in
+    let w = rw (c .before .before .before .before .before .room .given .1) at (c .before .before .before .before .before .before .before .admit .ensures .stands) in
     search needs
 
 add-channels-body : tie.Need-add-channels-body
@@ -113,7 +114,7 @@ add-next c = omega (arith, c .before .before .before .before .before .before .if
 
 next-requires-2 : tie.Need-next-requires-2
 next-requires-2 c κs =
-    let w = rw (c .before .before .before .before .before .before .before .before .before .before .before .room .given .1) at (c .before .before .before .before .before .before .before .before .before .before .before .before .before .admit .ensures .1) in
+    let w = rw (c .before .before .before .before .before .before .before .before .before .before .before .room .given .1) at (c .before .before .before .before .before .before .before .before .before .before .before .before .before .admit .ensures .stands) in
     search needs
 
 same-length-2 : tie.Need-same-length-2
@@ -124,7 +125,7 @@ returns-5 c =
     let a = c .before .before .before .before .before .before .before .before .before .before .before .before .before .before .before .before .before .before .before .before .before .args in
     let p = c .before .before .before .before .before .before .before .before .before .before .before .before .before .before .before .before .before .before .before .before .before .pre in
     let q = c .before .before .before .before .before .before .before .before .before .before .before .before .before .before .room .given .0 .0 in
-    let w = rw (c .before .before .before .before .before .before .before .before .before .before .before .before .before .before .room .given .1) at (c .before .before .before .before .before .before .before .before .before .before .before .before .before .before .before .before .admit .ensures .1) in
+    let w = rw (c .before .before .before .before .before .before .before .before .before .before .before .before .before .before .room .given .1) at (c .before .before .before .before .before .before .before .before .before .before .before .before .before .before .before .before .admit .ensures .stands) in
     let n = c .before .before .before .before .before .before .before .before .before .before .before .number4 in
     let m = c .before .before .next2 .ensures in
     (omega arith, m .1, search needs, λ b. channels-copied (a .w) (a .base) (now (a .s)) (a .h) (p .0) q (w .0) (w .1) (now (a .out)) _ (a .k) _ _ (c .before .before .before .before .before .before .before .before .before .before .before .before .before .before .before .before .before .if1 .left) (w .2) b _ (n .result) (n .ensures .0) (c .before .before .before .before .before .before .channels-body .ensures) (m .3))

@@ -1,3 +1,4 @@
+-- `transcripts::head` meets its contract: the head at byte p of s, if there is room for it.
 use Prim.Native.Nat.{_+_}
 use native.Mathlib.Omega.{arith}
 use denote.Ref.{now}

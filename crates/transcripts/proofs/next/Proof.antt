@@ -41,11 +41,11 @@ returns : tie.Need-returns Inv-loop μ-loop
 returns c =
     let l = c .before .before .before .before .loop in
     let at = ap (λ (h : Head). h .at) (c .nothing .ensures) in
-    (omega (arith, at), omega (arith, at), omega (arith, at), λ fuel n e m g. listing-stop (l .inv .3 fuel m .walk) (l .inv .1) (rw (c .before .enum-told .given .1) at (c .before .before .before .head-at .ensures .0)) g)
+    (omega (arith, at), omega (arith, at), omega (arith, at), λ fuel n e m g. listing-stop (l .inv .3 fuel m .walk) (l .inv .1) (rw (c .before .enum-told .given .1) at (c .before .before .before .head-at .ensures .seen)) g)
 
 head-requires : tie.Need-head-requires Inv-loop μ-loop
 head-requires c κs =
-    let w = rw (c .before .before .found .given .1) at (c .before .before .before .before .head-at .ensures .1) in
+    let w = rw (c .before .before .found .given .1) at (c .before .before .before .before .head-at .ensures .stands) in
     search needs
 
 maker-code-requires : tie.Need-maker-code-requires Inv-loop μ-loop
@@ -57,8 +57,8 @@ same-length-2 c = search needs
 returns-2 : tie.Need-returns-2 Inv-loop μ-loop
 returns-2 c =
     let h = c .before .before .before .before .before .before .before .found .given .0 .0 in
-    let f = rw (c .before .before .before .before .before .before .before .found .given .1) at (c .before .before .before .before .before .before .before .before .before .head-at .ensures .0) in
-    let w = rw (c .before .before .before .before .before .before .before .found .given .1) at (c .before .before .before .before .before .before .before .before .before .head-at .ensures .1) in
+    let f = rw (c .before .before .before .before .before .before .before .found .given .1) at (c .before .before .before .before .before .before .before .before .before .head-at .ensures .seen) in
+    let w = rw (c .before .before .before .before .before .before .before .found .given .1) at (c .before .before .before .before .before .before .before .before .before .head-at .ensures .stands) in
     let l = c .before .before .before .before .before .before .before .before .before .before .loop in
     let a = c .before .before .before .before .before .before .before .before .before .before .before .before .before .args in
     let m = sym (c .before .maker-code .ensures) ∙ not-true (c .before .maker-code .result) (c .if1 .taken) in
@@ -66,7 +66,7 @@ returns-2 c =
 
 admit-requires : tie.Need-admit-requires Inv-loop μ-loop
 admit-requires c κs =
-    let w = rw (c .before .before .before .before .before .before .before .found .given .1) at (c .before .before .before .before .before .before .before .before .before .head-at .ensures .1) in
+    let w = rw (c .before .before .before .before .before .before .before .found .given .1) at (c .before .before .before .before .before .before .before .before .before .head-at .ensures .stands) in
     search needs
 
 enum-known-room : tie.Need-enum-known-room Inv-loop μ-loop
@@ -84,60 +84,60 @@ same-length-3 c = search needs
 returns-3 : tie.Need-returns-3 Inv-loop μ-loop
 returns-3 c =
     let h = c .before .before .before .before .before .before .before .before .before .before .before .found .given .0 .0 in
-    let f = rw (c .before .before .before .before .before .before .before .before .before .before .before .found .given .1) at (c .before .before .before .before .before .before .before .before .before .before .before .before .before .head-at .ensures .0) in
-    let w = rw (c .before .before .before .before .before .before .before .before .before .before .before .found .given .1) at (c .before .before .before .before .before .before .before .before .before .before .before .before .before .head-at .ensures .1) in
+    let f = rw (c .before .before .before .before .before .before .before .before .before .before .before .found .given .1) at (c .before .before .before .before .before .before .before .before .before .before .before .before .before .head-at .ensures .seen) in
+    let w = rw (c .before .before .before .before .before .before .before .before .before .before .before .found .given .1) at (c .before .before .before .before .before .before .before .before .before .before .before .before .before .head-at .ensures .stands) in
     let l = c .before .before .before .before .before .before .before .before .before .before .before .before .before .before .loop in
     let a = c .before .before .before .before .before .before .before .before .before .before .before .before .before .before .before .before .before .args in
     let m = sym (c .before .before .before .before .before .maker-code .ensures) ∙ not-false (c .before .before .before .before .before .maker-code .result) (c .before .before .before .before .if1 .left) in
-    let r = rw (c .before .enum-told2 .given .1) at (c .before .before .before .admit .ensures .0 (a .w .from) (a .base) (now (a .s))) in
+    let r = rw (c .before .enum-told2 .given .1) at (c .before .before .before .admit .ensures .seen (a .w .from) (a .base) (now (a .s))) in
     let at = ap (λ (h : Head). h .at) (c .nothing2 .ensures) in
     (omega (arith, at), omega (arith, at), omega (arith, at), λ fuel n e z g. listing-refused (l .inv .3 fuel z .walk) (l .inv .1) h f (w .0) (w .1) m r g)
 
 add-text : tie.Need-add-text Inv-loop μ-loop
 add-text c =
-    let w = rw (c .before .before .before .before .before .before .before .before .before .before .before .found .given .1) at (c .before .before .before .before .before .before .before .before .before .before .before .before .before .head-at .ensures .1) in
-    let v = rw (c .before .room .given .1) at (c .before .before .before .admit .ensures .1) in
+    let w = rw (c .before .before .before .before .before .before .before .before .before .before .before .found .given .1) at (c .before .before .before .before .before .before .before .before .before .before .before .before .before .head-at .ensures .stands) in
+    let v = rw (c .before .room .given .1) at (c .before .before .before .admit .ensures .stands) in
     search needs
 
 sub-text : tie.Need-sub-text Inv-loop μ-loop
 sub-text c =
-    let w = rw (c .before .before .before .before .before .before .before .before .before .before .before .found .given .1) at (c .before .before .before .before .before .before .before .before .before .before .before .before .before .head-at .ensures .1) in
-    let v = rw (c .before .room .given .1) at (c .before .before .before .admit .ensures .1) in
+    let w = rw (c .before .before .before .before .before .before .before .before .before .before .before .found .given .1) at (c .before .before .before .before .before .before .before .before .before .before .before .before .before .head-at .ensures .stands) in
+    let v = rw (c .before .room .given .1) at (c .before .before .before .admit .ensures .stands) in
     search needs
 
 part-text-start : tie.Need-part-text-start Inv-loop μ-loop
 part-text-start c =
-    let w = rw (c .before .before .before .before .before .before .before .before .before .before .before .found .given .1) at (c .before .before .before .before .before .before .before .before .before .before .before .before .before .head-at .ensures .1) in
-    let v = rw (c .before .room .given .1) at (c .before .before .before .admit .ensures .1) in
+    let w = rw (c .before .before .before .before .before .before .before .before .before .before .before .found .given .1) at (c .before .before .before .before .before .before .before .before .before .before .before .before .before .head-at .ensures .stands) in
+    let v = rw (c .before .room .given .1) at (c .before .before .before .admit .ensures .stands) in
     search needs
 
 part-text-end : tie.Need-part-text-end Inv-loop μ-loop
 part-text-end c =
-    let w = rw (c .before .before .before .before .before .before .before .before .before .before .before .found .given .1) at (c .before .before .before .before .before .before .before .before .before .before .before .before .before .head-at .ensures .1) in
-    let v = rw (c .before .room .given .1) at (c .before .before .before .admit .ensures .1) in
+    let w = rw (c .before .before .before .before .before .before .before .before .before .before .before .found .given .1) at (c .before .before .before .before .before .before .before .before .before .before .before .before .before .head-at .ensures .stands) in
+    let v = rw (c .before .room .given .1) at (c .before .before .before .admit .ensures .stands) in
     search needs
 
 text-requires : tie.Need-text-requires Inv-loop μ-loop
 text-requires c κs =
-    let w = rw (c .before .before .before .before .before .before .before .before .before .before .before .before .before .found .given .1) at (c .before .before .before .before .before .before .before .before .before .before .before .before .before .before .before .head-at .ensures .1) in
+    let w = rw (c .before .before .before .before .before .before .before .before .before .before .before .before .before .found .given .1) at (c .before .before .before .before .before .before .before .before .before .before .before .before .before .before .before .head-at .ensures .stands) in
     search needs
 
 loop-less : tie.Need-loop-less Inv-loop μ-loop
 loop-less c =
-    let w = rw (c .before .before .before .before .before .before .before .before .before .before .before .before .before .before .before .before .found .given .1) at (c .before .before .before .before .before .before .before .before .before .before .before .before .before .before .before .before .before .before .head-at .ensures .1) in
-    let v = rw (c .before .before .before .before .before .before .room .given .1) at (c .before .before .before .before .before .before .before .before .admit .ensures .1) in
+    let w = rw (c .before .before .before .before .before .before .before .before .before .before .before .before .before .before .before .before .found .given .1) at (c .before .before .before .before .before .before .before .before .before .before .before .before .before .before .before .before .before .before .head-at .ensures .stands) in
+    let v = rw (c .before .before .before .before .before .before .room .given .1) at (c .before .before .before .before .before .before .before .before .admit .ensures .stands) in
     omega arith
 
 loop-again : tie.Need-loop-again Inv-loop μ-loop
 loop-again c =
     let h = c .before .before .before .before .before .before .before .before .before .before .before .before .before .before .before .before .found .given .0 .0 in
-    let f = rw (c .before .before .before .before .before .before .before .before .before .before .before .before .before .before .before .before .found .given .1) at (c .before .before .before .before .before .before .before .before .before .before .before .before .before .before .before .before .before .before .head-at .ensures .0) in
-    let w = rw (c .before .before .before .before .before .before .before .before .before .before .before .before .before .before .before .before .found .given .1) at (c .before .before .before .before .before .before .before .before .before .before .before .before .before .before .before .before .before .before .head-at .ensures .1) in
+    let f = rw (c .before .before .before .before .before .before .before .before .before .before .before .before .before .before .before .before .found .given .1) at (c .before .before .before .before .before .before .before .before .before .before .before .before .before .before .before .before .before .before .head-at .ensures .seen) in
+    let w = rw (c .before .before .before .before .before .before .before .before .before .before .before .before .before .before .before .before .found .given .1) at (c .before .before .before .before .before .before .before .before .before .before .before .before .before .before .before .before .before .before .head-at .ensures .stands) in
     let l = c .before .before .before .before .before .before .before .before .before .before .before .before .before .before .before .before .before .before .before .loop in
     let a = c .before .before .before .before .before .before .before .before .before .before .before .before .before .before .before .before .before .before .before .before .before .before .args in
-    let v = rw (c .before .before .before .before .before .before .room .given .1) at (c .before .before .before .before .before .before .before .before .admit .ensures .1) in
+    let v = rw (c .before .before .before .before .before .before .room .given .1) at (c .before .before .before .before .before .before .before .before .admit .ensures .stands) in
     let m = sym (c .before .before .before .before .before .before .before .before .before .before .maker-code .ensures) ∙ not-false (c .before .before .before .before .before .before .before .before .before .before .maker-code .result) (c .before .before .before .before .before .before .before .before .before .if1 .left) in
-    let r = rw (c .before .before .before .before .before .before .room .given .1) at (c .before .before .before .before .before .before .before .before .admit .ensures .0 (a .w .from) (a .base) (now (a .s))) in
+    let r = rw (c .before .before .before .before .before .before .room .given .1) at (c .before .before .before .before .before .before .before .before .admit .ensures .seen (a .w .from) (a .base) (now (a .s))) in
     (omega arith, omega arith, search needs, (λ fuel z. passing-more (l .inv .3 fuel z) (l .inv .1) h f (w .0) (w .1) _ _ (c .before .before .before .before .before .before .before .before .before .before .before .before .before .head .ensures .1 (a .base) (length (now (a .s)) - l .p)) m r _ (v .0) (v .2) _ _ (c .before .before .text .ensures .1)), search needs)
 
 pub next-spec : {M : Type 1} → statement M

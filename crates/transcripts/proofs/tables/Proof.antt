@@ -1,3 +1,4 @@
+-- `transcripts::tables` meets its contract: a recording's body up to the head of its 140, which is written too.
 use mathlib.Core.Path.{ap, _∙_}
 use native.Mathlib.Omega.{arith}
 use denote.Ref.{now}

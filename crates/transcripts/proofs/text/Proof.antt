@@ -1,3 +1,4 @@
+-- `transcripts::text` meets its contract: bytes as they stand, if there is room for them.
 use mathlib.Core.Path.{refl}
 use native.Mathlib.Omega.{arith}
 use Rattle.transcripts.proofs.Onward.{pastes-whole, pastes-full}

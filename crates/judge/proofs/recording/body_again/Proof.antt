@@ -8,8 +8,8 @@ use borrow.Author.Needs.{needs}
 use Rattle.judge.proofs.recording.body_again.Statement.{statement}
 use Rattle.judge.proofs.recording.body_again.Tie as tie
 
-add-read-tables : tie.Need-add-read-tables
-add-read-tables c = search needs
+add-base : tie.Need-add-base
+add-base c = search needs
 
 read-tables-requires : tie.Need-read-tables-requires
 read-tables-requires c κs = search needs
@@ -27,6 +27,12 @@ returns : tie.Need-returns
 returns c =
     let z = c .before .before .before .before .before in
     simp (c .of-tables .ensures, c .before .enum-told .given .1) ((λ file held h x e is has fills g. tables-stop (z .args .o) file (z .args .at) (now (z .args .s)) (z .args .before) held h fills (rw (c .before .enum-told .given .1) at (c .before .before .before .read-tables .ensures .0 file held is has))), λ n l w. tt)
+
+add-place : tie.Need-add-place
+add-place c =
+    let y = c .before .before in
+    let b = rw (y .tabled .given .1) at (y .before .before .read-tables .ensures .1) in
+    omega (arith, b .fits, y .before .before .before .before .pre)
 
 add-if1 : tie.Need-add-if1
 add-if1 c =
@@ -70,12 +76,13 @@ pub body-again-spec : {M : Type 1} → statement M
 body-again-spec =
     tie.close
     (tie.spec
-    add-read-tables
+    add-base
     read-tables-requires
     enum-known-tabled
     enum-told
     of-tables-requires
     returns
+    add-place
     add-if1
     returns-2
     add-number4

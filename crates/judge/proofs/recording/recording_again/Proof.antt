@@ -25,12 +25,12 @@ of-head-requires c κs = search needs
 returns : tie.Need-returns
 returns c =
     let z = c .before .before .before .before .before in
-    simp (c .of-head .ensures, c .before .enum-told .given .1) ((λ held i x e has g. head-stop (z .args .o) (now (z .args .file)) (z .args .p) i held (rw (c .before .enum-told .given .1) at (c .before .before .before .head-at .ensures .0))), tt)
+    simp (c .of-head .ensures, c .before .enum-told .given .1) ((λ held i x e has g. head-stop (z .args .o) (now (z .args .file)) (z .args .p) i held (rw (c .before .enum-told .given .1) at (c .before .before .before .head-at .ensures .seen))), tt)
 
 admit-requires : tie.Need-admit-requires
 admit-requires c κs =
     let x = c .before in
-    let w = rw (x .found .given .1) at (x .before .before .head-at .ensures .1) in
+    let w = rw (x .found .given .1) at (x .before .before .head-at .ensures .stands) in
     search needs
 
 enum-known-room : tie.Need-enum-known-room
@@ -48,8 +48,8 @@ returns-2 c =
     let z = x .before .before .before .before in
     let o = z .args .o in
     let file = now (z .args .file) in
-    let w = rw (x .found .given .1) at (x .before .before .head-at .ensures .1) in
-    simp (c .of-step .ensures, c .before .enum-told2 .given .1) ((λ held i u e has g. absurd (not-refused o file (z .args .p) i held _ (rw (x .found .given .1) at (x .before .before .head-at .ensures .0)) (w .0) g (rw (c .before .enum-told2 .given .1) at (c .before .before .before .admit .ensures .0 o 0 file)))), tt)
+    let w = rw (x .found .given .1) at (x .before .before .head-at .ensures .stands) in
+    simp (c .of-step .ensures, c .before .enum-told2 .given .1) ((λ held i u e has g. absurd (not-refused o file (z .args .p) i held _ (rw (x .found .given .1) at (x .before .before .head-at .ensures .seen)) (w .0) g (rw (c .before .enum-told2 .given .1) at (c .before .before .before .admit .ensures .seen o 0 file)))), tt)
 
 add-body-again : tie.Need-add-body-again
 add-body-again c = search needs
@@ -57,22 +57,22 @@ add-body-again c = search needs
 sub-body-again : tie.Need-sub-body-again
 sub-body-again c =
     let x = c .before .before .before .before .before in
-    let w = rw (x .found .given .1) at (x .before .before .head-at .ensures .1) in
-    let v = rw (c .before .room .given .1) at (c .before .before .before .admit .ensures .1) in
+    let w = rw (x .found .given .1) at (x .before .before .head-at .ensures .stands) in
+    let v = rw (c .before .room .given .1) at (c .before .before .before .admit .ensures .stands) in
     omega arith
 
 part-body-again-start : tie.Need-part-body-again-start
 part-body-again-start c =
     let x = c .before .before .before .before .before in
-    let w = rw (x .found .given .1) at (x .before .before .head-at .ensures .1) in
-    let v = rw (c .before .room .given .1) at (c .before .before .before .admit .ensures .1) in
+    let w = rw (x .found .given .1) at (x .before .before .head-at .ensures .stands) in
+    let v = rw (c .before .room .given .1) at (c .before .before .before .admit .ensures .stands) in
     omega arith
 
 part-body-again-end : tie.Need-part-body-again-end
 part-body-again-end c =
     let x = c .before .before .before .before .before in
-    let w = rw (x .found .given .1) at (x .before .before .head-at .ensures .1) in
-    let v = rw (c .before .room .given .1) at (c .before .before .before .admit .ensures .1) in
+    let w = rw (x .found .given .1) at (x .before .before .head-at .ensures .stands) in
+    let v = rw (c .before .room .given .1) at (c .before .before .before .admit .ensures .stands) in
     omega arith
 
 body-again-requires : tie.Need-body-again-requires
@@ -80,8 +80,8 @@ body-again-requires c κs =
     let y = c .before .before in
     let x = y .before .before .before .before in
     let z = x .before .before .before .before in
-    let w = rw (x .found .given .1) at (x .before .before .head-at .ensures .1) in
-    let v = rw (y .room .given .1) at (y .before .before .admit .ensures .1) in
+    let w = rw (x .found .given .1) at (x .before .before .head-at .ensures .stands) in
+    let v = rw (y .room .given .1) at (y .before .before .admit .ensures .stands) in
     let a = part-asked (now (z .args .file)) (z .args .p + 16) (y .room .given .0 .0) (omega arith) (omega arith) (z .args .before) (z .pre .1) (z .pre .2) in
     omega (arith, a .1, a .2)
 
@@ -93,9 +93,9 @@ returns-3 c =
     let o = z .args .o in
     let file = now (z .args .file) in
     let p = z .args .p in
-    let w = rw (x .found .given .1) at (x .before .before .head-at .ensures .1) in
-    let v = rw (y .room .given .1) at (y .before .before .admit .ensures .1) in
-    let f = rw (x .found .given .1) at (x .before .before .head-at .ensures .0) in
+    let w = rw (x .found .given .1) at (x .before .before .head-at .ensures .stands) in
+    let v = rw (y .room .given .1) at (y .before .before .admit .ensures .stands) in
+    let f = rw (x .found .given .1) at (x .before .before .head-at .ensures .seen) in
     let a = part-asked file (p + 16) (y .room .given .0 .0) (omega arith) (omega arith) (z .args .before) (z .pre .1) (z .pre .2) in
     ((λ held i u e has g. recorded-body o file p i held (x .found .given .0 .0 .at) f (w .0) (code-is o file p i held _ f (w .0) g) (y .room .given .0 .0) (admitted o file p i held _ f (w .0) g) (v .0) (v .1) (v .2) (z .args .before) (c .body-again .result) (λ l d. c .body-again .ensures .0 file held _ u e (a .0) has l (d ∙ g))), c .body-again .ensures .1 (length file) (a .1) (a .3))
 

@@ -2,10 +2,23 @@
 -- Assumes nothing.
 use mathlib.Core.Path.{sym, _∙_}
 use denote.Ref.{now}
+use Rattle.recordings.specs.Found.{RecordingFoundAs}
+use Rattle.recordings.specs.declared.RecordingFound.the-variants as RecordingFound
 use Rattle.questions.proofs.Owners.{asked-refused, asked-nothing, asked-inside, asked-item}
 use borrow.Author.Needs.{needs}
 use Rattle.questions.proofs.items.item_asked.Statement.{statement}
 use Rattle.questions.proofs.items.item_asked.Tie as tie
+
+-- what was known behind the record that holds, behind the recording found, and at the start
+abbrev back : tie.After-holding → tie.After-found
+back c = c .before .before
+
+abbrev start : tie.After-found → tie.Start
+start x = x .before .before .before .before
+
+-- the recording found
+known : (x : tie.After-found) → RecordingFoundAs (now (start x .args .file)) (start x .args .recording) (RecordingFound.At (x .found .given .0 .0) (x .found .given .0 .1 .0))
+known x = rw (x .found .given .1) at (x .before .before .recording-asked .ensures)
 
 recording-asked-requires : tie.Need-recording-asked-requires
 recording-asked-requires c κs = search needs
@@ -16,13 +29,13 @@ enum-known-found c = search needs
 enum-told : tie.Need-enum-told
 enum-told c = search needs
 
-of-found-requires : tie.Need-of-found-requires
-of-found-requires c κs = search needs
+of-recording-found-requires : tie.Need-of-recording-found-requires
+of-recording-found-requires c κs = search needs
 
 returns : tie.Need-returns
 returns c =
     let a = c .before .before .before .before .before .args in
-    simp (c .of-found .ensures, c .before .enum-told .given .1)
+    simp (c .of-recording-found .ensures, c .before .enum-told .given .1)
     (asked-refused (a .k) (now (a .file)) (a .recording) (a .item) (rw (c .before .enum-told .given .1) at (c .before .before .before .recording-asked .ensures)))
 
 holding-requires : tie.Need-holding-requires
@@ -36,24 +49,27 @@ enum-known-held c = search needs
 
 item-in-requires : tie.Need-item-in-requires
 item-in-requires c κs =
-    let x = c .before .before .before .before .before in
-    let a = x .before .before .before .before .args in
-    let f = rw (x .found .given .1) at (x .before .before .recording-asked .ensures) in
-    asked-inside (f .1) (a .k) _ (sym (c .before .before .before .holding .ensures) ∙ c .before .held .given .1)
+    let h : tie.After-holding = c .before .before .before in
+    let x = back h in
+    let a = start x .args in
+    let f = known x in
+    asked-inside (f .1) (a .k) _ (sym (h .holding .ensures) ∙ c .before .held .given .1)
 
 returns-2 : tie.Need-returns-2
 returns-2 c =
-    let x = c .before .before .before .before in
-    let a = x .before .before .before .before .args in
-    let f = rw (x .found .given .1) at (x .before .before .recording-asked .ensures) in
-    asked-nothing (f .1) (a .k) (a .item) (sym (c .before .before .holding .ensures) ∙ c .enum-told2 .given .1)
+    let h : tie.After-holding = c .before .before in
+    let x = back h in
+    let a = start x .args in
+    let f = known x in
+    asked-nothing (f .1) (a .k) (a .item) (sym (h .holding .ensures) ∙ c .enum-told2 .given .1)
 
 returns-3 : tie.Need-returns-3
 returns-3 c =
-    let x = c .before .before .before .before .before .before in
-    let a = x .before .before .before .before .args in
-    let f = rw (x .found .given .1) at (x .before .before .recording-asked .ensures) in
-    asked-item (f .1) (a .k) _ (a .item) _ (sym (c .before .before .before .before .holding .ensures) ∙ c .before .before .held .given .1) (c .item-in .ensures)
+    let h : tie.After-holding = c .before .before .before .before in
+    let x = back h in
+    let a = start x .args in
+    let f = known x in
+    asked-item (f .1) (a .k) _ (a .item) _ (sym (h .holding .ensures) ∙ c .before .before .held .given .1) (c .item-in .ensures)
 
 pub item-asked-spec : {M : Type 1} → statement M
 item-asked-spec =
@@ -62,7 +78,7 @@ item-asked-spec =
     recording-asked-requires
     enum-known-found
     enum-told
-    of-found-requires
+    of-recording-found-requires
     returns
     holding-requires
     enum-told-2

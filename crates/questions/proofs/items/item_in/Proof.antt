@@ -43,8 +43,9 @@ sub-if3 c = search needs
 
 returns-3 : tie.Need-returns-3
 returns-3 c = λ ok room h is e g k.
-    let w = sym (c .before .before .before .within .ensures) ∙ not-false _ (c .before .before .if2 .left) in
-    absurd (omega (arith, c .if3 .taken, c .before .item-place .ensures .0, entry-inside _ _ _ ok room h g k _ (c .before .before .before .before .number4 .ensures .0) _ w _ (c .before .item-place .ensures .1)))
+    let x = c .before .before .before in
+    let w = sym (x .within .ensures) ∙ not-false _ (c .before .before .if2 .left) in
+    absurd (omega (arith, c .if3 .taken, c .before .item-place .ensures .inside, entry-inside _ _ _ ok room h g k _ (x .before .number4 .ensures .0) _ w _ (c .before .item-place .ensures .passed)))
 
 number4-requires-2 : tie.Need-number4-requires-2
 number4-requires-2 c κs = search needs
@@ -66,9 +67,11 @@ less-requires c κs = search needs
 
 returns-4 : tie.Need-returns-4
 returns-4 c = λ ok room h is e g k.
-    let w = sym (c .before .before .before .before .before .before .within .ensures) ∙ not-false _ (c .before .before .before .before .before .if2 .left) in
+    let p : tie.After-item-place = c .before .before .before .before in
+    let x : tie.After-within = p .before .before in
+    let w = sym (x .within .ensures) ∙ not-false _ (p .before .if2 .left) in
     rw (kept (c .before .int4 .result) (c .before .int4 .ok), c .before .int4 .ensures, c .less .ensures, c .before .before .number42 .ensures .0)
-    (entry-is _ _ _ ok room h g k _ (c .before .before .before .before .before .before .before .number4 .ensures .0) _ w _ (c .before .before .before .before .item-place .ensures .1))
+    (entry-is _ _ _ ok room h g k _ (x .before .number4 .ensures .0) _ w _ (p .item-place .ensures .passed))
 
 pub item-in-spec : {M : Type 1} → statement M
 item-in-spec =

@@ -5,7 +5,8 @@ use Prim.Native.Nat.{_-_, _≤_}
 use native.Mathlib.Omega.{arith}
 use lib.ListN.{length}
 use borrow.Author.Needs.{needs}
-use Rattle.questions.proofs.Entries.{Reaches, reaches-none, reaches-item, reaches-more}
+use Rattle.questions.specs.Holding.{Reaches}
+use Rattle.questions.proofs.Entries.{reaches-none, reaches-item, reaches-more}
 use Rattle.questions.proofs.items.item_place.Statement.{statement}
 use Rattle.questions.proofs.items.item_place.Tie as tie
 
@@ -24,7 +25,7 @@ sub-if1 c = search needs
 returns : tie.Need-returns Inv-loop μ-loop
 returns c =
     let l = c .before .before .loop in
-    (search needs, λ ok count room is e m g k. absurd (let x = reaches-item _ _ _ _ _ _ (l .inv .2) (c .before .loop-test .taken) ok count room is e m g k in omega (arith, x .fits)))
+    record { inside = search needs; passed = λ ok count room is e m g k. absurd (let x = reaches-item _ _ _ _ _ _ (l .inv .2) (c .before .loop-test .taken) ok count room is e m g k in omega (arith, x .fits)) }
 
 number4-requires : tie.Need-number4-requires Inv-loop μ-loop
 number4-requires c κs = search needs
@@ -37,9 +38,10 @@ sub-if2 c = search needs
 
 returns-2 : tie.Need-returns-2 Inv-loop μ-loop
 returns-2 c =
-    let l = c .before .before .before .before .loop in
+    let t = c .before .before .before in
+    let l = t .before .loop in
     let v = c .before .number4 .ensures in
-    (search needs, λ ok count room is e m g k. absurd (let x = reaches-item _ _ _ _ _ _ (l .inv .2) (c .before .before .before .loop-test .taken) ok count room is e m g k in omega (arith, x .fits, x .size)))
+    record { inside = search needs; passed = λ ok count room is e m g k. absurd (let x = reaches-item _ _ _ _ _ _ (l .inv .2) (t .loop-test .taken) ok count room is e m g k in omega (arith, x .fits, x .size)) }
 
 add-p : tie.Need-add-p Inv-loop μ-loop
 add-p c = search needs
@@ -52,14 +54,14 @@ loop-less c = search needs
 
 loop-again : tie.Need-loop-again Inv-loop μ-loop
 loop-again c =
-    let l = c .before .before .before .before .loop in
-    (search needs, search needs, reaches-more _ _ _ _ _ _ (l .inv .2) (c .before .before .before .loop-test .taken) _ (c .before .number4 .ensures .0))
+    let t = c .before .before .before in
+    (search needs, search needs, reaches-more _ _ _ _ _ _ (t .before .loop .inv .2) (t .loop-test .taken) _ (c .before .number4 .ensures .0))
 
 returns-3 : tie.Need-returns-3 Inv-loop μ-loop
 returns-3 c =
     let l = c .before .loop in
     let z : l .i ≡ c .before .before .before .args .n = omega arith in
-    (search needs, rw z at (l .inv .2))
+    record { inside = search needs; passed = rw z at (l .inv .2) }
 
 pub item-place-spec : {M : Type 1} → statement M
 item-place-spec =

@@ -16,25 +16,48 @@ Inv-loop w file cs t filled size count s d₀ widths from₀ k₀ i₀ d from k 
 abbrev μ-loop : tie.MeasureT-loop
 μ-loop w file cs t filled size count s d₀ widths from₀ k₀ i₀ d from k i = count - i
 
+-- from place to place: the samples' widths are known, T, the frame length and the count are written, the reserve is cleared, and the frames follow
+abbrev start : tie.After-widths-of Inv-loop μ-loop → tie.Start Inv-loop μ-loop
+start c = c .before .before .before .before
+
+abbrev to-seconds : tie.After-put42 Inv-loop μ-loop → tie.After-put4 Inv-loop μ-loop
+to-seconds c = c .before .before .before .before
+
+abbrev to-length : tie.After-put43 Inv-loop μ-loop → tie.After-put42 Inv-loop μ-loop
+to-length c = c .before .before .before .before
+
+abbrev to-count : tie.After-clear-run Inv-loop μ-loop → tie.After-put43 Inv-loop μ-loop
+to-count c = c .before .before .before .before
+
+abbrev widths : tie.After-clear-run Inv-loop μ-loop → tie.After-widths-of Inv-loop μ-loop
+widths c = to-seconds (to-length (to-count c)) .before .before
+
+abbrev entry : tie.At-loop Inv-loop μ-loop → tie.Start Inv-loop μ-loop
+entry c = start (widths (c .before .before .before))
+
 slice-aggregate-put4 : tie.Need-slice-aggregate-put4 Inv-loop μ-loop
-slice-aggregate-put4 c = sym (length-take-le 4 (c .before .before .before .before .before .args .d .now) (omega arith))
+slice-aggregate-put4 c = sym (length-take-le 4 (start (c .before) .args .d .now) (omega arith))
 
 put4-requires : tie.Need-put4-requires Inv-loop μ-loop
-put4-requires c κs = length-take-le 4 (c .before .before .before .before .before .args .d .now) (omega arith)
+put4-requires c κs = length-take-le 4 (start (c .before) .args .d .now) (omega arith)
 
 loop-holds : tie.Need-loop-holds Inv-loop μ-loop
 loop-holds c =
-    let start = c .before .before .before .before .before .before .before .before .before .before .before .before .before .before .before .before .before .before .before .before in
-    let a = start .args in
-    framing-start (a .w) (a .file .now) (a .cs) (a .t) (a .filled) (a .size) (a .count) (a .s .now) (a .d .now) _ _ _ _ (start .pre .5) (start .pre .6)
-    (c .before .before .before .before .before .before .before .before .before .before .before .before .before .d .given .1) (c .before .before .before .before .before .before .before .before .before .d2 .given .1) (c .before .before .before .before .before .d3 .given .1) (c .before .d4 .given .1)
-    (c .before .before .before .before .before .before .before .before .before .before .before .before .before .before .put4 .ensures) (c .before .before .before .before .before .before .before .before .before .before .put42 .ensures) (c .before .before .before .before .before .before .put43 .ensures) (c .before .before .clear-run .ensures)
+    let y₄ = c .before .before in
+    let y₃ = to-count y₄ in
+    let y₂ = to-length y₃ in
+    let y₁ = to-seconds y₂ in
+    let z = start (widths y₄) in
+    let a = z .args in
+    framing-start (a .w) (a .file .now) (a .cs) (a .t) (a .filled) (a .size) (a .count) (a .s .now) (a .d .now) _ _ _ _ (z .pre .source) (z .pre .target)
+    (y₂ .before .before .before .d .given .1) (y₃ .before .before .before .d2 .given .1) (y₄ .before .before .before .d3 .given .1) (c .before .d4 .given .1)
+    (y₁ .put4 .ensures) (y₂ .put42 .ensures) (y₃ .put43 .ensures) (y₄ .clear-run .ensures)
 
 add-end : tie.Need-add-end Inv-loop μ-loop
-add-end c = omega (arith, framing-room _ _ _ _ _ _ _ _ (c .before .loop .inv) (c .loop-test .taken), c .before .loop .inv .long, c .before .before .before .before .before .before .before .before .before .before .before .before .before .before .before .before .before .before .before .before .before .before)
+add-end c = omega (arith, framing-room _ _ _ _ _ _ _ _ (c .before .loop .inv) (c .loop-test .taken), c .before .loop .inv .long, entry (c .before))
 
 add-frame-2 : tie.Need-add-frame-2 Inv-loop μ-loop
-add-frame-2 c = omega (arith, framing-room _ _ _ _ _ _ _ _ (c .before .loop .inv) (c .loop-test .taken), c .before .before .before .before .before .before .before .before .before .before .before .before .before .before .before .before .before .before .before .before .before .before)
+add-frame-2 c = omega (arith, framing-room _ _ _ _ _ _ _ _ (c .before .loop .inv) (c .loop-test .taken), entry (c .before))
 
 part-frame-end : tie.Need-part-frame-end Inv-loop μ-loop
 part-frame-end c = omega (arith, framing-room _ _ _ _ _ _ _ _ (c .before .loop .inv) (c .loop-test .taken))
@@ -44,32 +67,47 @@ part-frame-end-2 c = omega (arith, framing-room _ _ _ _ _ _ _ _ (c .before .befo
 
 frame-requires : tie.Need-frame-requires Inv-loop μ-loop
 frame-requires c κs =
-    let z = c .before .before .before .before .before .before .before .before .before .before .before .before .before .before .before .before .before .before .before .before .before .before .before .before in
-    let r = framing-room _ _ _ _ _ _ _ _ (c .before .before .before .loop .inv) (c .before .before .loop-test .taken) in
-    (z .pre .0, z .pre .1, search needs, search needs, search needs, c .before .before .before .before .before .before .before .before .before .before .before .before .before .before .before .before .before .before .before .before .widths-of .ensures)
+    let l = c .before .before .before in
+    let z = entry l in
+    let r = framing-room _ _ _ _ _ _ _ _ (l .loop .inv) (c .before .before .loop-test .taken) in
+    record { channels = z .pre .channels; seconds = z .pre .seconds; least = search needs; small = search needs; room = search needs; wide = widths (l .before .before .before) .widths-of .ensures }
+
+-- the test that began the turn
+abbrev turn : tie.After-frame Inv-loop μ-loop → tie.In-loop Inv-loop μ-loop
+turn c = c .before .before .before
 
 add-from : tie.Need-add-from Inv-loop μ-loop
-add-from c = omega (arith, framing-room _ _ _ _ _ _ _ _ (c .before .before .before .before .before .before .loop .inv) (c .before .before .before .before .before .loop-test .taken), c .before .before .before .before .before .before .before .before .before .before .before .before .before .before .before .before .before .before .before .before .before .before .before .before .before)
+add-from c =
+    let t = turn (c .before .before) in
+    omega (arith, framing-room _ _ _ _ _ _ _ _ (t .before .loop .inv) (t .loop-test .taken), widths (t .before .before .before .before) .before .before)
 
 add-i : tie.Need-add-i Inv-loop μ-loop
-add-i c = omega (arith, c .before .before .before .before .before .loop-test .taken, c .before .before .before .before .before .before .before .before .before .before .before .before .before .before .before .before .before .before .before .before .before .before .before .before .before .before .before)
+add-i c = let t = turn (c .before .before) in omega (arith, t .loop-test .taken, entry (t .before))
 
 loop-again : tie.Need-loop-again Inv-loop μ-loop
 loop-again c =
-    let l = c .before .before .before .before .before .before .loop in
-    let start = c .before .before .before .before .before .before .before .before .before .before .before .before .before .before .before .before .before .before .before .before .before .before .before .before .before .before .before in
-    let a = start .args in
+    let w = c .before .before in
+    let t = turn w in
+    let l = t .before .loop in
+    let z = entry (t .before) in
+    let a = z .args in
     framing-more (a .w) (a .file .now) (a .cs) (a .t) (a .filled) (a .size) (a .count) (a .s .now) (l .inv) (l .from + a .filled - l .from) (l .k + a .filled - l .k) _
-    (c .before .before .before .before .before .loop-test .taken) (start .pre .3) (omega arith) (omega arith) (c .before .d5 .given .1) (c .before .before .frame .ensures)
+    (t .loop-test .taken) (z .pre .fits) (omega arith) (omega arith) (c .before .d5 .given .1) (w .frame .ensures)
+
+-- the loop's last test
+abbrev to-loop : tie.After-clear-run2 Inv-loop μ-loop → tie.At-loop Inv-loop μ-loop
+to-loop c = c .before .before .before
 
 returns : tie.Need-returns Inv-loop μ-loop
 returns c =
-    let start = c .before .before .before .before .before .before .before .before .before .before .before .before .before .before .before .before .before .before .before .before .before .before .before .before .before .before in
-    let a = start .args in
-    λ clear b basic ch hd f e n kept is n₀ n₁ n₂ whole went z.
-    framing-end (a .w) (a .file .now) (a .cs) (a .t) (a .filled) (a .size) (a .count) (a .s .now) (c .before .before .before .before .before .loop .inv) _ (omega arith) (c .before .d6 .given .1) (c .before .before .clear-run2 .ensures)
-    clear b basic ch hd f e n kept is n₀ n₁ n₂ whole went
-    (omega (arith, z, c .before .before .before .before .before .before .before .d4 .given .1, c .before .before .before .before .before .before .before .before .before .before .before .d3 .given .1, c .before .before .before .before .before .before .before .before .before .before .before .before .before .before .before .d2 .given .1, c .before .before .before .before .before .before .before .before .before .before .before .before .before .before .before .before .before .before .before .d .given .1))
+    let w = c .before .before in
+    let l = to-loop w in
+    let y₄ = l .before .before .before in
+    let y₃ = to-count y₄ in
+    let y₂ = to-length y₃ in
+    let a = entry l .args in
+    framing-end (a .w) (a .file .now) (a .cs) (a .t) (a .filled) (a .size) (a .count) (a .s .now) (l .loop .inv) (a .d .now) _ (omega arith) (c .before .d6 .given .1) (w .clear-run2 .ensures)
+    (omega (arith, l .before .before .d4 .given .1, y₄ .before .before .before .d3 .given .1, y₃ .before .before .before .d2 .given .1, y₂ .before .before .before .d .given .1))
 
 pub frames-body-spec : {M : Type 1} → statement M
 frames-body-spec =

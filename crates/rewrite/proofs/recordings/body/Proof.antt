@@ -10,7 +10,7 @@ use Rattle.rewrite.proofs.recordings.body.Tie as tie
 next-requires : tie.Need-next-requires
 next-requires c κs =
     let z = c .before .before .before .before .before .before .before .before .before .before .before .before .before .before .before .before .before .before .before in
-    (omega (arith, z .pre .3 .end, z .pre .3 .last), z .pre .2, omega (arith, z .pre .3 .whole, z .pre .4, c .before .before .d3 .given .1, c .before .before .before .before .before .before .before .d2 .given .1, c .before .before .before .before .before .before .before .before .before .before .before .d .given))
+    (omega (arith, z .pre .bounds .end, z .pre .bounds .last), z .pre .short, omega (arith, z .pre .bounds .whole, z .pre .room, c .before .before .d3 .given .1, c .before .before .before .before .before .before .before .d2 .given .1, c .before .before .before .before .before .before .before .before .before .before .before .d .given))
 
 returns : tie.Need-returns
 returns c =
@@ -21,8 +21,8 @@ returns c =
     let n = c .before .before .before .before .before .before .next in
     body-written (a .w) (a .file .now) (a .cs) (a .f) s (a .base) (a .d .now) _ _ _ _ _ (t .result .k) (n .result .k) (bytes s (λ i. c .before .before .before .before .before .before .before .before .before .before .before .before .before .before .before .before .before .before .before .before .before .before .before .before .shared-slice-known2 .given i .fits))
     (record {
-      least = omega (arith, z .pre .3 .signals);
-      room = z .pre .4;
+      least = omega (arith, z .pre .bounds .signals);
+      room = z .pre .room;
       same₁ = c .before .before .before .before .before .before .before .before .before .before .before .before .before .before .before .before .before .before .d .given;
       same₂ = c .before .before .before .before .before .before .before .before .before .before .before .before .before .before .d2 .given .1;
       same₃ = c .before .before .before .before .before .before .before .before .before .d3 .given .1;

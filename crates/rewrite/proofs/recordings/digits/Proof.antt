@@ -1,4 +1,4 @@
--- `rewrite::recordings::digits` meets its contract.
+-- `rewrite::recordings::digits` meets its contract: one digit or two, and spaces.
 -- Assumes nothing.
 use native.Mathlib.Omega.{arith}
 use lib.ListN.{length-set}
@@ -10,11 +10,14 @@ use Rattle.rewrite.proofs.recordings.digits.Tie as tie
 slice-write-d-3 : tie.Need-slice-write-d-3
 slice-write-d-3 c = simp length-set (omega arith)
 
+abbrev start : tie.After-copy-run → tie.Start
+start c = c .before .before .before .before
+
 returns : tie.Need-returns
-returns c = rw (c .before .before .before .copy-run .ensures, one-digit (c .before .before .before .before .before .before .before .args .count) (omega arith))
+returns c = let y = c .before .before .before in rw (y .copy-run .ensures, one-digit (start y .args .count) (omega arith))
 
 returns-2 : tie.Need-returns-2
-returns-2 c = rw (c .before .before .before .copy-run .ensures, two-digits (c .before .before .before .before .before .before .before .args .count) (omega arith))
+returns-2 c = let y = c .before .before .before in rw (y .copy-run .ensures, two-digits (start y .args .count) (omega arith))
 
 pub digits-spec : {M : Type 1} → statement M
 digits-spec =

@@ -1,15 +1,13 @@
 -- `rewrite::recordings::file_length` meets its contract. The loop's invariant: the sum is what the header and the recordings read so far take.
 -- The measure is how many recordings are left. Assumes nothing.
-use mathlib.Core.Path.{_≡_}
 use mathlib.Core.List.{List}
-use mathlib.Core.Option.{none}
 use Prim.Native.Nat.{ℕ, _+_, _*_, _-_, _≤_}
 use native.Mathlib.Omega.{arith}
 use lib.ListN.{length}
 use borrow.Author.Needs.{needs}
-use Rattle.walk.specs.See.{see, goes}
-use Rattle.rules.specs.Rules.{Placed, recordings}
+use Rattle.rules.specs.Rules.{Placed}
 use Rattle.descriptions.specs.Tabled.{Within}
+use Rattle.children.specs.Recordings.{ReadAs}
 use Rattle.rewrite.proofs.Files.{length-most, going-led, going-stop, Counted, counted-start, counted-next, counted-end}
 use Rattle.rewrite.proofs.recordings.file_length.Statement.{statement}
 use Rattle.rewrite.proofs.recordings.file_length.Tie as tie
@@ -17,7 +15,7 @@ use Rattle.rewrite.proofs.recordings.file_length.Tie as tie
 abbrev Inv-loop : tie.InvT-loop
 Inv-loop o file count p₀ sum₀ before₀ i₀ p sum before i =
     (i ≤ count) × (p ≤ length file) × (sum ≤ 32 + 549755813888 * i) × Within (length file) before ×
-    ((ps : List Placed) (e : ℕ) → see o 0 file 32 (recordings count none (length file - 32) 1) ≡ goes ps e → Counted o file count ps p i before sum)
+    ((ps : List Placed) (e : ℕ) → ReadAs o file count ps e → Counted o file count ps p i before sum)
 
 abbrev μ-loop : tie.MeasureT-loop
 μ-loop o file count p₀ sum₀ before₀ i₀ p sum before i = count - i
@@ -40,20 +38,23 @@ returns c =
     let i = x .before .before .loop .inv in
     λ ps e g. absurd (let u = i .4 ps e g .at in let v = going-led u (x .before .loop-test .taken) (i .1) in going-stop u (x .before .loop-test .taken) (rw (c .enum-told .given .1) at (x .recording-again .ensures .0 (u .held) _ (v .one) (v .mid) (u .holds) (v .is))))
 
-shape-at-requires : tie.Need-shape-at-requires Inv-loop μ-loop
-shape-at-requires c κs =
-    let x = rw (c .before .step .given .1) at (c .before .before .before .recording-again .ensures .1) in
-    (x .0, x .1, c .before .before .before .before .before .before .before .pre .1, x .2)
+measure-at-requires : tie.Need-measure-at-requires Inv-loop μ-loop
+measure-at-requires c κs =
+    let y = c .before .before .before in
+    let l = y .before .before in
+    let x = rw (c .before .step .given .1) at (y .recording-again .ensures .1) in
+    record { start = x .0; end = x .1; short = l .before .before .pre .file .short; room = x .2 }
 
-shape-length-requires : tie.Need-shape-length-requires Inv-loop μ-loop
-shape-length-requires c κs = search needs
+measured-length-requires : tie.Need-measured-length-requires Inv-loop μ-loop
+measured-length-requires c κs = search needs
 
 add-sum : tie.Need-add-sum Inv-loop μ-loop
 add-sum c =
-    let x = c .before .before .before .before .before .before in
+    let st = c .before .before .before in
+    let x = st .before .before .before in
     let l = x .before .loop in
-    let a = c .before .shape-at in
-    omega (arith, l .inv .2, x .loop-test .taken, x .before .before .before .pre .2, c .shape-length .ensures, length-most (c .before .before .before .step .given .0 .0 .end - (l .p + 16)) (a .result) (a .ensures .0))
+    let a = c .before .measure-at in
+    omega (arith, l .inv .2, x .loop-test .taken, x .before .before .before .pre .few, c .measured-length .ensures, length-most (st .step .given .0 .0 .end - (l .p + 16)) (a .result) (a .ensures .bounds))
 
 add-i : tie.Need-add-i Inv-loop μ-loop
 add-i c = search needs
@@ -63,17 +64,18 @@ loop-less c = search needs
 
 loop-again : tie.Need-loop-again Inv-loop μ-loop
 loop-again c =
-    let y = c .before .before .before .before .before in
+    let st = c .before .before .before in
+    let y = st .before .before in
     let l = y .before .before .loop in
     let i = l .inv in
-    let a = c .before .shape-at in
-    let s = c .before .before .before .step .given .1 in
+    let a = c .before .measure-at in
+    let s = st .step .given .1 in
     let x = rw s at (y .recording-again .ensures .1) in (
       search needs,
       x .1,
-      omega (arith, i .2, c .shape-length .ensures, length-most (c .before .before .before .step .given .0 .0 .end - (l .p + 16)) (a .result) (a .ensures .0)),
+      omega (arith, i .2, c .measured-length .ensures, length-most (st .step .given .0 .0 .end - (l .p + 16)) (a .result) (a .ensures .bounds)),
       x .2,
-      λ ps e g. let u = i .4 ps e g in let v = going-led (u .at) (y .before .loop-test .taken) (i .1) in counted-next u _ (a .result) (y .before .loop-test .taken) (i .1) (rw s at (y .recording-again .ensures .0 (u .at .held) _ (v .one) (v .mid) (u .at .holds) (v .is))) (a .ensures .2) (c .shape-length .ensures),
+      λ ps e g. let u = i .4 ps e g in let v = going-led (u .at) (y .before .loop-test .taken) (i .1) in counted-next u _ (a .result) (y .before .loop-test .taken) (i .1) (rw s at (y .recording-again .ensures .0 (u .at .held) _ (v .one) (v .mid) (u .at .holds) (v .is))) (a .ensures) (c .measured-length .ensures),
     )
 
 returns-2 : tie.Need-returns-2 Inv-loop μ-loop
@@ -90,8 +92,8 @@ file-length-spec =
     enum-known-step
     enum-told
     returns
-    shape-at-requires
-    shape-length-requires
+    measure-at-requires
+    measured-length-requires
     add-sum
     add-i
     loop-less

@@ -1,3 +1,4 @@
+-- `signals::frames::all_divide` meets its contract: each of the m channels whose records 125 stand from byte `subs` of s on has a whole number of samples in t seconds.
 use mathlib.Core.Path.{_≡_, refl, sym, _∙_}
 use mathlib.Core.List.{List}
 use Prim.Native.Nat.{_-_, _≤_, _+_, _*_}

@@ -1,3 +1,4 @@
+-- `signals::frames::count_ok` meets its contract.
 use Rattle.signals.proofs.frames.count_ok.Statement.{statement}
 use Rattle.signals.proofs.frames.count_ok.Tie as tie
 

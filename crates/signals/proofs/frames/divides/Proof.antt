@@ -1,3 +1,4 @@
+-- `signals::frames::divides` meets its contract: a channel with these flags and this rate has a whole number of samples in t seconds.
 use Rattle.walk.proofs.Seen.{tests}
 use borrow.Author.Tests.{eq-eqb}
 use borrow.Author.Needs.{needs}

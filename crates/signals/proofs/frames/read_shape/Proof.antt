@@ -1,3 +1,4 @@
+-- `signals::frames::read_shape` meets its contract: the tests of the fields of the record 140 at `at`, whose body is the part s.
 use mathlib.Core.Path.{sym, ap, _∙_}
 use Prim.Native.Nat.{ℕ, _+_}
 use native.Mathlib.Omega.{arith}

@@ -1,3 +1,4 @@
+-- `signals::frames::room_ok` meets its contract: so many frames fit a 140 of n bytes, and the padding behind them its multiplier.
 use native.Mathlib.Omega.{arith}
 use borrow.Author.Needs.{needs}
 use Rattle.walk.proofs.Seen.{tests}

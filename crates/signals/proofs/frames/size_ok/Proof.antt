@@ -1,3 +1,4 @@
+-- `signals::frames::size_ok` meets its contract: a frame of this length holds so many bytes of samples, and at most 127 bytes more.
 use Prim.Native.Nat.{_+_, _<_, _≤_}
 use native.Mathlib.Omega.{arith}
 use Rattle.walk.proofs.Seen.{tests}

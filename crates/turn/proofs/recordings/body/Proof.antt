@@ -1,65 +1,74 @@
--- `turn::recordings::body` meets its contract: the tables, the 140 and the bytes behind the delimiter are written one behind the other.
--- Assumes nothing.
+-- `turn::recordings::body` meets its contract. The loop's invariant: the records up to byte p are written. The measure is what is left of the part.
+-- y: behind the cursor's step. Assumes nothing.
+use mathlib.Core.Option.{Option}
+use mathlib.Core.Path.{_≡_, refl}
+use Prim.Native.Nat.{ℕ, _+_, _-_, _≤_}
 use native.Mathlib.Omega.{arith}
-use denote.Ref.{now}
-use Rattle.turn.proofs.Sent.{body-copied}
+use lib.ListN.{length}
+use Rattle.walk.specs.See.{goes, see}
+use Rattle.rules.specs.Rules.{Held, Head, Placed, span, recordingBody}
+use Rattle.children.specs.Children.{knownOf}
+use Rattle.children.proofs.Visiting.{recorded}
+use Rattle.bodies.specs.Copy.{copy}
+use Rattle.transcripts.proofs.Transcribing.{Copying, copying-none, copying-more}
+use Rattle.turn.specs.Turn.{Subs}
+use Rattle.turn.proofs.Sent.{copying-last}
 use borrow.Author.Needs.{needs}
 use Rattle.turn.proofs.recordings.body.Statement.{statement}
 use Rattle.turn.proofs.recordings.body.Tie as tie
 
-tables-requires : tie.Need-tables-requires
-tables-requires c κs = search needs
+abbrev Inv-loop : tie.InvT-loop
+Inv-loop w file cs s base out₀ k o p₀ next₀ out p next =
+    (p ≤ length s) × (next ≤ length out) × (length out ≡ length out₀) ×
+    ((held : Option Held) (h : Head) (x : Placed) (e : ℕ) → span h ≡ 16 + length s → Subs (w .from) file cs (x .recording .channels) → see (w .from) base s base (recordingBody held h) ≡ goes x e →
+    Copying w base s (knownOf x) out₀ out k next p (copy w base s base (recordingBody held h)))
 
-frames-requires : tie.Need-frames-requires
-frames-requires c κs = search needs
+abbrev μ-loop : tie.MeasureT-loop
+μ-loop w file cs s base out₀ k o p₀ next₀ out p next = length s - p
 
-add-rest : tie.Need-add-rest
-add-rest c = search needs
+loop-holds : tie.Need-loop-holds Inv-loop μ-loop
+loop-holds c = (omega arith, search needs, refl, λ held h x e n m g. copying-none held h x e n g)
 
-same-length : tie.Need-same-length
-same-length c = search needs
-
-returns : tie.Need-returns
+returns : tie.Need-returns Inv-loop μ-loop
 returns c =
-    let d = c .before .before .before .before .frames in
-    let t = c .before .before .before .before .before .before .before .before .tables in
-    let a = c .before .before .before .before .before .before .before .before .before .before .before .before .before .args in
-    body-copied (a .w) (a .base) (now (a .s)) (now (a .file)) (a .cs .subs) (a .cs .count) (t .result .next) (d .result .next) _ _ _ (t .result .k) (d .result .k) (d .result .k) (d .ensures .2) (λ l. absurd (omega (arith, l, c .if1 .taken))) (now (a .out)) (a .k) (t .ensures .2)
+    let y = c .before .before .before .before in
+    let w = y .before .before .before .loop .inv in
+    let v = rw (y .enum-told .given .1) at (y .before .before .record-at .ensures) in
+    λ held h x e n m g. copying-last _ (w .3 held h x e n m g) (w .0) v (c .before .before .last .ensures)
 
-sub-text : tie.Need-sub-text
-sub-text c = search needs
+child-requires : tie.Need-child-requires Inv-loop μ-loop
+child-requires c κs =
+    let y = c .before .before in
+    let v = recorded (y .there .given .1) (y .before .before .record-at .ensures) in
+    omega (arith, v .place, v .least, v .inside)
 
-part-text-start : tie.Need-part-text-start
-part-text-start c = search needs
+loop-less : tie.Need-loop-less Inv-loop μ-loop
+loop-less c =
+    let y = c .before .before .before .before .before in
+    let v = recorded (y .there .given .1) (y .before .before .record-at .ensures) in
+    omega (arith, v .least, v .inside)
 
-part-text-end : tie.Need-part-text-end
-part-text-end c = search needs
-
-text-requires : tie.Need-text-requires
-text-requires c κs = search needs
-
-same-length-2 : tie.Need-same-length-2
-same-length-2 c = search needs
-
-returns-2 : tie.Need-returns-2
-returns-2 c =
-    let d = c .before .before .before .before .before .before .before .before .before .frames in
-    let t = c .before .before .before .before .before .before .before .before .before .before .before .before .before .tables in
-    let a = c .before .before .before .before .before .before .before .before .before .before .before .before .before .before .before .before .before .before .args in
-    body-copied (a .w) (a .base) (now (a .s)) (now (a .file)) (a .cs .subs) (a .cs .count) (t .result .next) (d .result .next) _ _ _ (t .result .k) (d .result .k) (c .before .before .text .result) (d .ensures .2) (λ l. c .before .before .text .ensures .1) (now (a .out)) (a .k) (t .ensures .2)
+loop-again : tie.Need-loop-again Inv-loop μ-loop
+loop-again c =
+    let y = c .before .before .before .before .before in
+    let w = y .before .before .before .loop .inv in
+    let v = recorded (y .there .given .1) (y .before .before .record-at .ensures) in
+    let d = c .before .before .child .ensures in
+    (v .inside, omega (arith, d .inside), search needs, λ held h x e n m g. copying-more (w .3 held h x e n m g) v (λ l stop i. d .wrote _ (knownOf x) l stop m i))
 
 pub body-spec : {M : Type 1} → statement M
 body-spec =
     tie.close
     (tie.spec
-    tables-requires
-    frames-requires
-    add-rest
-    same-length
+    Inv-loop
+    μ-loop
+    loop-holds
+    (λ c κs. search needs)
+    (λ c. search needs)
+    (λ c. search needs)
+    (λ c κs. search needs)
+    (λ c. search needs)
     returns
-    sub-text
-    part-text-start
-    part-text-end
-    text-requires
-    same-length-2
-    returns-2)
+    child-requires
+    loop-less
+    loop-again)

@@ -1,0 +1,57 @@
+// A record's first 16 bytes, and its length.
+ghost use mathlib.Core.Path.{_≡_};
+ghost use Prim.Native.Nat.{_+_, _≤_, _<_};
+ghost use lib.ListN.{length};
+ghost use Rattle.words.specs.Sizes.{Addressable};
+ghost use Rattle.rules.specs.Rules as R;
+ghost use Rattle.records.specs.Says.{noHead, HeadAt};
+use crate::Headed;
+use rules::Head;
+use rules::Refusal;
+use words::Order;
+use words::number4;
+
+// The head of the record at byte p of the part s, which stands at `base` in the file and ends where the record's parent ends.
+pub fn head_at(o: Order, s: &[u8], base: usize, p: usize) -> Headed
+    requires { ⌜ (p ≤ length (now s)) × Addressable (base + length (now s)) ⌝ }
+    ensures { λ a. ⌜ HeadAt o base (now (s .entry)) p a ⌝ }
+{
+    if s.len() < p + Head::LENGTH {
+        return Headed::Stop(Refusal(10, base + p));
+    }
+    let size = number4(o, s, p);
+    let code = number4(o, s, p + Head::CODE);
+    let serial = number4(o, s, p + Head::SERIAL);
+    let multiplier = number4(o, s, p + Head::MULTIPLIER);
+    Headed::At(Head {
+        at: p,
+        size,
+        code,
+        serial,
+        multiplier,
+    })
+}
+
+// No record's head, at byte p.
+pub fn nothing(p: usize) -> Head
+    ensures { λ r. ⌜ r ≡ noHead p ⌝ }
+{
+    Head {
+        at: p,
+        size: 0,
+        code: 0,
+        serial: 0,
+        multiplier: 0,
+    }
+}
+
+// A record's length.
+pub fn span(h: Head) -> usize
+    requires { ⌜ (h .size < 2147483648) × (h .multiplier ≤ 128) ⌝ }
+    ensures { λ r. ⌜ (r ≡ R.lengthOf (h .size) (h .multiplier)) × (r < 274877906945) ⌝ }
+{
+    if h.multiplier == 0 {
+        return h.size as usize;
+    }
+    h.size as usize * h.multiplier as usize
+}

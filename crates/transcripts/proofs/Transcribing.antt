@@ -1,0 +1,216 @@
+-- What is written of the records of a recording, one after the other, from what each of the code's steps wrote.
+-- Assumes nothing.
+use mathlib.Core.Path.{_≡_, refl, sym, ap, _∙_}
+use mathlib.Core.Bool.{Bool, true}
+use mathlib.Core.List.{List, [], _∷_, _++_, append-assoc, append-nil}
+use mathlib.Core.Option.{Option}
+use Prim.Native.Nat.{ℕ, _+_, _-_, _*_, _≤_, _<_}
+use native.Mathlib.Omega.{arith}
+use borrow.Author.Tests.{leb-true, eqb-true}
+use lib.Dec.{leb, eqb}
+use lib.ListN.{length, take, drop}
+use Rattle.words.specs.Numbers.{bytesAt, numberAt}
+use Rattle.words.specs.declared.Order.{Order}
+use Rattle.walk.specs.See.{goes, see, Stays}
+use Rattle.walk.specs.Trace.{trace}
+use Rattle.walk.specs.Walk.{Padding, laid, Walk, text, _>>=_, _>>_}
+use Rattle.walk.proofs.Laid.{laid-padding}
+use Rattle.walk.proofs.Seen.{and-left, stays-goes, see-body, body-length}
+use Rattle.walk.proofs.Tracing.{written-append, written-none, written-row, written-piece}
+use Rattle.rules.specs.Rules.{Head, Basic, Channel, Held, Placed, head, admit, span, zeros, padding, basicBody, channels, channelsBody, items, itemsBody, patientCode, eventCode, frames, makerCode, delimiter, recordingBody}
+use Rattle.rules.specs.declared.Head as At
+use Rattle.rules.proofs.Room.{stays-basicBody, stays-channelsBody, stays-itemsBody}
+use Rattle.records.specs.Says.{headOf}
+use Rattle.records.proofs.Opened.{admit-went}
+use Rattle.children.specs.Children.{Said, said, _then_, Known, knownOf, Reads, heading, Inner, is100, is120, is130, is200, is140, isMaker, Chain, RecordAt, Closed}
+use Rattle.children.proofs.Chained.{body-chain}
+use Rattle.children.proofs.Visiting.{chain-parted}
+use Rattle.rows.proofs.Lists.{channelsBody-lists}
+use Rattle.bodies.specs.Copy.{copy, Pastes}
+use Rattle.bodies.specs.declared.Way.{Way}
+use Rattle.bodies.proofs.Copying.{copy-body, length-copy, pastes-join, pastes-nothing}
+use Rattle.bodies.proofs.Pieces.{text-whole}
+use Rattle.transcripts.specs.Transcript.{anew, Anew, Itemized, Bodied, Copied, Transcribed}
+use Rattle.transcripts.proofs.Onward.{copy-admit, pastes-whole, pastes-full}
+
+pub anew-then : (w : Way) (x y : Said) → anew w (x then y) ≡ anew w x ++ anew w y
+unfolding _then_
+anew-then w x y = written-append (w .keep) (w .to) (x .events) (y .events)
+
+-- what the walk v says behind the head of a record at byte p, which ends at q: it reads the same in the body alone, and as many bytes are written
+pub record Behind {A : Type 0} (w : Way) (b : ℕ) (s : List ℕ) (p q : ℕ) (v : Walk A) (l : Said) (a : A) (e : ℕ) : Type 0 where
+  pub reads : see (w .from) (b + p + 16) (take (q - (p + 16)) (drop (p + 16) s)) (b + p + 16) v ≡ goes a e
+  pub is : copy w (b + p + 16) (take (q - (p + 16)) (drop (p + 16) s)) (b + p + 16) v ≡ anew w l
+  pub long : length (anew w l) ≡ q - (p + 16)
+
+module _ (w : Way) (b : ℕ) (s : List ℕ) (p q : ℕ) (h : Head) (stop : q ≡ p + span h) (least : p + 16 ≤ q) (inside : q ≤ length s) where
+  -- a head that is admitted, and the walk v
+  pub behind : {A : Type 0} (most : ℕ) (fits serial : ℕ → Bool) (v : Walk A) → (fits (span h) ≡ true → (at : ℕ) → Stays (at + (span h - 16)) at v (λ _ e. e ≡ at + (span h - 16))) →
+      {l : Said} (r : Reads (w .from) b s p (admit (length s - p) most fits serial h >> v) l) → Behind w b s p q v l (r .value) (r .end)
+  unfolding said
+  behind most fits serial v stays {l} r =
+      let at : ℕ = b + (p + 16) in
+      let from : ℕ = b + p + 16 in
+      let d = admit-went (w .from) b s at (length s - p) most fits serial h v (r .is) in
+      let z : from + (span h - 16) ≡ b + q = omega arith in
+      let t = rw z at (stays (d .length) from) in
+      let i : at ≡ from = omega arith in
+      let g : see (w .from) b s from v ≡ goes (r .value) (r .end) = rw i at (d .rest) in
+      let n = length-copy w b s (b + q) (omega arith) v from _ (omega arith) t g in
+      let u = stays-goes (w .from) b s (b + q) (omega arith) v from _ (omega arith) t g in
+      let c : anew w l ≡ copy w b s at v = ap (anew w) (r .says) ∙ copy-admit w b s at (length s - p) most fits serial h v in
+      record {
+        reads = see-body (w .from) b p q s v _ least inside t ∙ d .rest;
+        is = copy-body w b p q s v _ least inside t (d .rest) ∙ sym c;
+        long = ap length c ∙ (ap (λ (x : ℕ). length (copy w b s x v)) i ∙ omega (arith, n, u));
+      }
+
+  abbrev from : ℕ
+  from = b + p + 16
+
+  abbrev body : List ℕ
+  body = take (q - (p + 16)) (drop (p + 16) s)
+
+  -- a record of a recording, but no 140: how many bytes are written of it behind its head, and that a body written by its code is what it says
+  abbrev pub Told : Said → Type 0
+  Told l = (length (anew w l) ≡ q - (p + 16)) × ((d : List ℕ) → Bodied w (h .code) body d → d ≡ anew w l)
+
+  body-span : 16 + length body ≡ span h
+  body-span = body-length p q s least inside ∙ omega arith
+
+  items-told : (ok : ℕ → Bool) {l : Said} → Reads (w .from) b s p (items ok (length s - p) h) l → (length (anew w l) ≡ q - (p + 16)) × ((d : List ℕ) → Itemized w body d → d ≡ anew w l)
+  unfolding items
+  items-told ok r =
+      let f = leb-true 24 (span h) (admit-went (w .from) b s (b + (p + 16)) (length s - p) 0 (leb 24) (eqb 0) h (itemsBody ok (span h)) (r .is) .length) in
+      let z = behind 0 (leb 24) (eqb 0) (itemsBody ok (span h)) (λ e at. stays-itemsBody ok (span h) at (leb-true 24 (span h) e)) r in
+      (z .long, λ d y. (rw body-span at (y (omega (arith, body-span)) ok from)) (r .value) (r .end) (z .reads) ∙ z .is)
+
+  pub inner-told : {k : Known} {l : Said} → Inner (w .from) b s p k h l → (h .code ≡ 140 → ⊥) → Told l
+  unfolding channels
+  inner-told (is100 c r) n =
+      let f = eqb-true 128 (span h) (admit-went (w .from) b s (b + (p + 16)) (length s - p) 0 (eqb 128) (eqb 0) h basicBody (r .is) .length) in
+      let j : (at : ℕ) → at + (span h - 16) ≡ at + 112 = λ at. omega arith in
+      let z = behind 0 (eqb 128) (eqb 0) basicBody (λ _ at. rw (j at) (stays-basicBody at (at + 112) (omega arith))) r in
+      (z .long, λ d y. y .basic c (omega (arith, body-span)) from (r .value) (r .end) (z .reads) ∙ z .is)
+  inner-told {k} (is120 c r) n =
+      let z = behind 0 (leb 32) (eqb 0) (channelsBody (k .basic) (span h)) (λ e at. stays-channelsBody (k .basic) (span h) at (leb-true 32 (span h) e)) r in
+      (z .long, λ d y. (rw body-span at (y .channels c (k .basic) from)) (r .value) (r .end) (z .reads) ∙ z .is)
+  inner-told (is130 c r) n = let z = items-told patientCode r in (z .0, λ d y. z .1 d (y .patient c))
+  inner-told (is200 c r) n = let z = items-told eventCode r in (z .0, λ d y. z .1 d (y .events c))
+  inner-told (is140 c r) n = absurd (n c)
+  inner-told (isMaker c r) n =
+      let z = behind 128 (leb 16) (λ _. true) (text (span h - 16)) (λ _ at. (omega arith, λ _ _. refl)) r in
+      (z .long, λ d y. y .maker c ∙ (text-whole w from body (span h - 16) (omega (arith, body-span)) ∙ z .is))
+
+maker-high : (code : ℕ) → makerCode code ≡ true → 1024 ≤ code
+unfolding makerCode
+maker-high code z = leb-true 1024 code (and-left (leb 1024 code) _ z)
+
+-- one that is a 140
+pub inner-140 : {o : Order} {b : ℕ} {s : List ℕ} {p : ℕ} {k : Known} {h : Head} {l : Said} → Inner o b s p k h l → h .code ≡ 140 → Reads o b s p (frames (k .basic) (k .own) (k .channels) (k .back) (length s - p) h) l
+inner-140 (is100 c r) e = absurd (omega arith)
+inner-140 (is120 c r) e = absurd (omega arith)
+inner-140 (is130 c r) e = absurd (omega arith)
+inner-140 (is200 c r) e = absurd (omega arith)
+inner-140 (is140 c r) e = r
+inner-140 {h} (isMaker c r) e = absurd (omega (arith, maker-high (h .code) c))
+
+-- a record whose head is written, and then its rest
+pub record-copied : (w : Way) (b : ℕ) (s : List ℕ) (p : ℕ) (l : Said) (out out₁ out₂ : List ℕ) (k k₁ k₂ : ℕ) → ((b room : ℕ) → Pastes out out₁ k k₁ (copy w b s (b + p) (head room))) → Pastes out₁ out₂ k₁ k₂ (anew w l) → Copied w b s p l out out₂ k k₂
+unfolding said
+record-copied w b s p l out out₁ out₂ k k₁ k₂ headed rest = rw (anew-then w (heading (w .from) b s p) l) (pastes-join out out₁ out₂ k k₁ k₂ _ (anew w l) (headed b (length s - p)) rest)
+
+-- the body d of a record by its code, from what the code wrote of it
+module _ (w : Way) (code : ℕ) (s d : List ℕ) where
+  pub bodied-100 : code ≡ 100 → (length s ≡ 112 → Anew w s d basicBody) → Bodied w code s d
+  bodied-100 q y = record { basic = λ _. y; channels = λ z. absurd (omega arith); patient = λ z. absurd (omega arith); events = λ z. absurd (omega arith); maker = λ z. absurd (omega (arith, maker-high code z)) }
+
+  pub bodied-120 : code ≡ 120 → ((c : Basic) → Anew w s d (channelsBody c (16 + length s))) → Bodied w code s d
+  bodied-120 q y = record { basic = λ z. absurd (omega arith); channels = λ _. y; patient = λ z. absurd (omega arith); events = λ z. absurd (omega arith); maker = λ z. absurd (omega (arith, maker-high code z)) }
+
+  pub bodied-items : (code ≡ 100 → ⊥) → (code ≡ 120 → ⊥) → code < 1024 → Itemized w s d → Bodied w code s d
+  bodied-items n₁ n₂ l y = record { basic = λ z. absurd (n₁ z); channels = λ z. absurd (n₂ z); patient = λ _. y; events = λ _. y; maker = λ z. absurd (omega (arith, maker-high code z)) }
+
+  pub bodied-other : (code ≡ 100 → ⊥) → (code ≡ 120 → ⊥) → (code ≡ 130 → ⊥) → (code ≡ 200 → ⊥) → d ≡ s → Bodied w code s d
+  bodied-other n₁ n₂ n₃ n₄ y = record { basic = λ z. absurd (n₁ z); channels = λ z. absurd (n₂ z); patient = λ z. absurd (n₃ z); events = λ z. absurd (n₄ z); maker = λ _. y }
+
+-- a 120 has the length that its count of channels asks for
+pub channels-counted : (o : Order) (b : ℕ) (s : List ℕ) (c : Basic) (n : ℕ) {l : List Channel} {e : ℕ} → see o b s b (channelsBody c n) ≡ goes l e → n ≡ 32 + 256 * numberAt o 4 s 0
+channels-counted o b s c n g =
+    let i : b + 0 ≡ b = omega arith in
+    channelsBody-lists o b s 0 c n (ap (λ (at : ℕ). see o b s at (channelsBody c n)) i ∙ g) .0
+
+-- a record with the code's head h, which ends at q: the code wrote the head, and had room for its body or had none
+module _ (w : Way) (s : List ℕ) (h : At.Head) (q : ℕ) (least : h .at + 16 ≤ q) (inside : q ≤ length s) (out out₁ : List ℕ) (k k₁ : ℕ)
+    (headed : (b room : ℕ) → Pastes out out₁ k k₁ (copy w b s (b + h .at) (head room))) (same : length out₁ ≡ length out) where
+  pub transcribed-full : k₁ ≤ length out → length out₁ - k₁ < q - (h .at + 16) → Transcribed w s h q out out₁ k k₁
+  transcribed-full fit full =
+      record {
+        inside = fit;
+        wrote = λ b known l stop other i. record-copied w b s (h .at) l out out₁ out₁ k k₁ k₁ headed (pastes-full out₁ out₁ k₁ k₁ (anew w l) (rw (inner-told w b s (h .at) q (headOf h) stop least inside i other .0) full));
+      }
+
+  pub transcribed : (ys : List ℕ) → k₁ + (q - (h .at + 16)) ≤ length out₁ → Bodied w (h .code) (take (q - (h .at + 16)) (drop (h .at + 16) s)) ys →
+      Transcribed w s h q out (take k₁ out₁ ++ (ys ++ drop (k₁ + (q - (h .at + 16)) - k₁) (drop k₁ out₁))) k (k₁ + (q - (h .at + 16)))
+  transcribed ys fit y =
+      record {
+        inside = omega arith;
+        wrote = λ b known l stop other i.
+            let z = inner-told w b s (h .at) q (headOf h) stop least inside i other in
+            record-copied w b s (h .at) l out out₁ _ k k₁ _ headed (pastes-whole out₁ ys (anew w l) k₁ _ (z .1 ys y) (ap (λ (n : ℕ). k₁ + n) (sym (z .0))));
+      }
+
+-- the records up to byte p are written, of all that a recording's body says
+pub record Copying (w : Way) (b : ℕ) (s : List ℕ) (known : Known) (out out₁ : List ℕ) (k k₁ p : ℕ) (all : List ℕ) : Type 0 where
+  pub done : List ℕ
+  pub left : Said
+  pub chain : Chain (w .from) b s known p left
+  pub is : all ≡ done ++ anew w left
+  pub wrote : Pastes out out₁ k k₁ done
+
+module _ {w : Way} {b : ℕ} {s : List ℕ} {out : List ℕ} {k : ℕ} where
+  pub copying-none : (held : Option Held) (h : Head) (x : Placed) (e : ℕ) → span h ≡ 16 + length s → see (w .from) b s b (recordingBody held h) ≡ goes x e → Copying w b s (knownOf x) out out k k 0 (copy w b s b (recordingBody held h))
+  unfolding said
+  copying-none held h x e n g = record { done = []; left = said (w .from) b s b (recordingBody held h); chain = body-chain (w .from) b s held h n g; is = refl; wrote = pastes-nothing out k }
+
+  module _ {known : Known} {out₁ : List ℕ} {k₁ p : ℕ} {all : List ℕ} (g : Copying w b s known out out₁ k k₁ p all) where
+    -- one record more, with the head h and up to q
+    pub copying-more : {out₂ : List ℕ} {k₂ : ℕ} {h : At.Head} {q : ℕ} (v : RecordAt (w .from) b s p h q) → ((l : Said) → q ≡ h .at + span (headOf h) → Inner (w .from) b s (h .at) known (headOf h) l → Copied w b s (h .at) l out₁ out₂ k₁ k₂) → Copying w b s known out out₂ k k₂ q all
+    copying-more {out₂} {k₂} v wrote =
+        let d = chain-parted (w .from) b s v (g .chain) in
+        let xs : List ℕ = anew w (heading (w .from) b s p) in
+        let i : anew w (g .left) ≡ anew w (heading (w .from) b s p then d .own) ++ anew w (d .rest) =
+        ap (anew w) (d .is) ∙ (anew-then w (heading (w .from) b s p) (d .own then d .rest) ∙ (ap (λ (l : List ℕ). xs ++ l) (anew-then w (d .own) (d .rest)) ∙ (sym (append-assoc xs (anew w (d .own)) (anew w (d .rest))) ∙ ap (λ (l : List ℕ). l ++ anew w (d .rest)) (sym (anew-then w (heading (w .from) b s p) (d .own)))))) in
+        record {
+          done = g .done ++ anew w (heading (w .from) b s p then d .own);
+          left = d .rest;
+          chain = d .on;
+          is = g .is ∙ (ap (λ (l : List ℕ). g .done ++ l) i ∙ sym (append-assoc (g .done) _ _));
+          wrote = pastes-join out out₁ out₂ k k₁ k₂ (g .done) _ (g .wrote) ((rw (v .place) at wrote) (d .own) (v .ends) (d .inner));
+        }
+
+trace-zeros : (o : Order) (b : ℕ) (s : List ℕ) (at : ℕ) (bs : List ℕ) → trace o b s at (zeros bs) ≡ []
+unfolding zeros trace
+trace-zeros o b s at [] = refl
+trace-zeros o b s at (x ∷ bs) = trace-zeros o b s at bs
+
+-- a delimiter, and the padding behind it
+module _ (w : Way) (b : ℕ) (s : List ℕ) where
+  copy-delimiter : (at : ℕ) (h : Head) → copy w b s at (delimiter h) ≡ []
+  unfolding delimiter trace _>>=_ _>>_
+  copy-delimiter at h = written-row (w .keep) (w .to) _ _ _ _ [] ∙ written-none (w .keep) (w .to)
+
+  -- padding stands as it is
+  pub padding-stands : (at n : ℕ) → copy w b s at (padding n) ≡ bytesAt n s (at - b)
+  unfolding padding trace
+  padding-stands at n =
+      let bs : List ℕ = laid (w .from) Padding (bytesAt n s (at - b)) in
+      rw (trace-zeros (w .from) b s (at + n) bs, written-piece (w .keep) (w .to) Padding bs [], written-none, append-nil, laid-padding (w .to), laid-padding (w .from))
+
+  pub closed-bytes : (p : ℕ) {l : Said} → p ≤ length s → Closed (w .from) b s p l → anew w l ≡ copy w b s (b + p) (head (length s - p)) ++ take (length s - (p + 16)) (drop (p + 16) s)
+  unfolding said bytesAt
+  closed-bytes p {l} fit c =
+      let hs : List ℕ = copy w b s (b + p) (head (length s - p)) in
+      let i : length s - p - 16 ≡ length s - (p + 16) = omega arith in
+      let j : b + (p + 16) - b ≡ p + 16 = omega arith in
+      ap (anew w) (c .is) ∙ (anew-then w _ _ ∙ ap (λ (m : List ℕ). hs ++ m) (anew-then w _ _ ∙ rw (copy-delimiter, padding-stands, i, j)))

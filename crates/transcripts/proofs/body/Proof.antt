@@ -1,0 +1,48 @@
+-- `transcripts::body` meets its contract: one body for each code.
+-- Assumes nothing.
+use native.Mathlib.Omega.{arith}
+use Rattle.transcripts.proofs.Transcribing.{bodied-100, bodied-120, bodied-items, bodied-other}
+use borrow.Author.Needs.{needs}
+use Rattle.transcripts.proofs.body.Statement.{statement}
+use Rattle.transcripts.proofs.body.Tie as tie
+
+returns : tie.Need-returns
+returns c = bodied-100 _ _ _ _ (c .before .before .before .before .if1 .taken) (c .before .before .sized-basic .ensures)
+
+returns-2 : tie.Need-returns-2
+returns-2 c = bodied-120 _ _ _ _ (c .before .before .before .before .if2 .taken) (c .before .before .sized-channels .ensures)
+
+returns-3 : tie.Need-returns-3
+returns-3 c =
+    let x = c .before .before .before .before in
+    bodied-items _ _ _ _ (x .before .before .if1 .left) (x .before .if2 .left) (omega (arith, x .if3 .taken)) (c .before .before .sized-items .ensures)
+
+returns-4 : tie.Need-returns-4
+returns-4 c =
+    let x = c .before .before .before .before in
+    bodied-items _ _ _ _ (x .before .before .before .if1 .left) (x .before .before .if2 .left) (omega (arith, x .if4 .taken)) (c .before .before .sized-items2 .ensures)
+
+returns-5 : tie.Need-returns-5
+returns-5 c =
+    let x = c .before .before .before .before in
+    bodied-other _ _ _ _ (x .before .before .before .if1 .left) (x .before .before .if2 .left) (x .before .if3 .left) (x .if4 .left) (c .before .before .copy-run .ensures)
+
+pub body-spec : {M : Type 1} → statement M
+body-spec =
+    tie.close
+    (tie.spec
+    (λ c κs. search needs)
+    (λ c. search needs)
+    returns
+    (λ c κs. search needs)
+    (λ c. search needs)
+    returns-2
+    (λ c κs. search needs)
+    (λ c. search needs)
+    returns-3
+    (λ c κs. search needs)
+    (λ c. search needs)
+    returns-4
+    (λ c κs. search needs)
+    (λ c. search needs)
+    returns-5)

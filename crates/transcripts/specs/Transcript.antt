@@ -1,0 +1,45 @@
+-- What is written of a record that stands in a recording: of its body by its code, and of all of it.
+-- Assumes nothing.
+use mathlib.Core.Path.{_≡_}
+use mathlib.Core.Bool.{Bool, true}
+use mathlib.Core.List.{List}
+use Prim.Native.Nat.{ℕ, _+_, _≤_}
+use lib.ListN.{length}
+use Rattle.walk.specs.See.{goes, see}
+use Rattle.walk.specs.Trace.{written}
+use Rattle.walk.specs.Walk.{Walk}
+use Rattle.rules.specs.Rules.{Basic, Channel, Item, span, basicBody, channelsBody, itemsBody, makerCode}
+use Rattle.rules.specs.declared.Head.{Head}
+use Rattle.records.specs.Says.{headOf}
+use Rattle.children.specs.Children.{Said, _then_, Known, heading, Inner}
+use Rattle.bodies.specs.Copy.{copy, Pastes}
+use Rattle.bodies.specs.declared.Way.{Way}
+
+-- what is said, written anew
+abbrev pub anew : Way → Said → List ℕ
+anew w l = written (w .keep) (w .to) (l .events)
+
+-- d is the body s, written anew as the walk reads it
+abbrev pub Anew : {A : Type 0} → Way → List ℕ → List ℕ → Walk A → Type 0
+Anew {A} w s d v = (b : ℕ) (a : A) (e : ℕ) → see (w .from) b s b v ≡ goes a e → d ≡ copy w b s b v
+
+-- d is the body s of a 130 or a 200, which has room for its count and its reserve
+abbrev pub Itemized : Way → List ℕ → List ℕ → Type 0
+Itemized w s d = 8 ≤ length s → (ok : ℕ → Bool) → Anew w s d (itemsBody ok (16 + length s))
+
+-- d is the body s of a record with this code, written anew: each kind by its own walk, a maker's as it stands
+pub record Bodied (w : Way) (code : ℕ) (s d : List ℕ) : Type 0 where
+  pub basic : code ≡ 100 → length s ≡ 112 → Anew w s d basicBody
+  pub channels : code ≡ 120 → (c : Basic) → Anew w s d (channelsBody c (16 + length s))
+  pub patient : code ≡ 130 → Itemized w s d
+  pub events : code ≡ 200 → Itemized w s d
+  pub maker : makerCode code ≡ true → d ≡ s
+
+-- all that a record at byte p of the part s says, l behind its head, is written from k on, where there is room, and the next bytes go at k′
+abbrev pub Copied : Way → ℕ → List ℕ → ℕ → Said → List ℕ → List ℕ → ℕ → ℕ → Type 0
+Copied w b s p l out out′ k k′ = Pastes out out′ k k′ (anew w (heading (w .from) b s p then l))
+
+-- the record with the code's head h, which ends at byte q, if it stands in a recording and is no 140
+pub record Transcribed (w : Way) (s : List ℕ) (h : Head) (q : ℕ) (out out′ : List ℕ) (k k′ : ℕ) : Type 0 where
+  pub inside : k′ ≤ length out
+  pub wrote : (b : ℕ) (known : Known) (l : Said) → q ≡ h .at + span (headOf h) → (h .code ≡ 140 → ⊥) → Inner (w .from) b s (h .at) known (headOf h) l → Copied w b s (h .at) l out out′ k k′
