@@ -158,7 +158,8 @@ fn read_shape(
 fn frames_rest(o: Order, s: &[u8], at: usize, total: u32, f: Shape) -> Framed
     requires { ⌜ (16 ≤ length (now s)) × Addressable (at + 16 + length (now s)) × (total ≤ 1000000) × Sized f ⌝ }
     ensures { λ a. ⌜ ((ch : List R.Channel) → f .filled ≡ 24 + R.sampleBytes (f .seconds) ch →
-        over framesOf (see o (at + 16) (now (s .entry)) (at + 32) (behindFields (f .seconds) (f .size) total (16 + length (now (s .entry))) ch)) ≡ framed at a) ×
+        over framesOf (see o (at + 16) (now (s .entry)) (at + 32) (behindFields (f .seconds) (f .size) total (16 + length (now (s .entry))) ch))
+        ≡ framed at a) ×
         Fills (16 + length (now (s .entry))) a ⌝ }
 {
     let size = f.size;
@@ -240,7 +241,8 @@ pub fn frames_at(
         (cs .count ≤ 128) × (cs .subs + 256 * cs .count ≤ length (now file)) ⌝ }
     ensures { λ a. ⌜ ((rb : R.Basic) (ch : List R.Channel) → rb .channels ≡ b .channels → rb .frames ≡ b .frames → length ch ≡ cs .count →
         Kept o (now (file .entry)) (cs .subs) ch →
-        over framesOf (see o base (now (s .entry)) (base + (h .at + 16)) (R.frames rb own ch (h .at - 4) (length (now (s .entry)) - h .at) (headOf h))) ≡ framed base a) ×
+        over framesOf (see o base (now (s .entry)) (base + (h .at + 16)) (R.frames rb own ch (h .at - 4) (length (now (s .entry)) - h .at) (headOf h)))
+        ≡ framed base a) ×
         Reaches (h .at + 32) (length (now (s .entry))) a ⌝ }
 {
     let room = records::kinds::admit(h, base, s.len(), Kind::Frames);

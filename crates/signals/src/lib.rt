@@ -36,7 +36,10 @@ pub fn of_frames(a: Framed) -> Refusal
 fn closed(s: &[u8], base: usize, end: usize, padded: usize, multiplier: u32) -> Tested
     requires { ⌜ (end ≤ length (now s)) × (16 ≤ base) × Addressable (base + length (now s)) ⌝ }
     ensures { λ a. ⌜ ((o : Order) →
-        gate (leb (16 + end - padded) R.contentLimit) (gate (R.padded multiplier (length (now (s .entry)) - end)) (see o base (now (s .entry)) (base + end) (R.padding (length (now (s .entry)) - end))) 10 (base + end)) 14 (base - 16) ≡ tested a (base + length (now (s .entry)))) ⌝ }
+        gate (leb (16 + end - padded) R.contentLimit)
+        (gate (R.padded multiplier (length (now (s .entry)) - end))
+        (see o base (now (s .entry)) (base + end) (R.padding (length (now (s .entry)) - end))) 10 (base + end))
+        14 (base - 16) ≡ tested a (base + length (now (s .entry)))) ⌝ }
 {
     if Recording::CONTENT_LIMIT < records::less(Head::LENGTH + end, padded) {
         return Tested::Stop(Refusal(14, base - Head::LENGTH));
