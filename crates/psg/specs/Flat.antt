@@ -4,7 +4,10 @@ use mathlib.Core.Path.{_≡_}
 use mathlib.Core.List.{List}
 use Prim.Native.Nat.{ℕ}
 use lib.IntN.{pos}
+use lib.ListN.{length, getD}
 use Rattle.words.specs.Floats.{bitsOf}
+use Rattle.walk.specs.Walk.{Outcome, refused, passed}
+use Rattle.rules.specs.Rules as R
 use Rattle.table.specs.Table as Table
 use Rattle.permit.specs.Permit as Permit
 use Rattle.recordings.specs.Answers.{Answer, value, refusal}
@@ -22,6 +25,7 @@ use Rattle.psg.specs.declared.answers.Channel.{Channel}
 use Rattle.psg.specs.declared.answers.Clock.{Clock}
 use Rattle.psg.specs.declared.answers.Counted.{Counted}
 use Rattle.psg.specs.declared.answers.Facts.{Facts}
+use Rattle.psg.specs.declared.answers.Header.{Header}
 use Rattle.psg.specs.declared.answers.Item.{Item}
 use Rattle.psg.specs.declared.answers.Patterns.{Patterns}
 use Rattle.psg.specs.declared.answers.Sample.{Sample}
@@ -45,6 +49,18 @@ countedRows (Table.refusal n p) = stopped n p
 abbrev pub countedBytes : Permit.Answer → Counted
 countedBytes (Permit.bytes n) = counted n
 countedBytes (Permit.refusal n p) = stopped n p
+
+-- the letters of the order and of the script, and K
+abbrev pub headed : ℕ → ℕ → ℕ → Header
+headed o c k = record { refusal = 0; position = 0; order = o; script = c; recordings = k }
+
+abbrev pub unheaded : ℕ → ℕ → Header
+unheaded n p = record { refusal = n; position = p; order = 0; script = 0; recordings = 0 }
+
+-- by the rules' outcome for the file s; byte 16 is the order's letter
+abbrev pub flatHeader : List ℕ → Outcome R.File → Header
+flatHeader s (refused n p) = unheaded n p
+flatHeader s (passed v r t) = headed (getD s 16 0) (v .heading .script) (length (v .recordings))
 
 abbrev pub flatFacts : Answer Counts → Facts
 flatFacts (value x) = record { refusal = 0; position = 0; channels = x .channels; frames = x .frames; seconds = x .seconds }

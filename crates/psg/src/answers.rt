@@ -5,13 +5,15 @@ ghost use Rattle.words.specs.Values.{unsigned};
 ghost use Rattle.permit.specs.Permit.{meaning};
 ghost use Rattle.recordings.specs.Answers.{value, refusal};
 ghost use Rattle.questions.specs.Meanings.{meaningF, meaningD, meaningI, meaningT, meaningC, meaningS};
-ghost use Rattle.psg.specs.Flat.{counted, stopped, countedBytes, flatFacts, patternsOf, flatChannel, flatItem, flatClock, flatCount, flatSample};
+ghost use Rattle.psg.specs.Flat.{counted, stopped, countedBytes, headed, unheaded};
+ghost use Rattle.psg.specs.Flat.{flatFacts, patternsOf, flatChannel, flatItem, flatClock, flatCount, flatSample};
 use permit::Written;
 use questions::channels::Calibration;
 use questions::channels::ChannelTold;
 use questions::channels::Descriptor;
 use questions::items::ItemTold;
 use recordings::FactsTold;
+use rules::FileHeader;
 use rules::Refusal;
 use samples::ClockTold;
 use samples::Number;
@@ -23,6 +25,16 @@ pub struct Counted {
     pub refusal: u32,
     pub position: u64,
     pub count: u64,
+}
+
+// What the file header says: the letters of the byte order and of the script, and K.
+#[repr(C)]
+pub struct Header {
+    pub refusal: u32,
+    pub position: u64,
+    pub order: u32,
+    pub script: u32,
+    pub recordings: u32,
 }
 
 // M, F and T.
@@ -126,6 +138,31 @@ pub fn refused(r: Refusal) -> Counted
         refusal: r.0,
         position: r.1 as u64,
         count: 0,
+    }
+}
+
+// The header of an accepted file, whose order this letter names.
+pub fn header_told(order: u32, h: FileHeader) -> Header
+    ensures { λ a. ⌜ a ≡ headed order (h .heading .script) (h .count) ⌝ }
+{
+    Header {
+        refusal: 0,
+        position: 0,
+        order,
+        script: h.heading.script,
+        recordings: h.count,
+    }
+}
+
+pub fn header_refused(r: Refusal) -> Header
+    ensures { λ a. ⌜ a ≡ unheaded (r .0) (r .1) ⌝ }
+{
+    Header {
+        refusal: r.0,
+        position: r.1 as u64,
+        order: 0,
+        script: 0,
+        recordings: 0,
     }
 }
 

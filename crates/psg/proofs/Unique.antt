@@ -1,0 +1,64 @@
+-- Only one answer meets the contract of each call that C and Rust link, and of a call that writes only one buffer with it: for every file, argument and
+-- buffer. Each theorem is over the definition that the call's `ensures` cites.
+-- Assumes nothing.
+use mathlib.Core.Path.{_≡_, sym, _∙_}
+use mathlib.Core.List.{List}
+use Prim.Native.Nat.{ℕ}
+use lib.IntN.{ℤ}
+use Rattle.psg.specs.Flat.{Leaves}
+use Rattle.psg.specs.Calls.{JudgeAnswers, TableAnswers, TurnAnswers, RewriteAnswers}
+use Rattle.psg.specs.Calls.{FactsAnswers, ChannelAnswers, PatientItemAnswers, EventItemAnswers, ClockAnswers, CountAnswers, SampleAnswers, ViewAnswers}
+use Rattle.psg.specs.declared.answers.Channel.{Channel}
+use Rattle.psg.specs.declared.answers.Clock.{Clock}
+use Rattle.psg.specs.declared.answers.Counted.{Counted}
+use Rattle.psg.specs.declared.answers.Facts.{Facts}
+use Rattle.psg.specs.declared.answers.Header.{Header}
+use Rattle.psg.specs.declared.answers.Item.{Item}
+use Rattle.psg.specs.declared.answers.Sample.{Sample}
+use Rattle.psg.specs.declared.answers.View.{View}
+
+-- what is one thing is one
+only : {A : Type 0} {x a b : A} → a ≡ x → b ≡ x → a ≡ b
+only h k = h ∙ sym k
+
+only-leaves : {A : Type 0} {x a b : Counted} {xs out₁ out₂ : List A} → Leaves x xs a out₁ → Leaves x xs b out₂ → (a ≡ b) × (out₁ ≡ out₂)
+only-leaves u v = (only (u .answers) (v .answers), only (u .holds) (v .holds))
+
+module _ (s : List ℕ) where
+  pub psg-judge-unique : (a b : Header) → JudgeAnswers s a → JudgeAnswers s b → a ≡ b
+  psg-judge-unique a b = only
+
+  -- the calls that write
+  pub psg-table-unique : (out out₁ out₂ : List ℤ) (a b : Counted) → TableAnswers s out out₁ a → TableAnswers s out out₂ b → (a ≡ b) × (out₁ ≡ out₂)
+  psg-table-unique out out₁ out₂ a b = only-leaves
+
+  pub psg-turn-unique : (out out₁ out₂ : List ℕ) (a b : Counted) → TurnAnswers s out out₁ a → TurnAnswers s out out₂ b → (a ≡ b) × (out₁ ≡ out₂)
+  psg-turn-unique out out₁ out₂ a b = only-leaves
+
+  pub psg-rewrite-unique : (c : ℕ) (out out₁ out₂ : List ℕ) (a b : Counted) → RewriteAnswers s c out out₁ a → RewriteAnswers s c out out₂ b → (a ≡ b) × (out₁ ≡ out₂)
+  psg-rewrite-unique c out out₁ out₂ a b = only-leaves
+
+  -- the questions
+  pub psg-facts-unique : (i : ℕ) (a b : Facts) → FactsAnswers s i a → FactsAnswers s i b → a ≡ b
+  psg-facts-unique i a b = only
+
+  pub psg-channel-unique : (i j : ℕ) (a b : Channel) → ChannelAnswers s i j a → ChannelAnswers s i j b → a ≡ b
+  psg-channel-unique i j a b = only
+
+  pub psg-patient-item-unique : (i j : ℕ) (a b : Item) → PatientItemAnswers s i j a → PatientItemAnswers s i j b → a ≡ b
+  psg-patient-item-unique i j a b = only
+
+  pub psg-event-item-unique : (i j : ℕ) (a b : Item) → EventItemAnswers s i j a → EventItemAnswers s i j b → a ≡ b
+  psg-event-item-unique i j a b = only
+
+  pub psg-clock-unique : (i j : ℕ) (a b : Clock) → ClockAnswers s i j a → ClockAnswers s i j b → a ≡ b
+  psg-clock-unique i j a b = only
+
+  pub psg-count-unique : (i j k : ℕ) (a b : Counted) → CountAnswers s i j k a → CountAnswers s i j k b → a ≡ b
+  psg-count-unique i j k a b = only
+
+  pub psg-sample-unique : (i j k n : ℕ) (a b : Sample) → SampleAnswers s i j k n a → SampleAnswers s i j k n b → a ≡ b
+  psg-sample-unique i j k n a b = only
+
+  pub psg-view-unique : (i j k : ℕ) (a b : View) → ViewAnswers s i j k a → ViewAnswers s i j k b → a ≡ b
+  psg-view-unique i j k a b = only

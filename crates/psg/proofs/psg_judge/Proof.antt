@@ -1,0 +1,30 @@
+-- `psg::psg_judge` meets its contract: the judge's answer, taken apart, and the letter at byte 16.
+-- Assumes nothing.
+use mathlib.Core.Path.{ap}
+use native.Mathlib.Omega.{arith}
+use borrow.Author.Needs.{needs}
+use Rattle.rules.specs.Rules as R
+use Rattle.judge.proofs.Accepted.{accepted-long}
+use Rattle.psg.proofs.psg_judge.Statement.{statement}
+use Rattle.psg.proofs.psg_judge.Tie as tie
+
+returns : tie.Need-returns
+returns c =
+    let e = c .before .before .enum-told .given .1 in
+    let j = rw e at (c .before .before .before .before .judge .ensures) in
+    rw (c .header-refused .ensures, c .before .of-judged .ensures, e, j)
+
+byte-requires : tie.Need-byte-requires
+byte-requires c κs =
+    let x = c .before in
+    let j = rw (x .judged .given .1) at (x .before .before .judge .ensures) in
+    omega (arith, accepted-long _ _ j)
+
+returns-2 : tie.Need-returns-2
+returns-2 c =
+    let x = c .before .before .before in
+    let j = rw (x .judged .given .1) at (x .before .before .judge .ensures) in
+    rw (c .header-told .ensures, c .before .byte .ensures .0, j .judged, j .count, ap (λ (h : R.Heading). h .script) (j .heading))
+
+pub psg-judge-spec : {M : Type 1} → statement M
+psg-judge-spec = tie.close (tie.spec (λ c κs. search needs) (λ c. search needs) (λ c. search needs) (λ c κs. search needs) (λ c κs. search needs) returns byte-requires (λ c κs. search needs) returns-2)

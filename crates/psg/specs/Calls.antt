@@ -1,0 +1,61 @@
+-- What each call that C and Rust link does with the file s: the contract of `psg_judge`, `psg_table` and the others, in this order. The answer a is
+-- what the crate below says, taken apart; a call that writes finds a buffer that holds out and leaves it holding out′.
+-- Assumes nothing.
+use mathlib.Core.Path.{_≡_}
+use mathlib.Core.List.{List}
+use Prim.Native.Nat.{ℕ}
+use lib.IntN.{ℤ}
+use lib.ListN.{length}
+use Rattle.rules.specs.Rules as R
+use Rattle.table.specs.Table as Table
+use Rattle.turn.specs.Turn as Turn
+use Rattle.rewrite.specs.Rewrite as Rewrite
+use Rattle.questions.specs.Questions.{factsOf, channelOf, patientItemOf, eventItemOf, clockOf, countOf, sampleOf, viewOf}
+use Rattle.psg.specs.Flat.{Leaves, countedRows, countedBytes, flatHeader, flatFacts, flatChannel, flatItem, flatClock, flatCount, flatSample, flatView}
+use Rattle.psg.specs.declared.answers.Channel.{Channel}
+use Rattle.psg.specs.declared.answers.Clock.{Clock}
+use Rattle.psg.specs.declared.answers.Counted.{Counted}
+use Rattle.psg.specs.declared.answers.Facts.{Facts}
+use Rattle.psg.specs.declared.answers.Header.{Header}
+use Rattle.psg.specs.declared.answers.Item.{Item}
+use Rattle.psg.specs.declared.answers.Sample.{Sample}
+use Rattle.psg.specs.declared.answers.View.{View}
+
+abbrev pub JudgeAnswers : List ℕ → Header → Type 0
+JudgeAnswers s a = a ≡ flatHeader s (R.judge s)
+
+abbrev pub TableAnswers : List ℕ → List ℤ → List ℤ → Counted → Type 0
+TableAnswers s out out′ a = Leaves (countedRows (Table.answerOf s (length out))) (Table.afterwards s out) a out′
+
+abbrev pub TurnAnswers : List ℕ → List ℕ → List ℕ → Counted → Type 0
+TurnAnswers s out out′ a = Leaves (countedBytes (Turn.answerOf s (length out))) (Turn.afterwards s out) a out′
+
+-- c is the letter of the order asked for
+abbrev pub RewriteAnswers : List ℕ → ℕ → List ℕ → List ℕ → Counted → Type 0
+RewriteAnswers s c out out′ a = Leaves (countedBytes (Rewrite.answerOf s c (length out))) (Rewrite.afterwards s c out) a out′
+
+-- the questions, about recording i
+
+abbrev pub FactsAnswers : List ℕ → ℕ → Facts → Type 0
+FactsAnswers s i a = a ≡ flatFacts (factsOf s i)
+
+abbrev pub ChannelAnswers : List ℕ → ℕ → ℕ → Channel → Type 0
+ChannelAnswers s i j a = a ≡ flatChannel (channelOf s i j)
+
+abbrev pub PatientItemAnswers : List ℕ → ℕ → ℕ → Item → Type 0
+PatientItemAnswers s i j a = a ≡ flatItem (patientItemOf s i j)
+
+abbrev pub EventItemAnswers : List ℕ → ℕ → ℕ → Item → Type 0
+EventItemAnswers s i j a = a ≡ flatItem (eventItemOf s i j)
+
+abbrev pub ClockAnswers : List ℕ → ℕ → ℕ → Clock → Type 0
+ClockAnswers s i j a = a ≡ flatClock (clockOf s i j)
+
+abbrev pub CountAnswers : List ℕ → ℕ → ℕ → ℕ → Counted → Type 0
+CountAnswers s i j k a = a ≡ flatCount (countOf s i j k)
+
+abbrev pub SampleAnswers : List ℕ → ℕ → ℕ → ℕ → ℕ → Sample → Type 0
+SampleAnswers s i j k n a = a ≡ flatSample (sampleOf s i j k n)
+
+abbrev pub ViewAnswers : List ℕ → ℕ → ℕ → ℕ → View → Type 0
+ViewAnswers s i j k a = a ≡ flatView (viewOf s i j k)
