@@ -4,7 +4,20 @@
  * itself, and every file and every argument is answered. An answer begins with the refusal: its number (document 01,
  * 1 to 19), or 0 where there is an answer, and its position in the file (17: the length needed; 19: 0). What a refusal
  * does not say is 0. A refused call leaves the buffer as it was; an answered one writes only what it says.
- * Recordings, channels, items and frames are asked for from 1, samples from 0. Texts and views are positions in the file. */
+ * Recordings, channels, items and frames are asked for from 1, samples from 0. Texts and views are positions in the file.
+ *
+ * What the caller sees to. The proofs take it as given; no call can test it, and where it does not hold nothing is
+ * promised:
+ * - file points to length bytes, out to room bytes, rows to room numbers, all within one object each, and each of them
+ *   holds a value: a buffer that was never written is cleared first (calloc, not malloc).
+ * - No pointer is null, not even where length or room is 0; there any pointer to an object of its type serves. rows is
+ *   aligned as an int64_t is.
+ * - The file and the buffer do not overlap, not even in part: nothing is turned or rewritten in place.
+ * - Until the call returns, nothing changes the file, and nothing else reads or changes the buffer: no other thread, no
+ *   signal handler, and, where the bytes are a mapped file's, no other process, which may not shorten it either. Calls
+ *   at the same time may share a file, but no buffer.
+ * - length and room are below 2^63 bytes each, so the room of rows below 2^60 numbers.
+ * - The program is compiled for x86-64 Linux, for which the library is. */
 #ifndef PSG_H
 #define PSG_H
 
@@ -20,6 +33,15 @@ struct psg_counted {
     uint32_t refusal;
     uint64_t position;
     uint64_t count;
+};
+
+/* The file header: the letter of the byte order, 'L' or 'B', and of the script, 'S', 'J', 'E' or 'U'; K. */
+struct psg_header {
+    uint32_t refusal;
+    uint64_t position;
+    uint32_t order;
+    uint32_t script;
+    uint32_t recordings;
 };
 
 /* M, F and T. */
@@ -88,6 +110,9 @@ struct psg_view {
     uint64_t start;
     uint64_t length;
 };
+
+/* Judges the file, and no more: what its header says where it is accepted. The other calls judge it themselves. */
+struct psg_header psg_judge(const uint8_t *file, size_t length);
 
 /* Lists the records: four numbers a row (position, length, code, serial), by position. The count is of rows, the room of numbers. */
 struct psg_counted psg_table(const uint8_t *file, size_t length, int64_t *rows, size_t room);

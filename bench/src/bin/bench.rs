@@ -104,14 +104,13 @@ fn turn(bits: usize) -> Race {
     }
 }
 
-/// Judging, the table, and two questions. The library has no call that only judges: it is measured by a table without
-/// room, which judges and counts the records.
+/// Judging, the table, and two questions.
 fn of_records() -> [Race; 4] {
     [
         Race {
             name: "judge".to_string(),
             library: |file, _| {
-                black_box(psg::table(file, &mut [])).expect_err("there is no room");
+                black_box(psg::judge(file)).expect("a night is judged");
             },
             others: vec![(
                 "second program",

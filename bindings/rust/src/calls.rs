@@ -1,7 +1,10 @@
 //! The calls of libpsg.a, as include/psg.h declares them. The one module with `unsafe`: a slice is passed as its
-//! pointer and length.
+//! pointer and length. What the header asks of a caller holds of slices: their pointers are aligned and not null, even
+//! those of empty ones; they are shorter than 2^63 bytes and hold values; one that is written overlaps no other, and
+//! nothing else changes either before the call returns.
 
 use crate::Refusal;
+use std::mem::{align_of, offset_of, size_of};
 
 /// An answer's values, unless it is a refusal.
 pub trait Answer: Sized {
@@ -40,6 +43,7 @@ macro_rules! answers {
 
 answers! {
     Counted { count: u64 }
+    Header { order: u32, script: u32, recordings: u32 }
     Facts { channels: u32, frames: u32, seconds: u32 }
     Channel {
         number: i32, flags: i32, kind: i32, format: i32, rate: i32,
@@ -59,11 +63,48 @@ pub struct View {
     pub length: u64,
 }
 
+/// The layout of each answer, as tests/boundary.c has it for C: its size, and where each field lies.
+macro_rules! layouts {
+    ($($name:ident, $size:literal { $($field:ident $at:literal),* })*) => {
+        $(const _: () = {
+            assert!(size_of::<$name>() == $size);
+            assert!(align_of::<$name>() == 8);
+            $(assert!(offset_of!($name, $field) == $at);)*
+        };)*
+
+        /// The numbers above, for the test that the C side has the same.
+        #[cfg(test)]
+        const LAYOUTS: &[(&str, usize, &[(&str, usize)])] =
+            &[$((stringify!($name), $size, &[$((stringify!($field), $at)),*])),*];
+    };
+}
+
+layouts! {
+    Counted, 24 { refusal 0, position 8, count 16 }
+    Header, 32 { refusal 0, position 8, order 16, script 20, recordings 24 }
+    Facts, 32 { refusal 0, position 8, channels 16, frames 20, seconds 24 }
+    Channel, 120 {
+        refusal 0, position 8, number 16, flags 20, kind 24, format 28, rate 32, is_float 36,
+        cal 40, cal_ad 44, offset_ad 48, offset_cal 52, frequency 56, low_cut 60, high_cut 64, sensitivity 68,
+        label 72, label_length 80, unit 88, unit_length 96, comment 104, comment_length 112
+    }
+    Item, 40 { refusal 0, position 8, code 16, text 24, text_length 32 }
+    Clock, 32 { refusal 0, position 8, hour 16, minute 20, second 24 }
+    Sample, 32 { refusal 0, position 8, is_float 16, value 20, bits 24 }
+    View, 16 { start 0, length 8 }
+}
+
 extern "C" {
+    fn psg_judge(file: *const u8, length: usize) -> Header;
     fn psg_table(file: *const u8, length: usize, rows: *mut i64, room: usize) -> Counted;
     fn psg_turn(file: *const u8, length: usize, out: *mut u8, room: usize) -> Counted;
     fn psg_rewrite(file: *const u8, length: usize, order: u8, out: *mut u8, room: usize)
         -> Counted;
+}
+
+pub fn judge(file: &[u8]) -> Header {
+    // SAFETY: the slice is whole, and the call only reads it.
+    unsafe { psg_judge(file.as_ptr(), file.len()) }
 }
 
 pub fn table(file: &[u8], rows: &mut [i64]) -> Counted {
@@ -114,4 +155,34 @@ questions! {
     psg_count, count(recording, frame, channel) -> Counted;
     psg_sample, sample(recording, frame, channel, sample) -> Sample;
     psg_view, view(recording, frame, channel) -> View;
+}
+
+#[cfg(test)]
+mod tests {
+    use super::LAYOUTS;
+    use std::collections::BTreeSet;
+
+    /// Every `SIZE(struct, size)` and `AT(struct, field, place)` of a C text.
+    fn said(text: &str) -> BTreeSet<String> {
+        let lines = text.lines().map(str::trim);
+        let kept = lines.filter(|line| line.starts_with("SIZE(") || line.starts_with("AT("));
+        kept.map(str::to_string).collect()
+    }
+
+    #[test]
+    fn the_c_side_asserts_the_same_layouts() {
+        let path = concat!(env!("CARGO_MANIFEST_DIR"), "/../../tests/boundary.c");
+        let text = std::fs::read_to_string(path).expect("the C side");
+        let mut own = BTreeSet::new();
+        for (name, size, fields) in LAYOUTS {
+            let name = format!("psg_{}", name.to_lowercase());
+            own.insert(format!("SIZE({name}, {size})"));
+            own.extend(
+                fields
+                    .iter()
+                    .map(|(field, at)| format!("AT({name}, {field}, {at})")),
+            );
+        }
+        assert_eq!(said(&text), own);
+    }
 }

@@ -1,13 +1,17 @@
-//! Recordings in the JSSR PSG common format 3.00: a file's table, questions about it, turning it to the other byte
-//! order, and writing it anew in its canonical form, by a library whose every function is proved to meet its contract.
+//! Recordings in the JSSR PSG common format 3.00: a file's verdict and its table, questions about it, turning it to the
+//! other byte order, and writing it anew in its canonical form, by a library whose every function is proved to meet its
+//! contract.
 //!
 //! Every call judges the file itself and answers every file and every argument. Recordings, channels, items and frames
-//! are asked for from 1, samples from 0.
+//! are asked for from 1, samples from 0. Nothing is written in place: `out` is a buffer of its own, as its `&mut` says.
+//! Who makes a slice of a mapped file vouches that nothing writes to that file or shortens it during a call.
 //!
 //! ```
 //! use psg::Order;
 //!
 //! let file = std::fs::read("../../crates/listing/stdin").unwrap();
+//! let header = psg::judge(&file)?;
+//! assert_eq!((header.order, header.script, header.recordings), (Order::Little, b'S', 1));
 //! let facts = psg::facts(&file, 1)?;
 //! assert_eq!((facts.channels, facts.frames, facts.seconds), (1, 1, 1));
 //! let turned = psg::turned(&file)?;
@@ -40,6 +44,17 @@ pub struct Row {
     pub code: i64,
     /// Recordings, channels and frames are numbered from 1, and makers' records as they like; others have 0.
     pub serial: i64,
+}
+
+/// What the header of an accepted file says.
+#[derive(Clone, Copy, Debug, PartialEq, Eq)]
+pub struct Header {
+    /// The byte order.
+    pub order: Order,
+    /// The letter of the texts' script: `b'S'`, `b'J'`, `b'E'` or `b'U'`.
+    pub script: u8,
+    /// K, how many recordings the file holds: 1 to 64.
+    pub recordings: usize,
 }
 
 /// M, F and T: how many channels and frames a recording has, and the seconds of a frame.
@@ -138,6 +153,18 @@ pub enum Sample {
     Float(FloatBits),
 }
 
+/// The verdict on a file: what its header says, or why it is refused. Only judging is done; the other calls do it
+/// themselves, so none needs this one before it.
+pub fn judge(file: &[u8]) -> Result<Header, Refusal> {
+    let header = calls::judge(file).answer()?;
+    let order = Order::from_letter(header.order as u8);
+    Ok(Header {
+        order: order.expect("an accepted file's letter is L or B"),
+        script: header.script as u8,
+        recordings: header.recordings as usize,
+    })
+}
+
 /// Writes four numbers a record into `rows` (position, length, code, serial), by position: how many records.
 pub fn table(file: &[u8], rows: &mut [i64]) -> Result<usize, Refusal> {
     Ok(calls::table(file, rows).answer()?.count as usize)
@@ -168,15 +195,9 @@ pub fn turned(file: &[u8]) -> Result<Vec<u8>, Refusal> {
     Ok(out)
 }
 
-/// The byte order of a file. The library has no such question: `facts` judges the file, and what it accepts names its
-/// order in the header.
+/// The byte order of a file.
 pub fn order(file: &[u8]) -> Result<Order, Refusal> {
-    const LETTER: usize = 16;
-    facts(file, 1)?;
-    Order::from_letter(file[LETTER]).ok_or(Refusal {
-        number: 5,
-        position: LETTER,
-    })
+    Ok(judge(file)?.order)
 }
 
 /// Writes the canonical file in the byte order asked for into `out`: how many bytes.

@@ -1,6 +1,6 @@
 //! The smallest file with samples (562 bytes): every call, and refusals in words.
 
-use psg::{Calibration, FloatBits, Order, Refusal, Sample};
+use psg::{Calibration, FloatBits, Header, Order, Refusal, Sample};
 
 fn smallest() -> Vec<u8> {
     std::fs::read("../../crates/listing/stdin").expect("the sample file of `listing`")
@@ -126,6 +126,24 @@ fn an_order_has_a_letter_and_a_letter_has_an_order() {
     }
     let named = (0..=u8::MAX).filter(|&letter| Order::from_letter(letter).is_some());
     assert_eq!(named.collect::<Vec<u8>>(), b"BL");
+}
+
+#[test]
+fn a_verdict_is_the_headers_values_or_the_refusal() {
+    let file = smallest();
+    let expected = Header {
+        order: Order::Little,
+        script: b'S',
+        recordings: 1,
+    };
+    assert_eq!(psg::judge(&file), Ok(expected));
+    let turned = psg::judge(&psg::turned(&file).unwrap()).unwrap();
+    assert_eq!(turned.order, Order::Big);
+    for end in 0..file.len() {
+        // Nothing is cut off an accepted file without being missed.
+        let refused = psg::judge(&file[..end]).unwrap_err();
+        assert_eq!(refused, psg::rows(&file[..end]).unwrap_err());
+    }
 }
 
 #[test]

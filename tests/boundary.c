@@ -1,0 +1,146 @@
+/* The C side of the boundary: the layout of every struct of include/psg.h, with the numbers of
+ * bindings/rust/src/calls.rs, and each call made once from C on the smallest file (crates/listing/stdin, on standard
+ * input). bindings/rust/tests/boundary.rs compiles, links and runs it. */
+#include "psg.h"
+#include <stdio.h>
+#include <string.h>
+
+#define SIZE(name, size) _Static_assert(sizeof(struct name) == size && _Alignof(struct name) == 8, #name);
+#define AT(name, field, at) _Static_assert(offsetof(struct name, field) == at, #name "." #field);
+
+_Static_assert(sizeof(size_t) == 8, "positions and lengths are of 64 bits");
+
+SIZE(psg_counted, 24)
+AT(psg_counted, refusal, 0)
+AT(psg_counted, position, 8)
+AT(psg_counted, count, 16)
+
+SIZE(psg_header, 32)
+AT(psg_header, refusal, 0)
+AT(psg_header, position, 8)
+AT(psg_header, order, 16)
+AT(psg_header, script, 20)
+AT(psg_header, recordings, 24)
+
+SIZE(psg_facts, 32)
+AT(psg_facts, refusal, 0)
+AT(psg_facts, position, 8)
+AT(psg_facts, channels, 16)
+AT(psg_facts, frames, 20)
+AT(psg_facts, seconds, 24)
+
+SIZE(psg_channel, 120)
+AT(psg_channel, refusal, 0)
+AT(psg_channel, position, 8)
+AT(psg_channel, number, 16)
+AT(psg_channel, flags, 20)
+AT(psg_channel, kind, 24)
+AT(psg_channel, format, 28)
+AT(psg_channel, rate, 32)
+AT(psg_channel, is_float, 36)
+AT(psg_channel, cal, 40)
+AT(psg_channel, cal_ad, 44)
+AT(psg_channel, offset_ad, 48)
+AT(psg_channel, offset_cal, 52)
+AT(psg_channel, frequency, 56)
+AT(psg_channel, low_cut, 60)
+AT(psg_channel, high_cut, 64)
+AT(psg_channel, sensitivity, 68)
+AT(psg_channel, label, 72)
+AT(psg_channel, label_length, 80)
+AT(psg_channel, unit, 88)
+AT(psg_channel, unit_length, 96)
+AT(psg_channel, comment, 104)
+AT(psg_channel, comment_length, 112)
+
+SIZE(psg_item, 40)
+AT(psg_item, refusal, 0)
+AT(psg_item, position, 8)
+AT(psg_item, code, 16)
+AT(psg_item, text, 24)
+AT(psg_item, text_length, 32)
+
+SIZE(psg_clock, 32)
+AT(psg_clock, refusal, 0)
+AT(psg_clock, position, 8)
+AT(psg_clock, hour, 16)
+AT(psg_clock, minute, 20)
+AT(psg_clock, second, 24)
+
+SIZE(psg_sample, 32)
+AT(psg_sample, refusal, 0)
+AT(psg_sample, position, 8)
+AT(psg_sample, is_float, 16)
+AT(psg_sample, value, 20)
+AT(psg_sample, bits, 24)
+
+SIZE(psg_view, 16)
+AT(psg_view, start, 0)
+AT(psg_view, length, 8)
+
+static int failed;
+
+static void expect(int holds, const char *what) {
+    if (!holds) {
+        printf("not so: %s\n", what);
+        failed = 1;
+    }
+}
+
+#define EXPECT(condition) expect(condition, #condition)
+
+/* The calls that write, with room and with none. */
+static void writing(const uint8_t *file, size_t n) {
+    static int64_t rows[64];
+    static uint8_t out[1024], back[1024];
+    struct psg_counted table = psg_table(file, n, rows, 64);
+    EXPECT(table.refusal == 0 && table.count == 8);
+    EXPECT(rows[12] == 208 && rows[13] == 256 && rows[14] == 125 && rows[15] == 1);
+    struct psg_counted turn = psg_turn(file, n, out, sizeof out);
+    EXPECT(turn.refusal == 0 && turn.count == n && out[16] == 'B');
+    struct psg_counted again = psg_turn(out, n, back, sizeof back);
+    EXPECT(again.refusal == 0 && memcmp(back, file, n) == 0);
+    struct psg_counted rewrite = psg_rewrite(file, n, 'B', back, sizeof back);
+    EXPECT(rewrite.refusal == 0 && rewrite.count == n && back[16] == 'B');
+    struct psg_counted letter = psg_rewrite(file, n, 'l', back, sizeof back);
+    EXPECT(letter.refusal == 19 && letter.position == 0 && letter.count == 0);
+    /* A length of 0 goes with any pointer that is not null. */
+    table = psg_table(file, n, rows, 0);
+    EXPECT(table.refusal == 17 && table.position == 32 && table.count == 0);
+    turn = psg_turn(file, n, out, 0);
+    EXPECT(turn.refusal == 17 && turn.position == n);
+    turn = psg_turn(file, 0, out, 0);
+    EXPECT(turn.refusal == 1 && turn.position == 0);
+}
+
+static void questions(const uint8_t *file, size_t n) {
+    struct psg_facts facts = psg_facts(file, n, 1);
+    EXPECT(facts.refusal == 0 && facts.channels == 1 && facts.frames == 1 && facts.seconds == 1);
+    struct psg_channel channel = psg_channel(file, n, 1, 1);
+    EXPECT(channel.refusal == 0 && channel.format == 1 && channel.rate == 1 && channel.is_float == 0);
+    EXPECT(channel.label == 280 && channel.label_length == 16 && channel.comment == 404 && channel.comment_length == 60);
+    EXPECT(psg_channel(file, n, 1, 2).refusal == 19);
+    EXPECT(psg_patient_item(file, n, 1, 1).refusal == 19);
+    EXPECT(psg_event_item(file, n, 1, 1).refusal == 19);
+    EXPECT(psg_clock(file, n, 1, 1).refusal == 0);
+    struct psg_counted count = psg_count(file, n, 1, 1, 1);
+    EXPECT(count.refusal == 0 && count.count == 1);
+    struct psg_sample sample = psg_sample(file, n, 1, 1, 1, 0);
+    EXPECT(sample.refusal == 0 && sample.is_float == 0 && sample.value == (int16_t)(file[544] | file[545] << 8));
+    struct psg_view view = psg_view(file, n, 1, 1, 1);
+    EXPECT(view.start == 544 && view.length == 2);
+}
+
+int main(void) {
+    static uint8_t file[1024];
+    size_t n = fread(file, 1, sizeof file, stdin);
+    struct psg_header header = psg_judge(file, n);
+    EXPECT(header.refusal == 0 && header.order == 'L' && header.script == 'S' && header.recordings == 1);
+    header = psg_judge(file, n - 1);
+    EXPECT(header.refusal == 10 && header.position == 32 && header.order == 0);
+    header = psg_judge(file, 0);
+    EXPECT(header.refusal == 1 && header.position == 0);
+    writing(file, n);
+    questions(file, n);
+    return failed;
+}
