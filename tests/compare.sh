@@ -1,11 +1,12 @@
 #!/usr/bin/env bash
-# Compares the second program with the corpus, and the proved code with both: every file and every question of the
-# corpus, and files made afresh, through `listing` and through the library, and a short run of many files at once. The
-# corpus stands beside the checkout, or its archive is the argument. SEED and COUNT choose the files made afresh, ROUNDS
-# those that go through the library.
+# Compares the second program with two corpora, and the proved code with both: every file and every question of the
+# project's own (tests/corpus) and, where it is there, of the one beside the checkout (or its archive is the argument),
+# which another program made; then files made afresh, through `listing` and through the library, and a short run of many
+# files at once. SEED and COUNT choose the files made afresh, ROUNDS those that go through the library.
 set -euo pipefail
 cd "$(dirname "$0")/.."
-corpus=${1:-../shared/corpus/files.tar.gz}
+own=tests/corpus/files.tar.gz
+beside=${1:-../shared/corpus/files.tar.gz}
 listing=$PWD/target/bin/listing
 seed=${SEED:-$(date +%s)}
 count=${COUNT:-5000}
@@ -15,17 +16,29 @@ rounds=${ROUNDS:-20000}
 built=rust/target/release
 files=$(mktemp -d)
 trap 'rm -rf "$files"' EXIT
-tar xzf "$corpus" -C "$files"
-"$built/second" corpus "$files/corpus"
-"$built/ask" "$files/corpus" <"$files/corpus/questions.ask" | diff - "$files/corpus/questions.ans"
-echo "$(wc -l <"$files/corpus/questions.ask") lines of the corpus through the library, 0 differences"
+
+# Everything that a corpus says, for the second program, the library and `listing`.
+compare_corpus() {
+    local folder differ=0 listed=0 f
+    folder=$(mktemp -d -p "$files")
+    tar xzf "$1" -C "$folder"
+    "$built/second" corpus "$folder/corpus"
+    "$built/ask" "$folder/corpus" <"$folder/corpus/questions.ask" | diff - "$folder/corpus/questions.ans"
+    echo "$(wc -l <"$folder/corpus/questions.ask") lines of $1 through the library, 0 differences"
+    for f in "$folder"/corpus/*.bin; do
+        listed=$((listed + 1))
+        "$listing" <"$f" | cmp -s - "${f%.bin}.out" || { echo "listing differs: $f"; differ=$((differ + 1)); }
+    done
+    echo "$listed files of $1 listed, $differ differences"
+    [ "$differ" -eq 0 ]
+}
+
+compare_corpus "$own"
+if [ -e "$beside" ]; then
+    compare_corpus "$beside"
+else
+    echo "no corpus at $beside: the project's own is the only one compared"
+fi
 "$built/agree" "$seed" "$rounds"
 "$built/load" --small
-differ=0 listed=0
-for f in "$files"/corpus/*.bin; do
-    listed=$((listed + 1))
-    "$listing" <"$f" | cmp -s - "${f%.bin}.out" || { echo "listing differs: $f"; differ=$((differ + 1)); }
-done
-echo "$listed files of the corpus listed, $differ differences"
-[ "$differ" -eq 0 ]
 "$built/second" compare "$listing" "$seed" "$count"

@@ -1,13 +1,16 @@
 #!/usr/bin/env python3
-"""definitions.py CORPUS [MOST_BYTES [COUNT]]: evaluates `judge` of crates/rules itself on files of the corpus.
+"""definitions.py [CORPUS [MOST_BYTES [COUNT]]]: evaluates `judge` of crates/rules itself on files of a corpus.
 
-For each file of at most MOST_BYTES bytes (default 1200, at most COUNT of them, default 400) it writes the theorem
-that the definitions give exactly the answer in NAME.out, each proved by computation alone, and has rt check them,
-in a copy of the definitions that goes with the run. The last line counts the files.
+CORPUS is a folder or an archive that unpacks to corpus/; by default it is the project's own, tests/corpus. For each
+file of at most MOST_BYTES bytes (default 1200, at most COUNT of them, default 400) it writes the theorem that the
+definitions give exactly the answer in NAME.out, the refusal or the rows, each proved by computation alone, and has rt
+check them, in a copy of the definitions that goes with the run. The last line counts the files. The definitions of
+the questions, of turning and of rewriting are not evaluated.
 """
-import os, re, shutil, subprocess, sys, tempfile
+import os, re, shutil, subprocess, sys, tarfile, tempfile
 
 HERE = os.path.dirname(os.path.dirname(os.path.abspath(__file__)))
+OWN = os.path.join(HERE, 'tests', 'corpus', 'files.tar.gz')
 PER_MODULE = 20
 
 
@@ -58,19 +61,29 @@ def checked(top, files, rules, walk, numbers):
     return run.returncode == 0, run.stdout + run.stderr
 
 
-def main():
-    corpus = sys.argv[1]
-    most = int(sys.argv[2]) if len(sys.argv) > 2 else 1200
-    count = int(sys.argv[3]) if len(sys.argv) > 3 else 400
+def chosen(corpus, most, count):
+    """The name, the bytes and the expected answer of the files that are short enough."""
     files = []
     for f in sorted(os.listdir(corpus)):
-        if f.endswith('.bin') and os.path.getsize(os.path.join(corpus, f)) <= most and len(files) < count:
-            data = open(os.path.join(corpus, f), 'rb').read()
-            files.append((f[:-4], data, open(os.path.join(corpus, f[:-4] + '.out')).read()))
+        path = os.path.join(corpus, f)
+        if f.endswith('.bin') and os.path.getsize(path) <= most and len(files) < count:
+            files.append((f[:-4], open(path, 'rb').read(), open(path[:-4] + '.out').read()))
+    return files
+
+
+def main():
+    corpus = sys.argv[1] if len(sys.argv) > 1 else OWN
+    most = int(sys.argv[2]) if len(sys.argv) > 2 else 1200
+    count = int(sys.argv[3]) if len(sys.argv) > 3 else 400
     rules = unfoldable('crates/rules/specs/Rules.antt')
     walk = unfoldable('crates/walk/specs/Walk.antt', ('render', 'size', 'cleared', 'after'))
     numbers = ['ordered', 'word', 'wordIn']
     with tempfile.TemporaryDirectory() as top:
+        if not os.path.isdir(corpus):
+            with tarfile.open(corpus) as archive:
+                archive.extractall(os.path.join(top, 'files'), filter='data')
+            corpus = os.path.join(top, 'files', 'corpus')
+        files = chosen(corpus, most, count)
         ok, text = checked(top, files, rules, walk, numbers)
     bad = sorted(set(re.findall(r'error: `(\w+)`', text)))
     print('\n'.join(bad) if bad else text[-600:] if not ok else '', end='\n' if not ok else '')

@@ -1,9 +1,12 @@
 //! Files made afresh, valid and damaged, through the library and the second program.
 
 use crate::buffers::written_differs;
-use crate::draw::{questions, Question};
+use ask::refused;
+use second::generate::{self, questions, Question};
+use second::judge::judge;
+use second::model::Model;
 use second::random::Random;
-use second::{generate, judge};
+use second::refusal::Refusal;
 use std::num::NonZero;
 use std::thread;
 use std::time::Instant;
@@ -62,16 +65,30 @@ fn share(seed: u64, indices: impl Iterator<Item = u64>, until: Until) -> Compare
         let file = generate::file(seed, index).bytes;
         // Not the sequence that the file itself was drawn from.
         let asked = questions(&file, &mut Random::new(!seed, index));
+        let verdict = judge(&file);
         compared.files += 1;
-        compared.accepted += u64::from(judge::judge(&file).is_ok());
+        compared.accepted += u64::from(verdict.is_ok());
         compared.questions += asked.len() as u64;
-        let differences = written_differs(&file)
+        let differences = verdict_differs(&file, &verdict)
             .into_iter()
+            .chain(written_differs(&file))
             .chain(asked.iter().filter_map(|one| answer_differs(&file, one)));
         let named = differences.map(|why| format!("file {index} of seed {seed}: {why}"));
         compared.differences.extend(named);
     }
     compared
+}
+
+/// The header's values of an accepted file, or the refusal: order letter, script letter and K.
+fn verdict_differs(file: &[u8], verdict: &Result<Model, Refusal>) -> Option<String> {
+    let found = refused(psg::judge(file))
+        .map(|header| (header.order.letter(), header.script, header.recordings));
+    let expected = match verdict {
+        Ok(model) => Ok((model.order.letter(), model.script, model.recordings.len())),
+        Err(refusal) => Err(*refusal),
+    };
+    (found != expected)
+        .then(|| format!("judge: {found:?}, but the second program says {expected:?}"))
 }
 
 fn answer_differs(file: &[u8], one: &Question) -> Option<String> {

@@ -1,10 +1,9 @@
 //! `agree SEED COUNT|SECONDSs`: what the proved library answers, and leaves in a buffer lent to it, is compared with
-//! what the second program says of files made afresh, valid and damaged: the verdict and the table, every question,
-//! turning there and back, and rewriting. So many files, or as many as the time allows (`600s`). Status 1 means a
+//! what the second program says of files made afresh, valid and damaged: the verdict with the header's values, the table,
+//! every question, turning there and back, and rewriting. So many files, or as many as the time allows (`600s`). Status 1 means a
 //! difference.
 
 mod buffers;
-mod draw;
 mod files;
 
 use files::Until;

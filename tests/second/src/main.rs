@@ -12,6 +12,7 @@ use std::process::ExitCode;
 const USAGE: &str = "usage:
   second list FILE|-
   second make SEED COUNT DIR
+  second make-corpus SEED COUNT DIR
   second ask CORPUSDIR < QUESTIONS
   second corpus DIR
   second compare LISTING SEED COUNT";
@@ -30,6 +31,7 @@ fn main() -> ExitCode {
     let ended = match args[..] {
         ["list", file] => list(file),
         ["make", seed, count, folder] => make(seed, count, Path::new(folder)),
+        ["make-corpus", seed, count, folder] => make_corpus(seed, count, Path::new(folder)),
         ["ask", folder] => ask(Path::new(folder)),
         ["corpus", folder] => compare_corpus(Path::new(folder)),
         ["compare", program, seed, count] => compare_program(program, seed, count),
@@ -101,6 +103,13 @@ fn make(seed: &str, count: &str, folder: &Path) -> Ended {
         }
     }
     write_out(&lines)
+}
+
+/// The same with questions and their answers, of files that are chosen.
+fn make_corpus(seed: &str, count: &str, folder: &Path) -> Ended {
+    let (seed, count) = (number(seed)?, number(count)?);
+    corpus::make::make(seed, count, folder).map_err(text)?;
+    Ok(End::Agreed)
 }
 
 /// The number in a line `refused N at P`, 0 for a listing.

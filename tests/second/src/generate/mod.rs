@@ -1,11 +1,13 @@
-//! Files for the comparison, valid and damaged, drawn from a seed.
+//! Files for the comparison, valid and damaged, drawn from a seed, and questions about them.
 
 mod damage;
 mod draw;
 mod edges;
 mod plan;
+mod questions;
 mod sheet;
 
+pub use questions::{questions, Question};
 pub use sheet::{Field, Sheet};
 
 use crate::random::Random;

@@ -1,8 +1,8 @@
 //! Questions drawn for a file: each argument at the bounds of its range and far outside, the others inside it.
 
-use second::judge::judge;
-use second::model::Recording;
-use second::random::Random;
+use crate::judge::judge;
+use crate::model::Recording;
+use crate::random::Random;
 
 pub struct Question {
     pub op: &'static str,

@@ -1,4 +1,6 @@
-//! The comparison with a corpus: every NAME.out, and every question line.
+//! The comparison with a corpus: every NAME.out, and every question line. `make` makes one.
+
+pub mod make;
 
 use crate::ask::answer_to;
 use crate::lines::Desk;

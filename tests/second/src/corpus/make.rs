@@ -1,0 +1,110 @@
+//! A corpus of our own: small files of a seed, valid and damaged, each with what `listing` prints, and questions with
+//! their answers.
+
+use crate::ask::answer;
+use crate::bytes::Order;
+use crate::generate::{self, questions, Question};
+use crate::judge::judge;
+use crate::lines::{answer_line, joined};
+use crate::listing::{self, listing};
+use crate::random::Random;
+use crate::refusal;
+use std::collections::BTreeMap;
+use std::fs;
+use std::io;
+use std::path::Path;
+
+/// Files are at most so long, but for the first that `listing` does not read.
+const MOST_BYTES: usize = 2000;
+
+/// At most a third of the files is accepted, and a twelfth refused with each number, so that the rare ones are there.
+const ACCEPTED_SHARE: u64 = 3;
+const REFUSED_SHARE: u64 = 12;
+
+/// Of the questions drawn for an accepted file so many are kept, in percent; of a refused one all.
+const KEPT_PERCENT: usize = 12;
+
+/// A letter that names no order.
+const NO_ORDER: u8 = b'l';
+
+/// Writes NAME.bin and NAME.out for so many files of the seed, questions.ask and questions.ans.
+pub fn make(seed: u64, count: u64, folder: &Path) -> io::Result<()> {
+    fs::create_dir_all(folder)?;
+    let (mut asked, mut answered) = (String::new(), String::new());
+    for (index, file) in chosen(seed, count) {
+        let name = format!("f{index:06}.bin");
+        let path = folder.join(&name);
+        fs::write(&path, &file)?;
+        fs::write(path.with_extension("out"), listing(&file))?;
+        // Not the sequence that the file itself was drawn from.
+        for Question { op, args } in about(&file, &mut Random::new(!seed, index)) {
+            let line = answer_line(answer(&file, op, &args).expect("a question that is known"));
+            asked.push_str(&format!("{name} {op} {}\n", joined(&args)));
+            answered.push_str(&format!("{line}\n"));
+        }
+    }
+    fs::write(folder.join("questions.ask"), asked)?;
+    fs::write(folder.join("questions.ans"), answered)
+}
+
+/// The first files of the seed that are small enough, and of whose verdict there are not too many; each with its index.
+fn chosen(seed: u64, count: u64) -> Vec<(u64, Vec<u8>)> {
+    let mut files = Vec::new();
+    let mut taken: BTreeMap<Option<u8>, u64> = BTreeMap::new();
+    let mut long = false;
+    for index in 0.. {
+        if files.len() as u64 == count {
+            break;
+        }
+        let file = generate::file(seed, index).bytes;
+        if file.len() > listing::MOST_BYTES && !long {
+            long = true;
+        } else if file.len() > MOST_BYTES {
+            continue;
+        }
+        let verdict = judge(&file).err().map(|refusal| refusal.number);
+        let share = verdict.map_or(ACCEPTED_SHARE, |_| REFUSED_SHARE);
+        let times = taken.entry(verdict).or_default();
+        if *times < count.div_ceil(share) {
+            *times += 1;
+            files.push((index, file));
+        }
+    }
+    files
+}
+
+/// The calls that write, then some of the questions.
+fn about(file: &[u8], random: &mut Random) -> Vec<Question> {
+    let percent = judge(file).map_or(100, |_| KEPT_PERCENT);
+    let mut all = writing(file);
+    let drawn = questions(file, random);
+    all.extend(drawn.into_iter().filter(|_| random.chance(percent)));
+    all
+}
+
+/// Each call that writes, with just enough room, with one less, with none, and with all there is.
+fn writing(file: &[u8]) -> Vec<Question> {
+    let rewrite = |letter: u8| ("rewrite", vec![u64::from(letter)]);
+    let calls = [
+        ("table", vec![]),
+        ("turn", vec![]),
+        rewrite(Order::Little.letter()),
+        rewrite(Order::Big.letter()),
+        rewrite(NO_ORDER),
+    ];
+    let mut all = Vec::new();
+    for (op, before) in calls {
+        let question = |room: u64| Question {
+            op,
+            args: [&before[..], &[room]].concat(),
+        };
+        let need = match answer(file, op, &question(0).args) {
+            Some(Err(refused)) if refused.number == refusal::OUTPUT_SHORT => refused.at as u64,
+            _ => 0,
+        };
+        let mut rooms = vec![0, need.saturating_sub(1), need, u64::MAX];
+        rooms.dedup();
+        all.extend(rooms.into_iter().map(question));
+    }
+    all
+}

@@ -1,0 +1,171 @@
+//! What the project's own corpus (tests/corpus, made by tests/corpus.sh) has to show, and that this program answers it.
+
+use second::bytes::Order;
+use second::corpus;
+use second::header::{RECORDINGS_AT, SCRIPTS};
+use second::judge::judge;
+use second::model::{Model, Recording};
+use second::record::{frames, Format, Kind, Rate};
+use std::collections::BTreeSet;
+use std::fs;
+use std::path::{Path, PathBuf};
+use std::process::Command;
+
+const MOST_PACKED: u64 = 500_000;
+
+fn archive() -> PathBuf {
+    Path::new(env!("CARGO_MANIFEST_DIR")).join("../corpus/files.tar.gz")
+}
+
+/// The corpus, unpacked into a folder of this name.
+fn unpacked(name: &str) -> PathBuf {
+    let folder = Path::new(env!("CARGO_TARGET_TMPDIR")).join(name);
+    fs::create_dir_all(&folder).unwrap();
+    let tar = Command::new("tar")
+        .arg("xzf")
+        .arg(archive())
+        .arg("-C")
+        .arg(&folder)
+        .status();
+    assert!(tar.expect("tar").success());
+    folder.join("corpus")
+}
+
+fn files(folder: &Path) -> Vec<Vec<u8>> {
+    let paths = fs::read_dir(folder)
+        .unwrap()
+        .map(|entry| entry.unwrap().path());
+    let bins = paths.filter(|path| path.extension().is_some_and(|e| e == "bin"));
+    bins.map(|path| fs::read(path).unwrap()).collect()
+}
+
+#[test]
+fn the_archive_is_small_and_answered() {
+    assert!(fs::metadata(archive()).unwrap().len() <= MOST_PACKED);
+    let compared = corpus::compare(&unpacked("answered")).unwrap();
+    assert!(compared.files >= 200 && compared.questions >= 5000);
+    assert_eq!(compared.differences, Vec::<String>::new());
+}
+
+#[test]
+fn every_question_is_answered_and_refused() {
+    let folder = unpacked("questions");
+    let asked = fs::read_to_string(folder.join("questions.ask")).unwrap();
+    let answered = fs::read_to_string(folder.join("questions.ans")).unwrap();
+    let mut found = BTreeSet::new();
+    for (asked, answered) in asked.lines().zip(answered.lines()) {
+        let op = asked.split(' ').nth(1).unwrap();
+        let mut words = answered.split(' ');
+        match (words.next(), words.next()) {
+            (Some("refused"), Some(number)) => {
+                found.insert(format!("{op} refused"));
+                found.insert(format!("refused {number}"));
+            }
+            _ => {
+                found.insert(format!("{op} ok"));
+            }
+        }
+    }
+    let ops = "table facts channel patient_item event_item clock count sample rewrite turn";
+    for op in ops.split(' ') {
+        for end in ["ok", "refused"] {
+            assert!(found.contains(&format!("{op} {end}")), "{op} {end}");
+        }
+    }
+    assert!(found.contains("view ok") && !found.contains("view refused"));
+    for number in 1..=19 {
+        assert!(found.contains(&format!("refused {number}")), "{number}");
+    }
+}
+
+#[test]
+fn every_refusal_and_every_form_is_there() {
+    let mut shown = BTreeSet::new();
+    for file in files(&unpacked("forms")) {
+        match judge(&file) {
+            Err(refusal) => {
+                shown.insert(format!("refused {}", refusal.number));
+            }
+            Ok(model) => shown.extend(forms(&file, &model)),
+        }
+    }
+    let mut wanted: Vec<String> = (1..=16).map(|number| format!("refused {number}")).collect();
+    wanted.extend([Order::Little, Order::Big].map(|order| format!("{order:?}")));
+    wanted.extend(SCRIPTS.map(|script| format!("script {script}")));
+    wanted.extend(Format::ALL.map(|format| format!("{format:?}")));
+    let named = "one recording, several recordings, zeros before K, inherited 120, inherited 130, a 200, no 200, \
+        items, an empty 130, maker before 140, maker behind 140, hertz, period, no samples, several frames, \
+        padding of a frame, padding of a 140, padding of a recording, no padding";
+    wanted.extend(named.split(", ").map(str::to_string));
+    for form in wanted {
+        assert!(shown.contains(&form), "{form}");
+    }
+}
+
+/// What an accepted file shows.
+fn forms(file: &[u8], model: &Model) -> BTreeSet<String> {
+    let mut shown = BTreeSet::from([
+        format!("{:?}", model.order),
+        format!("script {}", model.script),
+    ]);
+    shown.insert(match model.recordings.len() {
+        1 => "one recording".to_string(),
+        _ => "several recordings".to_string(),
+    });
+    if file[RECORDINGS_AT] == b'0' {
+        shown.insert("zeros before K".to_string());
+    }
+    for recording in &model.recordings {
+        shown.extend(held(recording).into_iter().map(str::to_string));
+        shown.extend(padded(recording).into_iter().map(str::to_string));
+        for channel in recording.channels.iter() {
+            shown.insert(format!("{:?}", channel.format));
+            shown.insert(match channel.rate {
+                Rate::None => "no samples".to_string(),
+                Rate::Hertz(_) => "hertz".to_string(),
+                Rate::Microseconds(_) => "period".to_string(),
+            });
+        }
+    }
+    shown
+}
+
+/// Which records it holds, and where makers' records stand.
+fn held(recording: &Recording) -> Vec<&'static str> {
+    let kinds: Vec<Kind> = recording.parts.iter().map(|part| part.kind).collect();
+    let has = |kind| kinds.contains(&kind);
+    let signals = kinds.iter().position(|kind| *kind == Kind::Frames).unwrap();
+    let maker_in = |kinds: &[Kind]| kinds.contains(&Kind::Maker);
+    true_of(&[
+        (has(Kind::Events), "a 200"),
+        (!has(Kind::Events), "no 200"),
+        (!has(Kind::Channels), "inherited 120"),
+        (!has(Kind::Patient), "inherited 130"),
+        (!recording.patient.is_empty(), "items"),
+        (recording.patient.is_empty(), "an empty 130"),
+        (maker_in(&kinds[..signals]), "maker before 140"),
+        (maker_in(&kinds[signals..]), "maker behind 140"),
+        (recording.block.frames.len() > 1, "several frames"),
+    ])
+}
+
+/// Where it has padding.
+fn padded(recording: &Recording) -> Vec<&'static str> {
+    let block = &recording.block;
+    let used = frames::FIRST + block.frames.len() * block.frame_length;
+    let end = recording.parts.last().unwrap().end();
+    let frame = block.frame_length > block.frame_content;
+    let signals = block.record.length > used;
+    let behind = recording.record.end() > end;
+    true_of(&[
+        (frame, "padding of a frame"),
+        (signals, "padding of a 140"),
+        (behind, "padding of a recording"),
+        (!frame && !signals && !behind, "no padding"),
+    ])
+}
+
+fn true_of(forms: &[(bool, &'static str)]) -> Vec<&'static str> {
+    let shown = forms.iter().filter(|(is, _)| *is);
+    shown.map(|(_, form)| *form).collect()
+}
