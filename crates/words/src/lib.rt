@@ -54,14 +54,25 @@ pub fn number3(o: Order, s: &[u8], at: usize) -> u32
     joined(o, 65536, first, rest)
 }
 
-// The number of four bytes.
-pub fn number4(o: Order, s: &[u8], at: usize) -> u32
+// The number of four bytes, in an order that the compiler knows.
+fn number4_in(o: Order, s: &[u8], at: usize) -> u32
     requires { ⌜ at + 4 ≤ length (now s) ⌝ }
     ensures { λ r. ⌜ (r ≡ numberAt o 4 (now (s .entry)) at) × (r < 4294967296) ⌝ }
 {
     let first = byte(s, at);
     let rest = number3(o, s, at + 1);
     joined(o, 16777216, first, rest)
+}
+
+// The number of four bytes. The order is told once, outside: the compiler then makes one load of either case.
+pub fn number4(o: Order, s: &[u8], at: usize) -> u32
+    requires { ⌜ at + 4 ≤ length (now s) ⌝ }
+    ensures { λ r. ⌜ (r ≡ numberAt o 4 (now (s .entry)) at) × (r < 4294967296) ⌝ }
+{
+    match o {
+        Order::Little => number4_in(Order::Little, s, at),
+        Order::Big => number4_in(Order::Big, s, at),
+    }
 }
 
 // A number in four bytes, of which the least is b0.
