@@ -33,8 +33,12 @@ pad-low n h = omega (arith, sized n .close, max-low (multiplierFor n) (sized n .
 pub total-low : (held : Option Held) (r : Recording) → RecordingOk held r → 16 + size (content r) ≤ 128 * most
 total-low held r k = close-at (16 + size (content r)) _ (k .limited) (pad-low (framesBytes (r .seconds) (r .channels) (r .frames)) (k .frames .total))
 
+-- its events, written anew
+abbrev pub recordingWritten : ℕ → Recording → List Event
+recordingWritten i r = recordOf (recordingHead i r) (content r ++ (zeroes (span (recordingHead i r) - (16 + size (content r))) ∷ []))
+
 pub recording-plays : (held : Option Held) (r : Recording) → RecordingOk held r → (i room : ℕ) → i < 256 ^ 4 → span (recordingHead i r) ≤ room →
-    Anew held room i (recordOf (recordingHead i r) (content r ++ (zeroes (span (recordingHead i r) - (16 + size (content r))) ∷ []))) r (span (recordingHead i r))
+    Anew held room i (recordingWritten i r) r (span (recordingHead i r))
 recording-plays held r k i room b s =
     let T : ℕ = 16 + size (content r) in
     let z : Sized T = sized T in
@@ -43,7 +47,7 @@ recording-plays held r k i room b s =
     (record { size = omega (arith, z .small); code = omega arith; serial = b; multiplier = omega arith }) refl
     (record { low = l; small = omega (arith, z .small); fits = le-leb 16 (span (recordingHead i r)) (omega (arith, z .serves)); room = s; serial = eq-eqb i i refl })
 
-pub recording-size : (i : ℕ) (r : Recording) → size (recordOf (recordingHead i r) (content r ++ (zeroes (span (recordingHead i r) - (16 + size (content r))) ∷ []))) ≡ span (recordingHead i r)
+pub recording-size : (i : ℕ) (r : Recording) → size (recordingWritten i r) ≡ span (recordingHead i r)
 unfolding size
 recording-size i r = rw (record-size, size-append, zeros-length) (omega (arith, sized (16 + size (content r)) .serves))
 
@@ -65,20 +69,31 @@ recordings-ok (suc n) held room i p =
     let j = recordings-ok n _ _ (suc i) q₀ in
     rw (plays-gave p) (ap suc (j .0), (recording-ok held room i r₀, j .1))
 
+-- a recording that plays its events written anew
+pub record PlayedAnew (i : ℕ) (p : Placed) : Type 0 where
+  pub held : Option Held
+  pub room : ℕ
+  pub plays : Plays (recordingWritten i (p .recording)) (recording held room i) p
+
+abbrev pub EachAnew : ℕ → List Placed → Type 0
+EachAnew i [] = Unit {0}
+EachAnew i (p ∷ ps) = PlayedAnew i p × EachAnew (suc i) ps
+
 pub record AnewAll (held : Option Held) (room i : ℕ) (t : List Event) (rs : List Recording) : Type 0 where
   pub placed : List Placed
   pub same : readings placed ≡ rs
+  pub each : EachAnew i placed
   pub plays : Plays t (recordings (length rs) held room i) placed
 
 recordings-play : (rs : List Recording) (held : Option Held) → RecordingsOk held rs → (i room : ℕ) → i + length rs ≤ 256 ^ 4 → size (recordingEvents i rs) ≤ room → AnewAll held room i (recordingEvents i rs) rs
 unfolding recordings recordingEvents
-recordings-play [] held k i room b s = record { placed = []; same = refl; plays = gives }
+recordings-play [] held k i room b s = record { placed = []; same = refl; each = tt; plays = gives }
 recordings-play (r ∷ rs) held k i room b s =
-    let e = size-append (recordOf (recordingHead i r) (content r ++ (zeroes (span (recordingHead i r) - (16 + size (content r))) ∷ []))) (recordingEvents (suc i) rs) in
+    let e = size-append (recordingWritten i r) (recordingEvents (suc i) rs) in
     let f = recording-size i r in
     let a = recording-plays held r (k .0) i room (omega arith) (omega arith) in
     let c = recordings-play rs _ (k .1) (suc i) (room - a .layout .bytes) (omega arith) (rw (a .bytes) (omega arith)) in
-    record { placed = record { recording = r; layout = a .layout } ∷ c .placed; same = ap (λ (x : List Recording). r ∷ x) (c .same); plays = plays-bind _ (a .plays) (plays-give _ (c .plays)) }
+    record { placed = record { recording = r; layout = a .layout } ∷ c .placed; same = ap (λ (x : List Recording). r ∷ x) (c .same); each = (record { held = held; room = room; plays = a .plays }, c .each); plays = plays-bind _ (a .plays) (plays-give _ (c .plays)) }
 
 -- The file header
 
@@ -197,6 +212,7 @@ file-ok n p =
 pub record AnewFile (v : Contents) : Type 0 where
   pub file : File
   pub same : contents file ≡ v
+  pub each : EachAnew 1 (file .recordings)
   pub plays : Plays (anew v) (Rattle.rules.specs.Rules.file (size (anew v))) file
 
 pub file-plays : (v : Contents) → ContentsOk v → AnewFile v
@@ -209,5 +225,6 @@ file-plays v k =
     record {
       file = record { heading = v .heading; recordings = c .placed };
       same = λ i. record { heading = v .heading; recordings = c .same i };
+      each = c .each;
       plays = plays-bind _ (header-plays (v .heading) (length (v .recordings)) _ (k .header) (omega arith)) (plays-give _ (c .plays));
     }

@@ -16,3 +16,8 @@ pub mod Holders
 pub mod Reserve
 pub mod Rows
 pub mod Held
+pub mod Written
+pub mod Chosen
+pub mod Here
+pub mod Digits
+pub mod CanonicalForm

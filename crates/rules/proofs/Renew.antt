@@ -347,7 +347,7 @@ frame-ok n t cs room i p =
     let e = plays-split (zeros (r .bytes)) _ (r .then) in
     rw (traced (e .behind) .value) (record { hour = leb-true _ _ (checked (x .then) .holds); minute = leb-true _ _ (checked (y .then) .holds); second = leb-true _ _ (checked (z .then) .holds); samples = samples-ok t cs (q .before) })
 
-frame-body-size : (t : ℕ) (cs : List Channel) (f : Frame) → FrameOk t cs f → size (frameWritten cs f) ≡ 8 + sampleBytes t cs
+pub frame-body-size : (t : ℕ) (cs : List Channel) (f : Frame) → FrameOk t cs f → size (frameWritten cs f) ≡ 8 + sampleBytes t cs
 unfolding frameWritten size
 frame-body-size t cs f k = rw (size-append, samples-size t cs (f .channels) (k .samples)) (omega arith)
 
@@ -361,7 +361,7 @@ frame-plays t cs f k i room b s r =
     (checks refl
     (plays-bind _ (admit-plays room 128 _ (eqb i) h (record { low = omega arith; small = s; fits = and-both (eqb n n) _ (eq-eqb n n refl) (lt-ltb (n - n) 1 (omega arith)); room = r; serial = eq-eqb i i refl }))
     (numbers (omega (arith, k .hour)) (checks (le-leb (f .hour) 23 (k .hour)) (numbers (omega (arith, k .minute)) (checks (le-leb (f .minute) 59 (k .minute))
-    (numbers (omega (arith, k .second)) (checks (le-leb (f .second) 59 (k .second)) (skips (zeros-length 2) (zeros-bytes 2)
+    (numbers (omega (arith, k .second)) (checks (le-leb (f .second) 59 (k .second)) (skips refl (omega arith)
     (plays-bind _ (samples-play t cs (f .channels) (k .samples)) (padding-plays 0 (n - n) (omega arith) f)))))))))))
 
 -- 140
@@ -510,7 +510,7 @@ head-room : (room : ℕ) {t : List Event} {h : Head} → Plays t (head room) h �
 unfolding head _>>=_ _>>_
 head-room room p = leb-true 16 room (checked p .holds)
 
-makers-size : (m : Maker) (ms : List Maker) → MakerOk m → size (makerEvents (m ∷ ms)) ≡ span (m .head) + size (makerEvents ms)
+pub makers-size : (m : Maker) (ms : List Maker) → MakerOk m → size (makerEvents (m ∷ ms)) ≡ span (m .head) + size (makerEvents ms)
 unfolding makerEvents recordOf size
 makers-size m ms k = omega (arith, k .long, k .width)
 

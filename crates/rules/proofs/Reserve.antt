@@ -3,16 +3,16 @@
 use mathlib.Core.Path.{_≡_, refl, ap, ap₂, _∙_}
 use mathlib.Core.Bool.{Bool, true, false}
 use mathlib.Core.List.{List, [], _∷_, _++_, map}
-use Prim.Native.Nat.{ℕ, suc}
+use Prim.Native.Nat.{ℕ, suc, _+_, _-_}
 use lib.ListN.{length}
-use Rattle.walk.specs.Walk.{Event, numeral, cleared}
+use Rattle.walk.specs.Walk.{Event, numeral, size, cleared}
 use Rattle.walk.proofs.Tracing.{cleared-append}
-use Rattle.rules.specs.Rules.{Head, Basic, Channel, Item, Frame, Maker, Recording, width}
-use Rattle.rules.specs.Canonical.{recordOf, basicFields, channelFields, channelEvents, channelsWritten, itemEvents, itemsWritten, sampleEvents, frameWritten, frameEvents, framesWritten, makerEvents, optional, delimiterEvents, content, recordingEvents, headerEvents, anew, canonical}
+use Rattle.rules.specs.Rules.{Head, span, Basic, Channel, Item, Frame, Maker, Recording, width}
+use Rattle.rules.specs.Canonical.{zeroes, recordOf, basicFields, channelFields, channelEvents, channelsWritten, itemEvents, itemsWritten, sampleEvents, frameWritten, frameEvents, framesWritten, makerEvents, optional, delimiterEvents, content, recordingHead, recordingEvents, headerEvents, anew, canonical}
 use Rattle.rules.specs.Reading.{Reading, wordsOf}
 
 -- events whose reserve is zero
-abbrev Clear : List Event → Type 0
+abbrev pub Clear : List Event → Type 0
 Clear t = cleared t ≡ t
 
 both : (t u : List Event) → Clear t → Clear u → Clear (t ++ u)
@@ -78,10 +78,14 @@ of-content r =
     (both (recordOf _ (framesWritten (r .seconds) (r .channels) (r .frames))) _ (of-record _ (framesWritten (r .seconds) (r .channels) (r .frames)) (rw (both (frameEvents (r .seconds) (r .channels) 1 (r .frames)) _ (of-frames (r .seconds) (r .channels) 1 (r .frames)) refl)))
     (both (makerEvents (r .makers₅)) delimiterEvents (of-makers (r .makers₅)) refl))))))
 
+pub of-recording : (h : Head) (r : Recording) (n : ℕ) → Clear (recordOf h (content r ++ (zeroes n ∷ [])))
+unfolding cleared
+of-recording h r n = of-record h _ (both (content r) _ (of-content r) refl)
+
 of-recordings : (i : ℕ) (rs : List Recording) → Clear (recordingEvents i rs)
 unfolding cleared recordingEvents
 of-recordings i [] = refl
-of-recordings i (r ∷ rs) = both (recordOf _ _) (recordingEvents (suc i) rs) (of-record _ _ (both (content r) _ (of-content r) refl)) (of-recordings (suc i) rs)
+of-recordings i (r ∷ rs) = both (recordOf _ _) (recordingEvents (suc i) rs) (of-recording (recordingHead i r) r (span (recordingHead i r) - (16 + size (content r)))) (of-recordings (suc i) rs)
 
 pub reserve-zero : (v : Reading) → cleared (canonical v) ≡ canonical v
 unfolding cleared anew headerEvents

@@ -1,13 +1,14 @@
 -- The size and the multiplier of a record of n bytes: multiplier 0 where n fits, else the smallest that serves.
 -- Assumes nothing.
-use mathlib.Core.Path.{_≡_, refl, _∙_}
+use mathlib.Core.Path.{_≡_, refl, sym, ap, _∙_}
 use mathlib.Core.Bool.{Bool, true, false}
 use Prim.Native.Nat.{ℕ, zero, suc, _+_, _*_, _-_, _/_, _≤_, _<_, max}
 use native.Mathlib.Nat.{div-lt-iff-lt-mul, div-add-mod', mod-lt, mul-le-mul-right}
 use native.Mathlib.Omega.{arith}
 use lib.Dec.{leb}
 use borrow.Author.Tests.{leb-true, leb-false, le-leb, lt-leb}
-use Rattle.rules.specs.Canonical.{most, shares, multiplierFor, sizeFor}
+use Rattle.rules.specs.Canonical.{multiplierFor, sizeFor}
+use Rattle.rules.specs.CanonicalForm.{most, shares, SizedAs}
 use Rattle.rules.specs.Rules.{lengthOf}
 
 pub record Sized (n : ℕ) : Type 0 where
@@ -56,13 +57,28 @@ fits-once n h =
     let s : sizeFor n ≡ n = rw (sizeFor, le-leb n most h) in
     record { small = rw s h; serves = rw (m, s) (omega arith); close = rw (m, s) (omega arith); low = λ _. rw m (omega arith) }
 
+-- of more than fits
+module _ (n : ℕ) (h : most < n) where
+  many-is : multiplierFor n ≡ shares n most
+  unfolding multiplierFor
+  many-is = rw (multiplierFor, lt-leb n most h)
+
+  size-is : sizeFor n ≡ shares n (multiplierFor n)
+  unfolding sizeFor
+  size-is = rw (sizeFor, lt-leb n most h)
+
+  enough : n ≤ multiplierFor n * most
+  enough = rw many-is (shares-low n most (omega arith))
+
+  positive : 0 < multiplierFor n
+  positive = omega (arith, enough)
+
 fits-more : (n : ℕ) → most < n → Sized n
-unfolding multiplierFor sizeFor
 fits-more n h =
-    let m : multiplierFor n ≡ shares n most = rw (multiplierFor, lt-leb n most h) in
-    let s : sizeFor n ≡ shares n (multiplierFor n) = rw (sizeFor, lt-leb n most h) in
-    let a : n ≤ multiplierFor n * most = rw m (shares-low n most (omega arith)) in
-    let z : 0 < multiplierFor n = omega arith in
+    let m = many-is n h in
+    let s = size-is n h in
+    let a = enough n h in
+    let z = positive n h in
     let l : lengthOf (sizeFor n) (multiplierFor n) ≡ shares n (multiplierFor n) * multiplierFor n = length-times (sizeFor n) (multiplierFor n) z ∙ rw s in
     let b : shares n (multiplierFor n) * multiplierFor n < n + multiplierFor n = shares-close n (multiplierFor n) z in
     let c : n ≤ shares n (multiplierFor n) * multiplierFor n = shares-low n (multiplierFor n) z in
@@ -79,3 +95,28 @@ sized n = go (leb n most) refl
     go : (x : Bool) → leb n most ≡ x → Sized n
     go true e = fits-once n (leb-true n most e)
     go false e = fits-more n (leb-false n most e)
+
+-- They are what document 01 gives a record of total length n, and nothing else is
+
+pub sized-as : (n : ℕ) → SizedAs n (sizeFor n) (multiplierFor n)
+unfolding sizeFor
+sized-as n = record {
+  once = none-where-it-fits n;
+  whole = λ l. rw (sizeFor, le-leb n most l);
+  times = positive n;
+  quotient = size-is n;
+  small = λ _. sized n .small;
+  smallest = λ l m k q. omega (arith, smallest n m k q l);
+}
+
+pub sized-unique : (n : ℕ) {s m s′ m′ : ℕ} → SizedAs n s m → SizedAs n s′ m′ → (s ≡ s′) × (m ≡ m′)
+sized-unique n {s} {m} {s′} {m′} a b = go (leb n most) refl
+  where
+    go : (x : Bool) → leb n most ≡ x → (s ≡ s′) × (m ≡ m′)
+    go true e = let l : n ≤ most = leb-true n most e in (a .whole l ∙ sym (b .whole l), a .once l ∙ sym (b .once l))
+    go false e =
+        let l : most < n = leb-false n most e in
+        let x : m ≤ m′ = omega (arith, a .smallest l m′ (b .times l) (rw (b .quotient l) at (b .small l))) in
+        let y : m′ ≤ m = omega (arith, b .smallest l m (a .times l) (rw (a .quotient l) at (a .small l))) in
+        let z : m ≡ m′ = omega arith in
+        (a .quotient l ∙ (ap (shares n) z ∙ sym (b .quotient l)), z)

@@ -9,16 +9,10 @@ use lib.ListN.{length, replicate}
 use Rattle.words.specs.declared.Order.{Order}
 use Rattle.walk.specs.Walk.{Letter, Text, Padding, Event, numeral, piece, blank, row, size, refused, passed, render}
 use Rattle.rules.specs.Reading.{Reading, reading, wordsOf}
+pub use Rattle.rules.specs.CanonicalForm.{most, shares}
 use Rattle.rules.specs.Rules.{identifier, version, form, Heading, Head, span, Basic, Channel, Item, itemBytes, width, sampleBytes, Frame, Maker, Recording, Contents, File, judge}
 
 -- The size and the multiplier of a record of n bytes: multiplier 0 where n fits, else the smallest that serves
-
-abbrev pub most : ℕ
-most = 2_147_483_647
-
--- n divided by m, rounded up
-abbrev pub shares : ℕ → ℕ → ℕ
-shares n m = (n + (m - 1)) / m
 
 unfoldable pub multiplierFor : ℕ → ℕ
 multiplierFor n = elim (leb n most) [ true ↦ 0 | false ↦ shares n most ]

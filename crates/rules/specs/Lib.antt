@@ -1,6 +1,7 @@
 pub mod Rules
 pub mod Reading
 pub mod Turned
+pub mod CanonicalForm
 pub mod Canonical
 pub mod Worked
 pub mod Places
