@@ -4,7 +4,7 @@ use mathlib.Core.Path.{_≡_, refl}
 use mathlib.Core.Bool.{Bool, true, false, true≢false, _||_}
 use Prim.Native.Nat.{ℕ, _^_, _<_}
 use lib.Dec.{eqb}
-use Rattle.words.specs.Floats.{isNan, floatOf}
+use Rattle.words.specs.Floats.{nanPattern, floatOf}
 use Rattle.words.proofs.Floats.{bitsOf-floatOf}
 use Rattle.words.proofs.Values.{unsigned-signed}
 use Rattle.questions.specs.Values.{someNan, floatsOf, calibrationOf, Words, wordsOf}
@@ -29,17 +29,17 @@ or-right false b e = e
 module _ (a b c d : ℕ) where
   -- none of the four is a NaN's
   pub record Plain : Type 0 where
-    pub cal : isNan a ≡ false
-    pub calAD : isNan b ≡ false
-    pub offsetAD : isNan c ≡ false
-    pub offsetCal : isNan d ≡ false
+    pub cal : nanPattern a ≡ false
+    pub calAD : nanPattern b ≡ false
+    pub offsetAD : nanPattern c ≡ false
+    pub offsetCal : nanPattern d ≡ false
 
   pub plain : someNan a b c d ≡ false → Plain
   unfolding someNan
   plain e =
-      let f = or-right (isNan a) _ e in
-      let g = or-right (isNan b) _ f in
-      record { cal = or-left (isNan a) _ e; calAD = or-left (isNan b) _ f; offsetAD = or-left (isNan c) _ g; offsetCal = or-right (isNan c) _ g }
+      let f = or-right (nanPattern a) _ e in
+      let g = or-right (nanPattern b) _ f in
+      record { cal = or-left (nanPattern a) _ e; calAD = or-left (nanPattern b) _ f; offsetAD = or-left (nanPattern c) _ g; offsetCal = or-right (nanPattern c) _ g }
 
   pub patterns : someNan a b c d ≡ true → floatsOf a b c d ≡ Calibration.Patterns a b c d
   unfolding floatsOf

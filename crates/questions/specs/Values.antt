@@ -8,7 +8,7 @@ use lib.Dec.{eqb}
 use lib.ListN.{length}
 use Rattle.words.specs.declared.Order.{Order}
 use Rattle.words.specs.Numbers.{numberAt}
-use Rattle.words.specs.Floats.{isNan, floatOf, bitsOf}
+use Rattle.words.specs.Floats.{nanPattern, floatOf, bitsOf}
 use Rattle.words.specs.Values.{signed, unsigned}
 use Rattle.walk.specs.Walk.{pick}
 use Rattle.walk.specs.See.{see, goes}
@@ -24,7 +24,7 @@ use Rattle.questions.specs.declared.items.Entry.{Entry}
 
 -- whether one of four words is a NaN's pattern
 unfoldable pub someNan : (cal calAD offsetAD offsetCal : ℕ) → Bool
-someNan a b c d = isNan a || (isNan b || (isNan c || isNan d))
+someNan a b c d = nanPattern a || (nanPattern b || (nanPattern c || nanPattern d))
 
 -- four floats; their patterns where one of them is a NaN's
 unfoldable pub floatsOf : (cal calAD offsetAD offsetCal : ℕ) → Calibration

@@ -8,6 +8,7 @@ use mathlib.Core.Option.{Option, none, some}
 use Prim.Native.Nat.{ℕ, zero, suc, _+_, _*_, _-_, _/_, _%_, _^_, max}
 use lib.Dec.{leb, ltb, eqb}
 use lib.ListN.{length, getD}
+use Rattle.words.specs.Numbers.{letterOf}
 use Rattle.words.specs.declared.Order.{Order}
 use Rattle.words.specs.declared.Order.the-variants.{Little, Big}
 use Rattle.walk.specs.Walk.{pick, Letter, Padding, Walk, give, refuse, check, number, read, list, _>>=_, _>>_, Outcome, refused, passed, run, require, num, text, reserve}
@@ -20,6 +21,10 @@ fieldOf w ok = number w (λ v. check (ok v) 13 w (give v))
 
 abbrev pub field : (ℕ → Bool) → Walk ℕ
 field = fieldOf 4
+
+-- the walk stands behind a field of 4 bytes: so many bytes back it lies
+abbrev pub fieldBack : ℕ
+fieldBack = 4
 
 -- every byte is zero; the first that is not is refused at its place
 unfoldable pub zeros : List ℕ → Walk (Unit {0})
@@ -109,7 +114,7 @@ fileHeader size = do
   f ← text 2
   require (sameBytes f form) 4 2
   letter ← read Letter 1 give
-  require (eqb (getD letter 0 0) 76) 5 1
+  require (eqb (getD letter 0 0) (letterOf Little)) 5 1
   script ← text 1
   require (isScript (getD script 0 0)) 6 1
   digits ← text 4
@@ -143,17 +148,29 @@ head room = do
   multiplier ← num 4
   give (record { size = size; code = code; serial = serial; multiplier = multiplier })
 
--- the walk stands behind the head: the code lies 12 bytes back, the multiplier 4, the record's start 16, the serial 8
+-- the walk stands behind the head: so many bytes back lie the record's start, its code, its serial and its multiplier
+abbrev pub startBack : ℕ
+startBack = 16
+
+abbrev pub codeBack : ℕ
+codeBack = 12
+
+abbrev pub serialBack : ℕ
+serialBack = 8
+
+abbrev pub multiplierBack : ℕ
+multiplierBack = 4
+
 abbrev pub coded : Head → ℕ → Walk (Unit {0})
-coded h code = require (eqb (h .code) code) 9 12
+coded h code = require (eqb (h .code) code) 9 codeBack
 
 -- the multiplier, the length and the serial; the record is then listed. `room` is counted from the record's start
 unfoldable pub admit : ℕ → ℕ → (ℕ → Bool) → (ℕ → Bool) → Head → Walk (Unit {0})
 admit room most fits serial h = do
-  require (leb (h .multiplier) most) 11 4
-  require (ltb (h .size) limit && (fits (span h) && leb (span h) room)) 10 16
-  require (serial (h .serial)) 12 8
-  list 16 (span h) (h .code) (h .serial) (give tt)
+  require (leb (h .multiplier) most) 11 multiplierBack
+  require (ltb (h .size) limit && (fits (span h) && leb (span h) room)) 10 startBack
+  require (serial (h .serial)) 12 serialBack
+  list startBack (span h) (h .code) (h .serial) (give tt)
 
 -- padding of n bytes is shorter than the multiplier, and none where that is 0
 unfoldable pub padded : ℕ → ℕ → Bool
@@ -176,11 +193,11 @@ pub record Rule : Type 0 where
 
 -- a fixed length and no multiplier
 abbrev pub exactly : ℕ → ℕ → ℕ → Rule
-exactly length code serial = record { code = λ c. eqb c code; most = 0; fits = λ _. eqb length; serial = eqb serial }
+exactly bytes code serial = record { code = λ c. eqb c code; most = 0; fits = λ _. eqb bytes; serial = eqb serial }
 
 -- a least length, and a multiplier up to `most`
 abbrev pub atLeast : ℕ → ℕ → ℕ → ℕ → Rule
-atLeast length code most serial = record { code = λ c. eqb c code; most = most; fits = λ _. leb length; serial = eqb serial }
+atLeast bytes code most serial = record { code = λ c. eqb c code; most = most; fits = λ _. leb bytes; serial = eqb serial }
 
 unfoldable pub makerCode : ℕ → Bool
 makerCode c = leb 1024 c && ltb c limit
@@ -216,7 +233,7 @@ abbrev pub anyRule : Rule
 anyRule = record { code = λ _. true; most = 128; fits = λ _. leb 16; serial = λ _. true }
 
 abbrev pub codedBy : Rule → Head → Walk (Unit {0})
-codedBy r h = require (r .code (h .code)) 9 12
+codedBy r h = require (r .code (h .code)) 9 codeBack
 
 abbrev pub admitBy : Rule → ℕ → Head → Walk (Unit {0})
 admitBy r room h = admit room (r .most) (r .fits (h .multiplier)) (r .serial) h
@@ -336,13 +353,13 @@ channel room i = fixed (channelRule i) channelBody room
 
 -- the body of a 120 of this length
 unfoldable pub channelsBody : Basic → ℕ → Walk (List Channel)
-channelsBody b length = do
+channelsBody b bytes = do
   m ← field (between 1 128)
-  require (eqb m (b .channels)) 14 4
-  require (eqb length (32 + 256 * m)) 14 4
+  require (eqb m (b .channels)) 14 fieldBack
+  require (eqb bytes (32 + 256 * m)) 14 fieldBack
   _ ← field (eqb 256)
   reserve 8
-  series m 1 256 (length - 32) channel
+  series m 1 256 (bytes - 32) channel
 
 -- the rest of a 120 whose head is read
 unfoldable pub channels : Basic → ℕ → Head → Walk (List Channel)
@@ -370,13 +387,17 @@ patientCode c = isIn c keywords || between 11 14 c || between 21 26 c || between
 unfoldable pub eventCode : ℕ → Bool
 eventCode c = eqb c 0 || (between 4096 65535 c && eqb (c / 4096 % 2) 1)
 
+-- the walk stands behind an item's size and code: so many bytes back the item begins
+abbrev pub itemBack : ℕ
+itemBack = 8
+
 unfoldable pub item : (ℕ → Bool) → ℕ → Walk Item
 item ok room = do
   require (leb 8 room) 10 0
   size ← num 4
   code ← num 4
-  require (leb 8 size && (ltb size limit && leb size room)) 10 8
-  require (ok code) 13 4
+  require (leb 8 size && (ltb size limit && leb size room)) 10 itemBack
+  require (ok code) 13 fieldBack
   content ← text (size - 8)
   give (record { code = code; content = content })
 
@@ -396,11 +417,11 @@ itemList ok (suc n) room = do
 
 -- the body of a 130 or a 200 of this length
 unfoldable pub itemsBody : (ℕ → Bool) → ℕ → Walk (List Item)
-itemsBody ok length = do
+itemsBody ok bytes = do
   n ← field (λ n. leb n 256)
   reserve 4
-  is ← itemList ok n (length - 24)
-  require (eqb (24 + itemBytes is) length) 14 (8 + itemBytes is)
+  is ← itemList ok n (bytes - 24)
+  require (eqb (24 + itemBytes is) bytes) 14 (8 + itemBytes is)
   give is
 
 -- the rest of a 130 or a 200 whose head is read
@@ -482,14 +503,14 @@ pub record Frames : Type 0 where
 unfoldable pub framesBody : Basic → List Channel → Head → Walk Frames
 framesBody b cs h = do
   t ← field (between 1 3600)
-  require (all (divides t) cs) 14 4
+  require (all (divides t) cs) 14 fieldBack
   let filled = 24 + sampleBytes t cs
   size ← num 4
-  require (between filled (filled + 127) size && ltb size limit) 14 4
+  require (between filled (filled + 127) size && ltb size limit) 14 fieldBack
   n ← num 4
-  require (eqb n (b .frames)) 14 4
+  require (eqb n (b .frames)) 14 fieldBack
   let used = 32 + n * size
-  require (leb used (span h) && padOk h (span h - used)) 14 4
+  require (leb used (span h) && padOk h (span h - used)) 14 fieldBack
   reserve 4
   fs ← series n 1 size (span h - 32) (frame size t cs)
   padding (span h - used)
@@ -564,7 +585,7 @@ part fuel code body held n =
         a ← body (n .room) (n .head)
         m ← next fuel (n .room - span (n .head))
         give (record { own = true; value = a; next = m })
-      | false ↦ elim held [ none ↦ refuse 9 12 | some a ↦ give (record { own = false; value = a; next = record { makers = []; head = n .head; room = n .room } }) ]
+      | false ↦ elim held [ none ↦ refuse 9 codeBack | some a ↦ give (record { own = false; value = a; next = record { makers = []; head = n .head; room = n .room } }) ]
     ]
 
 abbrev pub heldChannels : Option Held → Option (List Channel)
@@ -582,10 +603,10 @@ contentLimit = 137_438_953_472
 unfoldable pub delimiter : Head → Walk (Unit {0})
 delimiter h = do
   coded h 0
-  require (eqb (h .multiplier) 0) 11 4
-  require (eqb (h .size) 0) 10 16
-  require (eqb (h .serial) 0) 12 8
-  list 16 16 0 0 (give tt)
+  require (eqb (h .multiplier) 0) 11 multiplierBack
+  require (eqb (h .size) 0) 10 startBack
+  require (eqb (h .serial) 0) 12 serialBack
+  list startBack 16 0 0 (give tt)
 
 -- where it stands: the recording's length, how far into it 120, 130, 200 and 140 stand (where one is absent: the record that stands in its place), and its frames' length
 pub record Layout : Type 0 where
@@ -699,7 +720,7 @@ file size = do
 
 -- the order that the file's letter names; another letter is refused by the walk
 unfoldable pub orderOf : List ℕ → Order
-orderOf s = elim (eqb (getD s 16 0) 66) [ true ↦ Big | false ↦ Little ]
+orderOf s = elim (eqb (getD s 16 0) (letterOf Big)) [ true ↦ Big | false ↦ Little ]
 
 -- nothing may be left behind recording K
 unfoldable pub whole : ℕ → Outcome File → Outcome File

@@ -4,7 +4,7 @@ use mathlib.Core.Bool.{cond}
 use mathlib.Core.List.{List}
 use Prim.Native.Nat.{ℕ, _+_, _-_, _*_}
 use lib.ListN.{take}
-use Rattle.words.specs.Floats.{isNan, floatOf, bitsOf}
+use Rattle.words.specs.Floats.{nanPattern, floatOf, bitsOf}
 use Rattle.rules.specs.Rules as R
 use Rattle.rules.specs.Reading.{Value, whole, float, frameReading}
 use Rattle.recordings.specs.Answers.{Answer, value, _>>=_, numbered}
@@ -56,7 +56,7 @@ samplesOf s i j k = do
 
 -- the sample of 32 bits: a float, or a NaN's pattern
 unfoldable pub floatIn : ℕ → Number
-floatIn n = cond (isNan n) (Number.Pattern n) (Number.Float (floatOf n))
+floatIn n = cond (nanPattern n) (Number.Pattern n) (Number.Float (floatOf n))
 
 -- a number of the reading: a whole number, or the sample of its bits
 abbrev pub numberIn : Value → Number

@@ -5,7 +5,7 @@ use mathlib.Core.List.{List, [], _∷_, _++_, map}
 use Prim.Native.Nat.{ℕ, _+_, _-_}
 use lib.Dec.{leb, eqb}
 use lib.ListN.{length, take, drop, replicate}
-use Rattle.words.specs.Numbers.{wordIn, bytesIn}
+use Rattle.words.specs.Numbers.{letterOf, wordIn, bytesIn}
 use Rattle.words.specs.declared.Order.{Order}
 use Rattle.words.specs.declared.Order.the-variants.{Little, Big}
 
@@ -15,7 +15,7 @@ pub data Kind : Type 0 where
 
 -- the other order's letter, `L` for `B` and `B` for `L`
 unfoldable pub swap : ℕ → ℕ
-swap b = elim (eqb b 76) [ true ↦ 66 | false ↦ elim (eqb b 66) [ true ↦ 76 | false ↦ b ] ]
+swap b = elim (eqb b (letterOf Little)) [ true ↦ letterOf Big | false ↦ elim (eqb b (letterOf Big)) [ true ↦ letterOf Little | false ↦ b ] ]
 
 -- from the file's bytes to those of a little-endian file, and back
 unfoldable pub laid : Order → Kind → List ℕ → List ℕ

@@ -6,15 +6,15 @@ use Prim.Native.Nat.{ℕ, _%_, _^_, _<_}
 use lib.Dec.{T, ltb}
 use lib.Ieee.{binary32}
 use lib.Ieee.Bits.{toBits-ofBits, nanBits-is, nanBits-above}
-use Rattle.words.specs.Floats.{isNan, floatOf, bitsOf}
+use Rattle.words.specs.Floats.{nanPattern, floatOf, bitsOf}
 
 -- a NaN's bits, below the sign's, are more than an infinity's
-pub isNan-above : (n : ℕ) → isNan n ≡ ltb 2139095040 (n % 2147483648)
-isNan-above n = nanBits-above binary32 n
+pub nanPattern-above : (n : ℕ) → nanPattern n ≡ ltb 2139095040 (n % 2147483648)
+nanPattern-above n = nanBits-above binary32 n
 
 -- no NaN's pattern, as `from_bits` asks it
-pub no-nan : (n : ℕ) → isNan n ≡ false → T (not (isNan n))
+pub no-nan : (n : ℕ) → nanPattern n ≡ false → T (not (nanPattern n))
 no-nan n e = subst (λ (b : Bool). T (not b)) (sym e) tt
 
-pub bitsOf-floatOf : (n : ℕ) → n < 2 ^ 32 → isNan n ≡ false → bitsOf (floatOf n) ≡ n
+pub bitsOf-floatOf : (n : ℕ) → n < 2 ^ 32 → nanPattern n ≡ false → bitsOf (floatOf n) ≡ n
 bitsOf-floatOf n h e = toBits-ofBits binary32 n h (rw nanBits-is at (no-nan n e))

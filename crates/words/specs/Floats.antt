@@ -5,8 +5,8 @@ use Prim.Native.Nat.{ℕ}
 use lib.Ieee.{Float, binary32, nanBits, ofBits, toBits}
 
 -- whether the bits are those of a NaN, as IEEE 754 has it
-abbrev pub isNan : ℕ → Bool
-isNan n = nanBits binary32 n
+abbrev pub nanPattern : ℕ → Bool
+nanPattern n = nanBits binary32 n
 
 -- the float of bits that are not, and the bits of a float
 abbrev pub floatOf : ℕ → Float

@@ -10,6 +10,11 @@ unfoldable pub other : Order → Order
 other Little = Big
 other Big = Little
 
+-- the letter that names an order in a file: L and B
+abbrev pub letterOf : Order → ℕ
+letterOf Little = 76
+letterOf Big = 66
+
 -- bytes in an order, from those of a little-endian number, and back
 unfoldable pub ordered : Order → List ℕ → List ℕ
 ordered Little bs = bs

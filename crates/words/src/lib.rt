@@ -6,7 +6,7 @@ ghost use lib.ListN.{length, getD};
 ghost use Rattle.words.specs.Numbers.{numberAt, bytesIn, ordered};
 ghost use Rattle.words.specs.Joins.{join};
 ghost use Rattle.words.specs.Values.{wordCount, signed};
-ghost use Rattle.words.specs.Floats.{isNan};
+ghost use Rattle.words.specs.Floats.{nanPattern};
 ghost use Rattle.words.specs.Runs.{firstNonzero, Zeros};
 
 // The byte order of a file.
@@ -169,7 +169,7 @@ pub fn int4(o: Order, s: &[u8], at: usize) -> i32
 
 // Whether 32 bits are a NaN's, which cannot become an f32: below the sign's bit, more than an infinity has.
 pub fn is_nan(bits: u32) -> bool
-    ensures { λ r. ⌜ r ≡ isNan bits ⌝ }
+    ensures { λ r. ⌜ r ≡ nanPattern bits ⌝ }
 {
     bits % 2147483648 > 2139095040
 }

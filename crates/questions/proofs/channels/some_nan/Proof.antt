@@ -3,20 +3,20 @@
 use mathlib.Core.Path.{_≡_, sym, _∙_}
 use mathlib.Core.Bool.{false}
 use borrow.Author.Needs.{needs}
-use Rattle.words.specs.Floats.{isNan}
+use Rattle.words.specs.Floats.{nanPattern}
 use Rattle.questions.specs.Values.{someNan}
 use Rattle.questions.proofs.Calibrated.{nan-here, nan-later}
 use Rattle.questions.proofs.channels.some_nan.Statement.{statement}
 use Rattle.questions.proofs.channels.some_nan.Tie as tie
 
 -- each word that was passed is no NaN's
-clear : (c : tie.Else1) → isNan (c .before .before .args .cal) ≡ false
+clear : (c : tie.Else1) → nanPattern (c .before .before .args .cal) ≡ false
 clear c = sym (c .before .is-nan .ensures) ∙ c .if1 .left
 
-clear-2 : (c : tie.Else2) → isNan (c .before .before .before .before .args .cal-ad) ≡ false
+clear-2 : (c : tie.Else2) → nanPattern (c .before .before .before .before .args .cal-ad) ≡ false
 clear-2 c = sym (c .before .is-nan2 .ensures) ∙ c .if2 .left
 
-clear-3 : (c : tie.Else3) → isNan (c .before .before .before .before .before .before .args .offset-ad) ≡ false
+clear-3 : (c : tie.Else3) → nanPattern (c .before .before .before .before .before .before .args .offset-ad) ≡ false
 clear-3 c = sym (c .before .is-nan3 .ensures) ∙ c .if3 .left
 
 returns : tie.Need-returns
