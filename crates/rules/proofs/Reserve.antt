@@ -9,7 +9,8 @@ use Rattle.walk.specs.Walk.{Event, numeral, size, cleared}
 use Rattle.walk.proofs.Tracing.{cleared-append}
 use Rattle.rules.specs.Rules.{Head, span, Basic, Channel, Item, Frame, Maker, Recording, width}
 use Rattle.rules.specs.Canonical.{zeroes, recordOf, basicFields, channelFields, channelEvents, channelsWritten, itemEvents, itemsWritten, sampleEvents, frameWritten, frameEvents, framesWritten, makerEvents, optional, delimiterEvents, content, recordingHead, recordingEvents, headerEvents, anew, canonical}
-use Rattle.rules.specs.Reading.{Reading, wordsOf}
+use Rattle.rules.specs.Reading.{Reading}
+use Rattle.rules.specs.Words.{wordsOf}
 
 -- events whose reserve is zero
 abbrev pub Clear : List Event → Type 0

@@ -10,7 +10,8 @@ use Rattle.words.specs.declared.Order.{Order}
 use Rattle.walk.specs.Walk.{Event, size, render, passed}
 use Rattle.walk.proofs.Laws.{length-render}
 use Rattle.rules.specs.Canonical.{anew, canonical, rewritten, Canonical, multiplierFor, framesBytes, content}
-use Rattle.rules.specs.Reading.{Reading, reading, readingOf, wordsOf}
+use Rattle.rules.specs.Reading.{Reading, reading, readingOf}
+use Rattle.rules.specs.Words.{wordsOf}
 use Rattle.rules.specs.Rules.{File, Contents, contents, orderOf, judge, file, channels, Held, Recording}
 use Rattle.rules.specs.Turned.{turned}
 use Rattle.rules.proofs.Canon.{ContentsOk, file-ok, file-plays, total-low, RecordingsOk}

@@ -13,7 +13,8 @@ use Rattle.walk.specs.Plays.{Plays}
 use Rattle.walk.specs.Walk.{Event, _>>=_, _>>_, size}
 use Rattle.walk.proofs.Laws.{traced}
 use Rattle.rules.specs.Canonical.{content}
-use Rattle.rules.specs.Reading.{valueOf, wordOf, basicReading, basicWords, channelReading, channelWords, itemReading, itemWords, samplesReading, samplesWords, frameReading, frameWords, makerReading, makerWords, recordingReading, recordingWords, readingOf, wordsOf}
+use Rattle.rules.specs.Reading.{valueOf, basicReading, channelReading, itemReading, samplesReading, frameReading, makerReading, recordingReading, readingOf}
+use Rattle.rules.specs.Words.{wordOf, basicWords, channelWords, itemWords, samplesWords, frameWords, makerWords, recordingWords, wordsOf}
 use Rattle.rules.specs.Rules.{Basic, basicBody, Channel, channelBody, Item, width, Frame, Maker, Recording, Held, heldChannels, heldPatient, Contents, between, patientCode, eventCode, head, basic, channel, channels, all, frames, recordings}
 use Rattle.rules.proofs.Canon.{RecordingsOk, ContentsOk}
 use Rattle.rules.proofs.Renew.{All, ChannelOk, ItemOk, MakerOk, SamplesOk, FrameOk, and-true, ChannelsOk, ItemsOk}

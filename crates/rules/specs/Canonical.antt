@@ -8,7 +8,8 @@ use lib.Dec.{leb, ltb}
 use lib.ListN.{length, replicate}
 use Rattle.words.specs.declared.Order.{Order}
 use Rattle.walk.specs.Walk.{Letter, Text, Padding, Event, numeral, piece, blank, row, size, refused, passed, render}
-use Rattle.rules.specs.Reading.{Reading, reading, wordsOf}
+use Rattle.rules.specs.Reading.{Reading, reading}
+use Rattle.rules.specs.Words.{wordsOf}
 pub use Rattle.rules.specs.CanonicalForm.{most, shares}
 use Rattle.rules.specs.Rules.{identifier, version, form, Heading, Head, span, Basic, Channel, Item, itemBytes, width, sampleBytes, Frame, Maker, Recording, Contents, File, judge}
 

@@ -1,5 +1,6 @@
 pub mod Rules
 pub mod Reading
+pub mod Words
 pub mod Turned
 pub mod CanonicalForm
 pub mod Canonical

@@ -7,7 +7,7 @@ use mathlib.Core.List.{List, [], _∷_, map}
 use Prim.Native.Nat.{ℕ}
 use lib.Dec.{eqb}
 use lib.IntN.{ℤ}
-use Rattle.words.specs.Values.{signed, unsigned}
+use Rattle.words.specs.Values.{signed}
 use Rattle.walk.specs.Walk.{pick}
 use Rattle.rules.specs.Rules.{Heading, Basic, Channel, Item, width, Frame, Maker, Recording, File, Contents, contents}
 
@@ -16,13 +16,9 @@ pub data Value : Type 0 where
   whole : ℤ → Value
   float : ℕ → Value
 
--- what a word of w bytes means in a channel of this format; and the word of a value
+-- what a word of w bytes means in a channel of this format
 unfoldable pub valueOf : ℕ → ℕ → ℕ → Value
 valueOf format w n = pick (eqb format 4) (float n) (whole (signed w n))
-
-abbrev pub wordOf : ℕ → Value → ℕ
-wordOf w (whole z) = unsigned w z
-wordOf w (float n) = n
 
 -- 100
 
@@ -40,10 +36,19 @@ pub record BasicReading : Type 0 where
   pub comment : List ℕ
 
 abbrev pub basicReading : Basic → BasicReading
-basicReading b = record { channels = signed 4 (b .channels); frames = signed 4 (b .frames); year = signed 4 (b .year); month = signed 4 (b .month); day = signed 4 (b .day); hour = signed 4 (b .hour); minute = signed 4 (b .minute); second = signed 4 (b .second); time = b .time; mains = signed 4 (b .mains); comment = b .comment }
-
-abbrev pub basicWords : BasicReading → Basic
-basicWords b = record { channels = unsigned 4 (b .channels); frames = unsigned 4 (b .frames); year = unsigned 4 (b .year); month = unsigned 4 (b .month); day = unsigned 4 (b .day); hour = unsigned 4 (b .hour); minute = unsigned 4 (b .minute); second = unsigned 4 (b .second); time = b .time; mains = unsigned 4 (b .mains); comment = b .comment }
+basicReading b = record {
+  channels = signed 4 (b .channels);
+  frames = signed 4 (b .frames);
+  year = signed 4 (b .year);
+  month = signed 4 (b .month);
+  day = signed 4 (b .day);
+  hour = signed 4 (b .hour);
+  minute = signed 4 (b .minute);
+  second = signed 4 (b .second);
+  time = b .time;
+  mains = signed 4 (b .mains);
+  comment = b .comment;
+}
 
 -- 125: the four calibration numbers are four floats when the format is 4, else four whole numbers
 
@@ -66,10 +71,24 @@ pub record ChannelReading : Type 0 where
   pub comment : List ℕ
 
 abbrev pub channelReading : Channel → ChannelReading
-channelReading c = record { channel = signed 4 (c .channel); flags = signed 4 (c .flags); type = signed 4 (c .type); format = signed 4 (c .format); rate = signed 4 (c .rate); cal = valueOf (c .format) 4 (c .cal); calAD = valueOf (c .format) 4 (c .calAD); offsetAD = valueOf (c .format) 4 (c .offsetAD); offsetCal = valueOf (c .format) 4 (c .offsetCal); calFrequency = signed 4 (c .calFrequency); lowCut = signed 4 (c .lowCut); highCut = signed 4 (c .highCut); sensitivity = signed 4 (c .sensitivity); label = c .label; unit = c .unit; comment = c .comment }
-
-abbrev pub channelWords : ChannelReading → Channel
-channelWords c = record { channel = unsigned 4 (c .channel); flags = unsigned 4 (c .flags); type = unsigned 4 (c .type); format = unsigned 4 (c .format); rate = unsigned 4 (c .rate); cal = wordOf 4 (c .cal); calAD = wordOf 4 (c .calAD); offsetAD = wordOf 4 (c .offsetAD); offsetCal = wordOf 4 (c .offsetCal); calFrequency = unsigned 4 (c .calFrequency); lowCut = unsigned 4 (c .lowCut); highCut = unsigned 4 (c .highCut); sensitivity = unsigned 4 (c .sensitivity); label = c .label; unit = c .unit; comment = c .comment }
+channelReading c = record {
+  channel = signed 4 (c .channel);
+  flags = signed 4 (c .flags);
+  type = signed 4 (c .type);
+  format = signed 4 (c .format);
+  rate = signed 4 (c .rate);
+  cal = valueOf (c .format) 4 (c .cal);
+  calAD = valueOf (c .format) 4 (c .calAD);
+  offsetAD = valueOf (c .format) 4 (c .offsetAD);
+  offsetCal = valueOf (c .format) 4 (c .offsetCal);
+  calFrequency = signed 4 (c .calFrequency);
+  lowCut = signed 4 (c .lowCut);
+  highCut = signed 4 (c .highCut);
+  sensitivity = signed 4 (c .sensitivity);
+  label = c .label;
+  unit = c .unit;
+  comment = c .comment;
+}
 
 -- items
 
@@ -80,20 +99,12 @@ pub record ItemReading : Type 0 where
 abbrev pub itemReading : Item → ItemReading
 itemReading i = record { code = signed 4 (i .code); content = i .content }
 
-abbrev pub itemWords : ItemReading → Item
-itemWords i = record { code = unsigned 4 (i .code); content = i .content }
-
 -- 145: the samples of each channel, by its format
 
 unfoldable pub samplesReading : List Channel → List (List ℕ) → List (List Value)
 samplesReading [] ss = []
 samplesReading (c ∷ cs) [] = []
 samplesReading (c ∷ cs) (s ∷ ss) = map (valueOf (c .format) (width (c .format))) s ∷ samplesReading cs ss
-
-unfoldable pub samplesWords : List Channel → List (List Value) → List (List ℕ)
-samplesWords [] ss = []
-samplesWords (c ∷ cs) [] = []
-samplesWords (c ∷ cs) (s ∷ ss) = map (wordOf (width (c .format))) s ∷ samplesWords cs ss
 
 pub record FrameReading : Type 0 where
   pub hour : ℕ
@@ -102,10 +113,12 @@ pub record FrameReading : Type 0 where
   pub channels : List (List Value)
 
 abbrev pub frameReading : List Channel → Frame → FrameReading
-frameReading cs f = record { hour = f .hour; minute = f .minute; second = f .second; channels = samplesReading cs (f .channels) }
-
-abbrev pub frameWords : List Channel → FrameReading → Frame
-frameWords cs f = record { hour = f .hour; minute = f .minute; second = f .second; channels = samplesWords cs (f .channels) }
+frameReading cs f = record {
+  hour = f .hour;
+  minute = f .minute;
+  second = f .second;
+  channels = samplesReading cs (f .channels);
+}
 
 -- a maker's record
 
@@ -117,10 +130,13 @@ pub record MakerReading : Type 0 where
   pub body : List ℕ
 
 abbrev pub makerReading : Maker → MakerReading
-makerReading m = record { size = signed 4 (m .head .size); code = signed 4 (m .head .code); serial = signed 4 (m .head .serial); multiplier = signed 4 (m .head .multiplier); body = m .body }
-
-abbrev pub makerWords : MakerReading → Maker
-makerWords m = record { head = record { size = unsigned 4 (m .size); code = unsigned 4 (m .code); serial = unsigned 4 (m .serial); multiplier = unsigned 4 (m .multiplier) }; body = m .body }
+makerReading m = record {
+  size = signed 4 (m .head .size);
+  code = signed 4 (m .head .code);
+  serial = signed 4 (m .head .serial);
+  multiplier = signed 4 (m .head .multiplier);
+  body = m .body;
+}
 
 -- a recording: its channels and patient items are those that hold for it
 
@@ -142,10 +158,22 @@ pub record RecordingReading : Type 0 where
   pub makers₅ : List MakerReading
 
 abbrev pub recordingReading : Recording → RecordingReading
-recordingReading r = record { basic = basicReading (r .basic); ownChannels = r .ownChannels; channels = map channelReading (r .channels); ownPatient = r .ownPatient; patient = map itemReading (r .patient); ownEvents = r .ownEvents; events = map itemReading (r .events); seconds = signed 4 (r .seconds); frames = map (frameReading (r .channels)) (r .frames); makers₁ = map makerReading (r .makers₁); makers₂ = map makerReading (r .makers₂); makers₃ = map makerReading (r .makers₃); makers₄ = map makerReading (r .makers₄); makers₅ = map makerReading (r .makers₅) }
-
-abbrev pub recordingWords : RecordingReading → Recording
-recordingWords r = record { basic = basicWords (r .basic); ownChannels = r .ownChannels; channels = map channelWords (r .channels); ownPatient = r .ownPatient; patient = map itemWords (r .patient); ownEvents = r .ownEvents; events = map itemWords (r .events); seconds = unsigned 4 (r .seconds); frames = map (frameWords (map channelWords (r .channels))) (r .frames); makers₁ = map makerWords (r .makers₁); makers₂ = map makerWords (r .makers₂); makers₃ = map makerWords (r .makers₃); makers₄ = map makerWords (r .makers₄); makers₅ = map makerWords (r .makers₅) }
+recordingReading r = record {
+  basic = basicReading (r .basic);
+  ownChannels = r .ownChannels;
+  channels = map channelReading (r .channels);
+  ownPatient = r .ownPatient;
+  patient = map itemReading (r .patient);
+  ownEvents = r .ownEvents;
+  events = map itemReading (r .events);
+  seconds = signed 4 (r .seconds);
+  frames = map (frameReading (r .channels)) (r .frames);
+  makers₁ = map makerReading (r .makers₁);
+  makers₂ = map makerReading (r .makers₂);
+  makers₃ = map makerReading (r .makers₃);
+  makers₄ = map makerReading (r .makers₄);
+  makers₅ = map makerReading (r .makers₅);
+}
 
 -- the file
 
@@ -155,10 +183,6 @@ pub record Reading : Type 0 where
 
 abbrev pub readingOf : Contents → Reading
 readingOf v = record { heading = v .heading; recordings = map recordingReading (v .recordings) }
-
--- the words that a reading stands for
-abbrev pub wordsOf : Reading → Contents
-wordsOf v = record { heading = v .heading; recordings = map recordingWords (v .recordings) }
 
 abbrev pub reading : File → Reading
 reading v = readingOf (contents v)

@@ -293,7 +293,19 @@ basicBody = do
   mains ← field isMains
   reserve 16
   comment ← text 32
-  give (record { channels = channels; frames = frames; year = year; month = month; day = day; hour = hour; minute = minute; second = second; time = time; mains = mains; comment = comment })
+  give (record {
+    channels = channels;
+    frames = frames;
+    year = year;
+    month = month;
+    day = day;
+    hour = hour;
+    minute = minute;
+    second = second;
+    time = time;
+    mains = mains;
+    comment = comment;
+  })
 
 abbrev pub basic : ℕ → Walk Basic
 basic = fixed basicRule basicBody
@@ -346,7 +358,24 @@ channelBody = do
   unit ← text 16
   reserve 92
   comment ← text 60
-  give (record { channel = n; flags = flags; type = type; format = format; rate = rate; cal = cal; calAD = calAD; offsetAD = offsetAD; offsetCal = offsetCal; calFrequency = calFrequency; lowCut = lowCut; highCut = highCut; sensitivity = sensitivity; label = label; unit = unit; comment = comment })
+  give (record {
+    channel = n;
+    flags = flags;
+    type = type;
+    format = format;
+    rate = rate;
+    cal = cal;
+    calAD = calAD;
+    offsetAD = offsetAD;
+    offsetCal = offsetCal;
+    calFrequency = calFrequency;
+    lowCut = lowCut;
+    highCut = highCut;
+    sensitivity = sensitivity;
+    label = label;
+    unit = unit;
+    comment = comment;
+  })
 
 abbrev pub channel : ℕ → ℕ → Walk Channel
 channel room i = fixed (channelRule i) channelBody room
@@ -585,7 +614,10 @@ part fuel code body held n =
         a ← body (n .room) (n .head)
         m ← next fuel (n .room - span (n .head))
         give (record { own = true; value = a; next = m })
-      | false ↦ elim held [ none ↦ refuse 9 codeBack | some a ↦ give (record { own = false; value = a; next = record { makers = []; head = n .head; room = n .room } }) ]
+      | false ↦ elim held [
+        | none ↦ refuse 9 codeBack
+        | some a ↦ give (record { own = false; value = a; next = record { makers = []; head = n .head; room = n .room } })
+      ]
     ]
 
 abbrev pub heldChannels : Option Held → Option (List Channel)
@@ -608,7 +640,8 @@ delimiter h = do
   require (eqb (h .serial) 0) 12 serialBack
   list startBack 16 0 0 (give tt)
 
--- where it stands: the recording's length, how far into it 120, 130, 200 and 140 stand (where one is absent: the record that stands in its place), and its frames' length
+-- where it stands: the recording's length, how far into it 120, 130, 200 and 140 stand (where one is absent: the record that stands in its place),
+-- and its frames' length
 pub record Layout : Type 0 where
   pub bytes : ℕ
   pub at120 : ℕ
@@ -674,7 +707,14 @@ signals t h = do
       makers₄ = t .events .next .makers;
       makers₅ = d .makers;
     };
-    layout = record { bytes = bytes; at120 = bytes - t .next .room; at130 = bytes - t .channels .next .room; at200 = bytes - t .patient .next .room; at140 = bytes - last .room; frame = f .size };
+    layout = record {
+      bytes = bytes;
+      at120 = bytes - t .next .room;
+      at130 = bytes - t .channels .next .room;
+      at200 = bytes - t .patient .next .room;
+      at140 = bytes - last .room;
+      frame = f .size;
+    };
   })
 
 -- the body of a recording with this head
@@ -703,7 +743,8 @@ pub record File : Type 0 where
   pub heading : Heading
   pub recordings : List Placed
 
--- A file's reading: the header's values, and of each of the K recordings which records it holds, all fields but size, multiplier, frame length and reserve, all texts, all samples, and each maker's record whole
+-- A file's reading: the header's values, and of each of the K recordings which records it holds, all fields but size, multiplier, frame length
+-- and reserve, all texts, all samples, and each maker's record whole
 
 pub record Contents : Type 0 where
   pub heading : Heading
