@@ -1,6 +1,7 @@
 pub mod Steps
 pub mod Room
 pub mod Refusals
+pub mod Positions
 pub mod Turn
 pub mod Flip
 pub mod Sized

@@ -1,17 +1,20 @@
--- Document 01's worked values hold, and the smallest file with samples is accepted with the rows that document 01 lists.
+-- Document 01's worked values hold, and the smallest file with samples is accepted, in either order, with the rows that document 01 lists.
 -- Assumes nothing.
 use mathlib.Core.Path.{_≡_, refl}
 use mathlib.Core.Bool.{Bool, true, false}
 use mathlib.Core.List.{List, [], _∷_}
-use Rattle.words.specs.Numbers.{word, wordIn, ordered, bytesOf}
+use Prim.Native.Nat.{ℕ}
+use lib.ListN.{length}
+use Rattle.words.specs.Numbers.{other, word, wordIn, ordered, bytesOf, bytesIn}
 use Rattle.words.specs.Values.{signed}
 use lib.IntN.{negsuc}
 use Rattle.words.specs.declared.Order.{Order}
 use Rattle.words.specs.declared.Order.the-variants.{Little, Big}
-use Rattle.walk.specs.Walk.{Row, Outcome, refused, passed, swap, laid, _>>=_, _>>_, logged, run, rows}
+use Rattle.walk.specs.Walk.{Row, Outcome, refused, passed, swap, laid, _>>=_, _>>_, logged, run, rows, render}
 use Rattle.rules.specs.Rules.{File, zeros, padding, series, between, sameBytes, identifier, version, form, allSpaces, decimal, countOf, fileHeader, lengthOf, head, admit, padded, fixed, leap, monthDays, daysIn, dated, isMains, basicBody, isType, rateOk, channelBody, channelsBody, channels, keywords, isIn, patientCode, eventCode, item, itemBytes, itemList, itemsBody, items, width, samplesOf, all, sampleBytes, numberList, samples, frameBody, frame, framesBody, frames, makerCode, next, part, delimiter, descriptions, signals, recordingBody, recording, recordings, file, orderOf, whole, judge}
 use Rattle.rules.specs.Canonical.{multiplierFor, sizeFor}
-use Rattle.rules.specs.Worked.{WorkedValues, WorkedRefusals, smallest, with, row, listing}
+use Rattle.rules.specs.Turned.{turned}
+use Rattle.rules.specs.Worked.{WorkedValues, WorkedRefusals, smallestIn, smallest, with, row, listing}
 
 -- 24 bits, all set, are -1 in either order
 all-set : (o : Order) → signed 3 (wordIn o (255 ∷ 255 ∷ 255 ∷ [])) ≡ negsuc 0
@@ -45,24 +48,36 @@ abbrev isAccepted : Outcome File → Bool
 isAccepted (refused n p) = false
 isAccepted (passed v r t) = true
 
--- the smallest file is accepted with its rows; 29 February 2000 passes; and every refusal number, at its place
+-- the smallest file in an order: its length, and that it is accepted with its rows
+pub record Smallest (o : Order) : Type 0 where
+  pub bytes : length (smallestIn o) ≡ 562
+  pub accepted : isAccepted (judge (smallestIn o)) ≡ true
+  pub listed : rowsOf (judge (smallestIn o)) ≡ listing
+
+-- in either order, and turned from one to the other; 29 February 2000 passes; and every refusal number, at its place
 record Files : Type 0 where
-  accepted : isAccepted (judge smallest) ≡ true
-  listed : rowsOf (judge smallest) ≡ listing
+  little : Smallest Little
+  big : Smallest Big
+  turns : turned smallest ≡ smallestIn Big
   leap : isAccepted (judge (with 80 (208 ∷ 7 ∷ 0 ∷ 0 ∷ 2 ∷ 0 ∷ 0 ∷ 0 ∷ 29 ∷ []))) ≡ true
   refusals : WorkedRefusals judge
 
 files : Files
-unfolding zeros padding series between sameBytes identifier version form allSpaces decimal countOf fileHeader lengthOf head admit padded fixed leap monthDays daysIn dated isMains basicBody isType rateOk channelBody channelsBody channels keywords isIn patientCode eventCode item itemBytes itemList itemsBody items width samplesOf all sampleBytes numberList samples frameBody frame framesBody frames makerCode next part delimiter descriptions signals recordingBody recording recordings file orderOf whole judge swap laid _>>=_ _>>_ logged run rows ordered word bytesOf wordIn smallest listing row
+unfolding zeros padding series between sameBytes identifier version form allSpaces decimal countOf fileHeader lengthOf head admit padded fixed leap monthDays daysIn dated isMains basicBody isType rateOk channelBody channelsBody channels keywords isIn patientCode eventCode item itemBytes itemList itemsBody items width samplesOf all sampleBytes numberList samples frameBody frame framesBody frames makerCode next part delimiter descriptions signals recordingBody recording recordings file orderOf whole judge swap laid _>>=_ _>>_ logged run rows ordered word bytesOf wordIn bytesIn smallestIn smallest listing row other render turned
 files = record {
-  accepted = refl;
-  listed = refl;
+  little = record { bytes = refl; accepted = refl; listed = refl };
+  big = record { bytes = refl; accepted = refl; listed = refl };
+  turns = refl;
   leap = refl;
   refusals = record { one = refl; two = refl; three = refl; four = refl; five = refl; six = refl; seven = refl; eight = refl; nine = refl; ten = refl; eleven = refl; twelve = refl; thirteen = refl; fourteen = refl; fifteen = refl; sixteen = refl; period = refl; leap = refl };
 }
 
-pub smallest-accepted : (isAccepted (judge smallest) ≡ true) × (rowsOf (judge smallest) ≡ listing)
-smallest-accepted = (files .accepted, files .listed)
+pub smallest-accepted : (o : Order) → Smallest o
+smallest-accepted Little = files .little
+smallest-accepted Big = files .big
+
+pub smallest-turned : turned smallest ≡ smallestIn Big
+smallest-turned = files .turns
 
 pub leap-accepted : isAccepted (judge (with 80 (208 ∷ 7 ∷ 0 ∷ 0 ∷ 2 ∷ 0 ∷ 0 ∷ 0 ∷ 29 ∷ []))) ≡ true
 leap-accepted = files .leap

@@ -7,7 +7,7 @@ use lib.IntN.{pos, negsuc}
 use lib.ListN.{length, take, drop, replicate}
 use Rattle.words.specs.declared.Order.{Order}
 use Rattle.words.specs.declared.Order.the-variants.{Little, Big}
-use Rattle.words.specs.Numbers.{wordIn, bytesOf}
+use Rattle.words.specs.Numbers.{letterOf, wordIn, bytesIn}
 use Rattle.words.specs.Values.{signed}
 use Rattle.walk.specs.Walk.{Row, Outcome, refused}
 use Rattle.rules.specs.Rules.{File, lengthOf, samplesOf, identifier, version, form}
@@ -28,27 +28,31 @@ pub record WorkedValues : Type 0 where
   pub eleven : (multiplierFor 2_147_483_648 ≡ 2) × (sizeFor 2_147_483_648 ≡ 1_073_741_824)
   pub twelve : (multiplierFor 4_294_967_295 ≡ 3) × (sizeFor 4_294_967_295 ≡ 1_431_655_765)
 
--- The smallest file with samples, 562 bytes: one 1 Hz 16-bit channel, no patient items, T 1, one frame
+-- The smallest file with samples, 562 bytes, in an order: one 1 Hz 16-bit channel, no patient items, T 1, one frame
 
 abbrev zeros : ℕ → List ℕ
 zeros n = replicate n 0
 
-abbrev head : ℕ → ℕ → ℕ → List ℕ
-head size code serial = bytesOf 4 size ++ (bytesOf 4 code ++ (bytesOf 4 serial ++ zeros 4))
+abbrev head : Order → ℕ → ℕ → ℕ → List ℕ
+head o size code serial = bytesIn o 4 size ++ (bytesIn o 4 code ++ (bytesIn o 4 serial ++ zeros 4))
 
-unfoldable pub smallest : List ℕ
-smallest =
-    identifier ++ (version ++ (form ++ (76 ∷ 83 ∷ 49 ∷ 32 ∷ 32 ∷ 32 ∷ replicate 10 32))) ++
-    (head 530 10 1 ++
-    (head 128 100 0 ++ (bytesOf 4 1 ++ (bytesOf 4 1 ++ (bytesOf 4 1 ++ zeros 100))) ++
-    (head 288 120 0 ++ (bytesOf 4 1 ++ (bytesOf 4 256 ++ zeros 8)) ++
-    (head 256 125 1 ++ (bytesOf 4 1 ++ (zeros 4 ++ (bytesOf 4 4 ++ (bytesOf 4 1 ++ (bytesOf 4 1 ++ zeros 220))))) ++
-    (head 24 130 0 ++ zeros 8 ++
-    (head 58 140 0 ++ (bytesOf 4 1 ++ (bytesOf 4 26 ++ (bytesOf 4 1 ++ zeros 4))) ++
-    (head 26 145 1 ++ (zeros 8 ++ (255 ∷ 127 ∷ [])) ++
+unfoldable pub smallestIn : Order → List ℕ
+smallestIn o =
+    identifier ++ (version ++ (form ++ (letterOf o ∷ 83 ∷ 49 ∷ 32 ∷ 32 ∷ 32 ∷ replicate 10 32))) ++
+    (head o 530 10 1 ++
+    (head o 128 100 0 ++ (bytesIn o 4 1 ++ (bytesIn o 4 1 ++ (bytesIn o 4 1 ++ zeros 100))) ++
+    (head o 288 120 0 ++ (bytesIn o 4 1 ++ (bytesIn o 4 256 ++ zeros 8)) ++
+    (head o 256 125 1 ++ (bytesIn o 4 1 ++ (zeros 4 ++ (bytesIn o 4 4 ++ (bytesIn o 4 1 ++ (bytesIn o 4 1 ++ zeros 220))))) ++
+    (head o 24 130 0 ++ zeros 8 ++
+    (head o 58 140 0 ++ (bytesIn o 4 1 ++ (bytesIn o 4 26 ++ (bytesIn o 4 1 ++ zeros 4))) ++
+    (head o 26 145 1 ++ (zeros 8 ++ bytesIn o 2 32_767) ++
     zeros 16)))))))
 
--- and its records
+unfoldable pub smallest : List ℕ
+unfolding smallestIn
+smallest = smallestIn Little
+
+-- and its records, in either order
 unfoldable pub row : ℕ → ℕ → ℕ → ℕ → Row
 row start size code serial = record { start = start; size = size; code = code; serial = serial }
 

@@ -4,3 +4,4 @@ pub mod Seen
 pub mod Went
 pub mod Told
 pub mod Tracing
+pub mod Reach
