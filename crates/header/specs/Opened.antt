@@ -5,7 +5,7 @@ use mathlib.Core.List.{List}
 use Prim.Native.Nat.{ℕ, _≤_}
 use lib.Dec.{eqb}
 use lib.ListN.{length}
-use Rattle.words.specs.Numbers.{bytesAt}
+use Rattle.words.specs.Numbers.{letterOf, bytesAt}
 use Rattle.words.specs.declared.Order.{Order}
 use Rattle.words.specs.declared.Order.the-variants.{Little, Big}
 use Rattle.walk.specs.See.{Verdict, goes, gate, see}
@@ -22,7 +22,7 @@ use Rattle.header.specs.declared.Opened.the-variants as Opened
 
 -- the order that a byte names: L or B
 unfoldable pub lettered : ℕ → Lettered
-lettered b = pick (eqb b 76) (Lettered.Names Little) (pick (eqb b 66) (Lettered.Names Big) Lettered.Nothing)
+lettered b = pick (eqb b (letterOf Little)) (Lettered.Names Little) (pick (eqb b (letterOf Big)) (Lettered.Names Big) Lettered.Nothing)
 
 -- whether it names one
 abbrev pub names : Lettered → Bool

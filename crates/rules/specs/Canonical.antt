@@ -6,7 +6,9 @@ use mathlib.Core.List.{List, [], _∷_, _++_, map}
 use Prim.Native.Nat.{ℕ, suc, _+_, _*_, _-_, _/_, _%_}
 use lib.Dec.{leb, ltb}
 use lib.ListN.{length, replicate}
+use Rattle.words.specs.Numbers.{letterOf}
 use Rattle.words.specs.declared.Order.{Order}
+use Rattle.words.specs.declared.Order.the-variants.{Little}
 use Rattle.walk.specs.Walk.{Letter, Text, Padding, Event, numeral, piece, blank, row, size, refused, passed, render}
 use Rattle.rules.specs.Reading.{Reading, reading}
 use Rattle.rules.specs.Words.{wordsOf}
@@ -155,7 +157,7 @@ digits k = elim (ltb k 10) [ true ↦ (48 + k) ∷ 32 ∷ 32 ∷ 32 ∷ [] | fal
 
 unfoldable pub headerEvents : Heading → ℕ → List Event
 headerEvents g k =
-    piece Text identifier ∷ piece Text version ∷ piece Text form ∷ piece Letter (76 ∷ []) ∷ piece Text (g .script ∷ []) ∷ piece Text (digits k) ∷ piece Text (replicate 10 32) ∷ []
+    piece Text identifier ∷ piece Text version ∷ piece Text form ∷ piece Letter (letterOf Little ∷ []) ∷ piece Text (g .script ∷ []) ∷ piece Text (digits k) ∷ piece Text (replicate 10 32) ∷ []
 
 unfoldable pub anew : Contents → List Event
 anew v = headerEvents (v .heading) (length (v .recordings)) ++ recordingEvents 1 (v .recordings)
