@@ -42,5 +42,8 @@ settled (bytes n) xs out = pasted out 0 xs
 settled (refusal n p) xs out = out
 
 -- what a call says that answers x, and writes xs where it answers a length
-abbrev pub Writes : Answer → List ℕ → List ℕ → List ℕ → Written → Type 0
-Writes x xs out out′ a = (meaning a ≡ x) × (out′ ≡ settled x xs out)
+pub record Writes (x : Answer) (xs out out′ : List ℕ) (a : Written) : Type 0 where
+  -- the answer
+  pub answer : meaning a ≡ x
+  -- the buffer afterwards
+  pub buffer : out′ ≡ settled x xs out

@@ -1,9 +1,10 @@
 -- Only one answer meets the contract of each question, for every file and whatever is asked; and of the bytes of a channel only one part of the file.
 -- Assumes nothing.
-use mathlib.Core.Path.{_≡_, refl, sym, ap, _∙_}
+use mathlib.Core.Path.{_≡_, refl, sym, _∙_}
 use mathlib.Core.List.{List}
 use Prim.Native.Nat.{ℕ}
 use denote.Ref.{RefT}
+use Rattle.walk.proofs.Unique.{one}
 use Rattle.rules.specs.declared.Refusal.{Refusal}
 use Rattle.records.specs.declared.items.Holder.{Holder}
 use Rattle.recordings.specs.Answers.{Answer, value, refusal}
@@ -26,10 +27,6 @@ use Rattle.questions.specs.declared.items.ItemTold.the-variants as ItemT
 abbrev answer : {A E : Type 0} → (A → E) → (Refusal → E) → Answer A → E
 answer v u (value a) = v a
 answer v u (refusal n p) = u (record { 0 = n; 1 = p })
-
--- two answers that mean the same are one
-one : {A E : Type 0} (meaning : E → Answer A) (v : A → E) (u : Refusal → E) → ((a : E) → answer v u (meaning a) ≡ a) → {x : Answer A} {a b : E} → meaning a ≡ x → meaning b ≡ x → a ≡ b
-one meaning v u back {a} {b} h k = sym (back a) ∙ ap (answer v u) (h ∙ sym k) ∙ back b
 
 facts-back : (a : FactsTold) → answer FactsTold.Facts FactsTold.Refused (meaningF a) ≡ a
 facts-back (FactsTold.Facts x) = refl
@@ -58,22 +55,22 @@ sample-back (SampleTold.Refused r) = refl
 -- each question; `item-unique` is both `patient_item` and `event_item`
 module _ (s : List ℕ) (i : ℕ) where
   pub facts-unique : (a b : FactsTold) → meaningF a ≡ factsOf s i → meaningF b ≡ factsOf s i → a ≡ b
-  facts-unique a b = one meaningF FactsTold.Facts FactsTold.Refused facts-back
+  facts-unique a b = one meaningF (answer FactsTold.Facts FactsTold.Refused) facts-back
 
   pub channel-unique : (j : ℕ) (a b : ChannelTold) → meaningD a ≡ channelOf s i j → meaningD b ≡ channelOf s i j → a ≡ b
-  channel-unique j a b = one meaningD ChannelTold.Channel ChannelTold.Refused channel-back
+  channel-unique j a b = one meaningD (answer ChannelTold.Channel ChannelTold.Refused) channel-back
 
   pub item-unique : (k : Holder) (j : ℕ) (a b : ItemTold) → meaningI a ≡ itemOf k s i j → meaningI b ≡ itemOf k s i j → a ≡ b
-  item-unique k j a b = one meaningI ItemTold.Item ItemTold.Refused item-back
+  item-unique k j a b = one meaningI (answer ItemTold.Item ItemTold.Refused) item-back
 
   pub clock-unique : (j : ℕ) (a b : ClockTold) → meaningT a ≡ clockOf s i j → meaningT b ≡ clockOf s i j → a ≡ b
-  clock-unique j a b = one meaningT ClockTold.At ClockTold.Refused clock-back
+  clock-unique j a b = one meaningT (answer ClockTold.At ClockTold.Refused) clock-back
 
   pub count-unique : (j k : ℕ) (a b : CountTold) → meaningC a ≡ countOf s i j k → meaningC b ≡ countOf s i j k → a ≡ b
-  count-unique j k a b = one meaningC CountTold.Samples CountTold.Refused count-back
+  count-unique j k a b = one meaningC (answer CountTold.Samples CountTold.Refused) count-back
 
   pub sample-unique : (j k n : ℕ) (a b : SampleTold) → meaningS a ≡ sampleOf s i j k n → meaningS b ≡ sampleOf s i j k n → a ≡ b
-  sample-unique j k n a b = one meaningS SampleTold.Value SampleTold.Refused sample-back
+  sample-unique j k n a b = one meaningS (answer SampleTold.Value SampleTold.Refused) sample-back
 
 -- its bytes, and where it lies in memory
 pub view-unique : (file : RefT (List ℕ)) (i j k : ℕ) (r u : RefT (List ℕ)) → Shows file (viewOf (file .now) i j k) r → Shows file (viewOf (file .now) i j k) u → (r .now ≡ u .now) × (r .ptr ≡ u .ptr)

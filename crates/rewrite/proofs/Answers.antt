@@ -37,7 +37,7 @@ use Rattle.rewrite.specs.Rewrite.{barrier, answerOf, rewrittenIn, Rewrit
 
 -- a file that is refused
 pub rewrites-refused : (s : List ℕ) (order : ℕ) (out : List ℕ) {n p : ℕ} → R.judge s ≡ refused n p → Rewrites s order out out (Written.Refused (record { 0 = n; 1 = p }))
-rewrites-refused s order out h = rw h (refl, refl)
+rewrites-refused s order out h = record { answer = rw h; buffer = rw h }
 
 -- a file that is accepted
 module _ (s : List ℕ) (b : Bytes s) (h : FileHeader) (x : AcceptedAs s h) where
@@ -59,7 +59,7 @@ module _ (s : List ℕ) (b : Bytes s) (h : FileHeader) (x : AcceptedAs s h) wher
 
   -- the letter names no order
   pub rewrites-unnamed : (order : ℕ) (out : List ℕ) → lettered order ≡ Lettered.Nothing → Rewrites s order out out (Written.Refused (record { 0 = 19; 1 = 0 }))
-  rewrites-unnamed order out e = rw (x .judged, e) (refl, refl)
+  rewrites-unnamed order out e = record { answer = rw (x .judged, e); buffer = rw (x .judged, e) }
 
   -- the canonical file: its header and its recordings
   anew : (to : Order) → fileAnew to (h .heading) (h .count) (x .file .recordings) ≡ C.rewritten to s

@@ -23,7 +23,7 @@ use Rattle.makers.specs.Makers.{firstMaker}
 use Rattle.permit.specs.declared.Written.{Written}
 use Rattle.permit.specs.declared.Written.the-variants as Written
 use Rattle.permit.proofs.Settled.{writes-unique, writes-bytes}
-use Rattle.turn.proofs.Answers.{Turns}
+use Rattle.turn.specs.Turn.{Turns}
 use Rattle.turn.proofs.Demands.{turn-answers}
 use Rattle.rewrite.specs.Rewrite.{barrier, answerOf, rewrittenIn, Rewrites}
 

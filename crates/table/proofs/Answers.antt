@@ -10,13 +10,14 @@ use lib.IntN.{ℤ}
 use lib.ListN.{length}
 use Rattle.walk.specs.Walk as W
 use Rattle.walk.specs.Walk.{Row, refused}
+use Rattle.walk.proofs.Unique.{one}
 use Rattle.rules.specs.Rules as R
 use Rattle.rules.specs.declared.FileHeader.{FileHeader}
 use Rattle.judge.specs.Judged.{AcceptedAs}
 use Rattle.judge.proofs.Accepted.{went, listed}
 use Rattle.children.specs.Recordings.{OfFile}
 use Rattle.rows.specs.Rows.{written, Wrote}
-use Rattle.table.specs.Table.{rows, refusal, meaning, answerOf, afterwards, counted, kept, Lists}
+use Rattle.table.specs.Table.{Answer, rows, refusal, meaning, answerOf, afterwards, counted, kept, Lists}
 use Rattle.table.specs.declared.Listed.{Listed}
 use Rattle.table.specs.declared.Listed.the-variants as Listed
 
@@ -71,19 +72,15 @@ module _ (s : List ℕ) (h : FileHeader) (x : AcceptedAs s h) where
           buffer = rw (x .judged, b, leaves) (kept-room (W.rows 0 (x .events)) out (omega (arith, needs)));
         }
 
--- rows are no refusal
-apart : {X : Type 0} {n m p : ℕ} → rows n ≡ refusal m p → X
-apart h = absurd (let z : _≡_ {A = ℕ} 0 1 = cc in omega arith)
+-- an answer of the code, from what it means
+abbrev again : Answer → Listed
+again (rows n) = Listed.Rows n
+again (refusal n p) = Listed.Refused (record { 0 = n; 1 = p })
+
+back : (a : Listed) → again (meaning a) ≡ a
+back (Listed.Rows n) = refl
+back (Listed.Refused r) = refl
 
 -- one answer and one buffer for every file and every buffer
-meaning-one : (a b : Listed) → meaning a ≡ meaning b → a ≡ b
-meaning-one (Listed.Rows n) (Listed.Rows m) h = let i : n ≡ m = cc in rw i
-meaning-one (Listed.Rows n) (Listed.Refused r) h = apart h
-meaning-one (Listed.Refused r) (Listed.Rows m) h = apart (sym h)
-meaning-one (Listed.Refused r) (Listed.Refused u) h =
-    let i : r .0 ≡ u .0 = cc in
-    let j : r .1 ≡ u .1 = cc in
-    ap Listed.Refused (λ n. record { 0 = i n; 1 = j n })
-
 pub table-unique : (s : List ℕ) (out out₁ out₂ : List ℤ) (a b : Listed) → Lists s out out₁ a → Lists s out out₂ b → (a ≡ b) × (out₁ ≡ out₂)
-table-unique s out out₁ out₂ a b x y = (meaning-one a b (x .answer ∙ sym (y .answer)), x .buffer ∙ sym (y .buffer))
+table-unique s out out₁ out₂ a b x y = (one meaning again back (x .answer) (y .answer), x .buffer ∙ sym (y .buffer))

@@ -1,6 +1,6 @@
 -- The answer of `turn` is the one that the rules fix for the file and the buffer, by what the calls in it say.
 -- Assumes nothing.
-use mathlib.Core.Path.{_≡_, refl, sym, ap, _∙_}
+use mathlib.Core.Path.{_≡_, sym, ap, _∙_}
 use mathlib.Core.List.{List, _++_}
 use mathlib.Core.Option.{Option, none}
 use Prim.Native.Nat.{ℕ, _-_}
@@ -23,19 +23,15 @@ use Rattle.judge.specs.Judged.{AcceptedAs}
 use Rattle.judge.proofs.Accepted.{behindHeader, headed, walked, opens, listed}
 use Rattle.bodies.specs.Copy.{copy}
 use Rattle.makers.specs.Makers.{firstMaker}
-use Rattle.permit.specs.Permit.{Answer, bytes, refusal, meaning, permitted, Writes}
+use Rattle.permit.specs.Permit.{Answer, bytes, refusal, meaning, permitted}
 use Rattle.permit.specs.declared.Written.{Written}
 use Rattle.permit.specs.declared.Written.the-variants as Written
 use Rattle.permit.proofs.Settled.{stopped, wrote}
-use Rattle.turn.specs.Turn.{turning, answerOf}
-
--- what the contract of `turn` says
-abbrev pub Turns : List ℕ → List ℕ → List ℕ → Written → Type 0
-Turns s out out′ a = Writes (answerOf s (length out)) (T.turned s) out out′ a
+use Rattle.turn.specs.Turn.{turning, answerOf, Turns}
 
 -- a file that is refused
 pub turns-refused : (s out : List ℕ) {n p : ℕ} → R.judge s ≡ refused n p → Turns s out out (Written.Refused (record { 0 = n; 1 = p }))
-turns-refused s out h = rw h (refl, refl)
+turns-refused s out h = record { answer = rw h; buffer = rw h }
 
 -- a file that is accepted
 module _ (s : List ℕ) (h : FileHeader) (x : AcceptedAs s h) where

@@ -17,8 +17,7 @@ use Rattle.permit.specs.Permit.{bytes, Writes}
 use Rattle.permit.specs.declared.Written.{Written}
 use Rattle.permit.specs.declared.Written.the-variants as Written
 use Rattle.permit.proofs.Settled.{writes-unique, writes-bytes}
-use Rattle.turn.specs.Turn.{answerOf}
-use Rattle.turn.proofs.Answers.{Turns}
+use Rattle.turn.specs.Turn.{answerOf, Turns}
 
 pub turn-unique : (s out out₁ out₂ : List ℕ) (a b : Written) → Turns s out out₁ a → Turns s out out₂ b → (a ≡ b) × (out₁ ≡ out₂)
 turn-unique s out out₁ out₂ a b x y = writes-unique (answerOf s (length out)) (turned s) out out₁ out₂ a b x y

@@ -20,7 +20,8 @@ use Rattle.bodies.specs.Copy.{copy, Holds}
 use Rattle.bodies.specs.declared.Way.{Way}
 use Rattle.transcripts.specs.Transcript.{Copied}
 use Rattle.makers.specs.Makers.{firstMaker}
-use Rattle.permit.specs.Permit.{Answer, refusal, permitted, settled}
+use Rattle.permit.specs.Permit.{Answer, refusal, permitted, settled, Writes}
+use Rattle.permit.specs.declared.Written.{Written}
 
 -- from an order to the other, and every byte that is not judged as it stands
 abbrev pub turning : Order → Way
@@ -37,6 +38,10 @@ answerOf s room = answered (R.judge s) (length s) room
 -- the buffer afterwards: the turned file in its first bytes where the answer is a length, else as it was
 abbrev pub afterwards : List ℕ → List ℕ → List ℕ
 afterwards s out = settled (answerOf s (length out)) (T.turned s) out
+
+-- what `turn` answers, and what the buffer then holds
+abbrev pub Turns : List ℕ → List ℕ → List ℕ → Written → Type 0
+Turns s out out′ a = Writes (answerOf s (length out)) (T.turned s) out out′ a
 
 -- the records 125 from which a recording's channels are read, of which the code knows where they stand and how many there are
 pub record Subs (o : Order) (file : List ℕ) (cs : Channels) (ch : List R.Channel) : Type 0 where

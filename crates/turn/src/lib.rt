@@ -2,17 +2,13 @@
 pub mod frames;
 pub mod recordings;
 
-ghost use mathlib.Core.Path.{_≡_};
-ghost use lib.ListN.{length};
-ghost use Rattle.permit.specs.Permit.{meaning};
-ghost use Rattle.turn.specs.Turn.{answerOf, afterwards};
+ghost use Rattle.turn.specs.Turn.{Turns};
 use judge::Judged;
 use permit::Written;
 
 // Judges the file, then writes it in the other byte order into `out`.
 pub fn turn(file: &[u8], out: &mut [u8]) -> Written
-    ensures { λ a. ⌜ (meaning a ≡ answerOf (now (file .entry)) (length (now (out .entry)))) ×
-        (now (out .exit) ≡ afterwards (now (file .entry)) (now (out .entry))) ⌝ }
+    ensures { λ a. ⌜ Turns (now (file .entry)) (now (out .entry)) (now (out .exit)) a ⌝ }
 {
     let judged = judge::judge(file);
     let Judged::Accepted(h) = judged else {

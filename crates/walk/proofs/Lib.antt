@@ -5,3 +5,4 @@ pub mod Went
 pub mod Told
 pub mod Tracing
 pub mod Reach
+pub mod Unique
