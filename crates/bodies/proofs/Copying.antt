@@ -1,15 +1,17 @@
 -- What is written of a walk's events: of one walk after the other, of a part as of the whole, how many bytes; and bytes pasted behind others.
 -- Assumes nothing.
 use mathlib.Core.Path.{_≡_, sym, ap, _∙_}
+use mathlib.Core.Bool.{Bool}
 use mathlib.Core.List.{List, [], _++_}
-use Prim.Native.Nat.{ℕ, _+_, _-_, _≤_}
+use Prim.Native.Nat.{ℕ, _+_, _-_, _≤_, _<_}
 use native.Mathlib.Omega.{arith}
 use lib.ListN.{length, take, drop, length-append}
-use Rattle.words.proofs.Runs.{pasted-pasted, length-pasted, pasted-nothing}
+use Rattle.words.proofs.Runs.{pasted-pasted, length-pasted, pasted-nothing, part-pasted}
 use Rattle.walk.specs.See.{goes, see, Stays}
 use Rattle.walk.specs.Trace.{trace, written}
 use Rattle.walk.specs.Walk.{Walk, give, _>>=_, _>>_}
-use Rattle.walk.proofs.Tracing.{trace-bind, trace-give, trace-part, trace-body, size-trace, written-append, length-written}
+use Rattle.walk.proofs.Tracing.{trace-bind, trace-give, trace-part, trace-body, size-trace, written-append, written-row, length-written}
+use Rattle.rules.specs.Rules.{Head, admit, span}
 use Rattle.bodies.specs.Copy.{copy, Pastes, Holds}
 use Rattle.bodies.specs.declared.Way.{Way}
 
@@ -24,6 +26,11 @@ module _ {A B : Type 0} (w : Way) (b : ℕ) (s : List ℕ) (at : ℕ) where
 
   pub copy-give : (v : Walk A) (f : A → B) → copy w b s at (v >>= λ a. give (f a)) ≡ copy w b s at v
   copy-give v f = ap (written (w .keep) (w .to)) (trace-give (w .from) b s at v f)
+
+-- a head that is admitted is written already
+pub copy-admit : {A : Type 0} (w : Way) (b : ℕ) (s : List ℕ) (at room most : ℕ) (fits serial : ℕ → Bool) (h : Head) (v : Walk A) → copy w b s at (admit room most fits serial h >> v) ≡ copy w b s at v
+unfolding admit trace _>>=_ _>>_
+copy-admit w b s at room most fits serial h v = written-row (w .keep) (w .to) 16 (span h) (h .code) (h .serial) (trace (w .from) b s at v)
 
 module _ {A : Type 0} (w : Way) where
   -- a walk that went on and stays in a part is written the same there as in the whole
@@ -63,3 +70,11 @@ module _ (out out₁ out₂ : List ℕ) (k k₁ k₂ : ℕ) (xs ys : List ℕ) w
 
 pub pastes-nothing : (out : List ℕ) (k : ℕ) → Pastes out out k k []
 pastes-nothing out k h = (omega arith, sym (pasted-nothing out k))
+
+-- a part of the buffer that a call wrote whole
+pub pastes-whole : (out ys xs : List ℕ) (k e : ℕ) → ys ≡ xs → e ≡ k + length xs → Pastes out (take k out ++ (ys ++ drop (e - k) (drop k out))) k e xs
+pastes-whole out ys xs k e same ends h = (ends, rw same (part-pasted out xs k (e - k) (omega arith)))
+
+-- bytes that have no room
+pub pastes-full : (out out′ : List ℕ) (k k′ : ℕ) (xs : List ℕ) → length out - k < length xs → Pastes out out′ k k′ xs
+pastes-full out out′ k k′ xs full h = absurd (omega (arith, full, h))

@@ -2,13 +2,13 @@
 -- Assumes nothing.
 use mathlib.Core.Path.{_≡_, refl, sym, ap, _∙_}
 use mathlib.Core.Bool.{Bool, true, false, not}
-use mathlib.Core.List.{List, [], _∷_, _++_, reverse, append-assoc, append-nil}
+use mathlib.Core.List.{List, [], _∷_, _++_, reverse, append-nil}
 use Prim.Native.Nat.{ℕ, zero, suc, _+_, _-_, _*_, _≤_, _<_}
 use native.Mathlib.Nat.{sub-zero, zero-mul, suc-mul, add-assoc, add-comm, sub-self}
 use native.Mathlib.Numerals.{add-one}
 use native.Mathlib.Omega.{arith}
-use lib.ListN.{length, take, drop, replicate, length-append, length-drop}
-use lib.Seq.{drop-drop, take-add, take-at, take-all, length-take-le}
+use lib.ListN.{length, take, drop, replicate, length-drop}
+use lib.Seq.{drop-drop, take-add, take-all, length-take-le}
 use Rattle.words.specs.Numbers.{other, Bytes, bytesIn, wordIn, bytesAt, numberAt}
 use Rattle.words.specs.Runs.{turned}
 use Rattle.words.specs.declared.Order.{Order}
@@ -277,16 +277,9 @@ copy-basicBody : (w : Way) (b : ℕ) (s : List ℕ) (at : ℕ) → copy w b s at
 unfolding R.numberList R.basicBody trace render cleared _>>=_ _>>_
 copy-basicBody w b s at = same-written (w .keep) (w .to) (trace (w .from) b s at R.basicBody) (trace (w .from) b s at basicBodyPieces) refl refl
 
--- a 100 and a 125 with their heads
-abbrev basicPieces : Walk (Unit {0})
-basicPieces = R.numberList 4 7 >> (reserve 4 >> (R.numberList 4 6 >> (text 20 >> (R.numberList 4 1 >> (reserve 16 >> (text 32 >> give tt))))))
-
+-- a 125 with its head
 abbrev channelPieces : Walk (Unit {0})
 channelPieces = R.numberList 4 17 >> (reserve 4 >> ((text 16 >> text 16) >> (reserve 92 >> (text 60 >> give tt))))
-
-copy-basic : (w : Way) (b : ℕ) (s : List ℕ) (at room : ℕ) → copy w b s at (R.basic room) ≡ copy w b s at basicPieces
-unfolding R.numberList R.fixed R.head R.admit R.basicBody trace render cleared _>>=_ _>>_
-copy-basic w b s at room = same-written (w .keep) (w .to) (trace (w .from) b s at (R.basic room)) (trace (w .from) b s at basicPieces) refl refl
 
 copy-channel : (w : Way) (b : ℕ) (s : List ℕ) (at room i : ℕ) → copy w b s at (R.channel room i) ≡ copy w b s at channelPieces
 unfolding R.numberList R.fixed R.head R.admit R.channelBody trace render cleared _>>=_ _>>_
@@ -325,19 +318,6 @@ module _ (w : Way) (s : List ℕ) where
 
   abbrev pub Reserved : List ℕ → ℕ → ℕ → Type 0
   Reserved ys n m = (c : ℕ) → ys ≡ copy w c (take m (drop n s)) c (reserve (length (take m (drop n s))))
-
-  pub basic-written : (d y₁ y₂ y₃ y₄ y₅ y₆ y₇ : List ℕ) → length s ≡ 128 → length d ≡ length s →
-      Numbers y₁ 0 7 → Reserved y₂ 28 4 → Numbers y₃ 32 6 → y₄ ≡ take 20 (drop 56 s) → Numbers y₅ 76 1 → Reserved y₆ 80 16 → y₇ ≡ take (length s - 96) (drop 96 s) →
-      let d₆ = put 80 16 (put 76 4 (put 56 20 (put 32 24 (put 28 4 (put 0 28 d y₁) y₂) y₃) y₄) y₅) y₆ in
-      (b room : ℕ) → put 96 (length d₆ - 96) d₆ y₇ ≡ copy w b s b (R.basic room)
-  basic-written d y₁ y₂ y₃ y₄ y₅ y₆ y₇ l k h₁ h₂ h₃ h₄ h₅ h₆ h₇ b room =
-      left-end w b s _ (R.basic room) 96 y₇ 32 tt l h₇
-      (left-reserve w b s _ (R.basic room) _ 80 y₆ 16 (omega arith) h₆
-      (left-numbers w b s _ (R.basic room) _ 76 y₅ 4 1 (omega arith) h₅
-      (left-text w b s _ (R.basic room) _ 56 y₄ 20 (omega arith) h₄
-      (left-numbers w b s _ (R.basic room) _ 32 y₃ 4 6 (omega arith) h₃
-      (left-reserve w b s _ (R.basic room) _ 28 y₂ 4 (omega arith) h₂
-      (left-numbers w b s d (R.basic room) _ 0 y₁ 4 7 (omega arith) h₁ (left-whole w b s d (R.basic room) basicPieces k (copy-basic w b s b room))))))))
 
   pub basicBody-written : (d y₁ y₂ y₃ y₄ y₅ y₆ y₇ : List ℕ) → length s ≡ 112 → length d ≡ length s →
       Numbers y₁ 0 3 → Reserved y₂ 12 4 → Numbers y₃ 16 6 → y₄ ≡ take 20 (drop 40 s) → Numbers y₅ 60 1 → Reserved y₆ 64 16 → y₇ ≡ take (length s - 80) (drop 80 s) →

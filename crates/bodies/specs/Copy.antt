@@ -2,22 +2,17 @@
 -- Assumes nothing.
 use mathlib.Core.Path.{_≡_}
 use mathlib.Core.Bool.{Bool, true, false, _&&_}
-use mathlib.Core.List.{List, _++_}
-use mathlib.Core.Option.{Option}
-use Prim.Native.Nat.{ℕ, zero, suc, _+_, _-_, _≤_, _<_}
+use mathlib.Core.List.{List}
+use Prim.Native.Nat.{ℕ, zero, suc, _+_, _≤_}
 use lib.Dec.{eqb}
 use lib.ListN.{length}
 use Rattle.words.specs.Numbers.{numberAt}
 use Rattle.words.specs.Runs.{pasted}
 use Rattle.words.specs.declared.Order.{Order}
 use Rattle.words.specs.declared.Order.the-variants.{Little, Big}
-use Rattle.walk.specs.See.{goes, see}
 use Rattle.walk.specs.Trace.{trace, written}
 use Rattle.walk.specs.Walk.{Walk, _>>_, reserve, pick}
 use Rattle.rules.specs.Rules as R
-use Rattle.rules.specs.declared.Head.{Head}
-use Rattle.records.specs.Says.{headOf}
-use Rattle.rows.specs.Rows.{Marks}
 use Rattle.bodies.specs.declared.Way.{Way}
 use Rattle.bodies.specs.declared.Widths.{Widths}
 use Rattle.bodies.specs.declared.Widths.the-variants as Widths
@@ -54,15 +49,3 @@ allWide o file q (suc n) v = eqb (R.width (numberAt o 4 file (q + 28))) v && all
 unfoldable pub widthsIn : Order → List ℕ → ℕ → ℕ → Widths
 widthsIn o file q zero = Widths.Several
 widthsIn o file q (suc n) = pick (allWide o file q (suc n) (R.width (numberAt o 4 file (q + 28)))) (Widths.One (R.width (numberAt o 4 file (q + 28)))) Widths.Several
-
--- a part of a recording with the head h, and the makers' records behind it: where the walk accepts them, they are written, and it comes to the head h′
-abbrev pub PartCopied : {A : Type 0} → Way → ℕ → List ℕ → Head → ℕ → (ℕ → R.Head → Walk A) → List ℕ → List ℕ → ℕ → ℕ → Head → Type 0
-PartCopied {A} w b s h code body out out′ k k′ h′ =
-    (held : Option A) (n : R.Next) (fuel : ℕ) (x : R.Part A) (e : ℕ) → Marks (w .from) b s h n (b + (h .at + 16)) → length s < fuel → see (w .from) b s (b + (h .at + 16)) (R.part fuel code body held n) ≡ goes x e →
-    Marks (w .from) b s h′ (x .next) e × Pastes out out′ k k′ (copy w b s (b + (h .at + 16)) (R.part fuel code body held n))
-
--- the same of the rest of a record whose code is known
-abbrev pub RecordCopied : {A : Type 0} → Way → ℕ → List ℕ → Head → (ℕ → R.Head → Walk A) → List ℕ → List ℕ → ℕ → ℕ → Head → Type 0
-RecordCopied {A} w b s h body out out′ k k′ h′ =
-    (fuel : ℕ) (a : A) (e₁ : ℕ) (d : R.Next) (e₂ : ℕ) → length s < fuel → see (w .from) b s (b + (h .at + 16)) (body (length s - h .at) (headOf h)) ≡ goes a e₁ → see (w .from) b s e₁ (R.next fuel (length s - h .at - R.span (headOf h))) ≡ goes d e₂ →
-    Marks (w .from) b s h′ d e₂ × Pastes out out′ k k′ (copy w b s (b + (h .at + 16)) (body (length s - h .at) (headOf h)) ++ copy w b s e₁ (R.next fuel (length s - h .at - R.span (headOf h))))

@@ -83,43 +83,6 @@ pub fn basic_body(w: Way, s: &[u8], d: &mut [u8])
     copy_run(&s[Basic::BODY_COMMENT..], &mut d[Basic::BODY_COMMENT..]);
 }
 
-// A record 100.
-pub fn basic(w: Way, s: &[u8], d: &mut [u8])
-    requires { ⌜ (length (now s) ≡ 128) × (length (now d) ≡ 128) ⌝ }
-    ensures { λ _. ⌜ ((b room : ℕ) → now (d .exit) ≡ copy w b (now (s .entry)) b (R.basic room)) ⌝ }
-{
-    numbers(w, 4, 7, &s[..Basic::RESERVE], &mut d[..Basic::RESERVE]);
-    reserved(
-        w,
-        &s[Basic::RESERVE..Basic::YEAR],
-        &mut d[Basic::RESERVE..Basic::YEAR],
-    );
-    numbers(
-        w,
-        4,
-        6,
-        &s[Basic::YEAR..Basic::TIME],
-        &mut d[Basic::YEAR..Basic::TIME],
-    );
-    copy_run(
-        &s[Basic::TIME..Basic::MAINS],
-        &mut d[Basic::TIME..Basic::MAINS],
-    );
-    numbers(
-        w,
-        4,
-        1,
-        &s[Basic::MAINS..Basic::SPARE],
-        &mut d[Basic::MAINS..Basic::SPARE],
-    );
-    reserved(
-        w,
-        &s[Basic::SPARE..Basic::COMMENT],
-        &mut d[Basic::SPARE..Basic::COMMENT],
-    );
-    copy_run(&s[Basic::COMMENT..], &mut d[Basic::COMMENT..]);
-}
-
 // A record 125.
 fn channel(w: Way, s: &[u8], d: &mut [u8])
     requires { ⌜ (length (now s) ≡ 256) × (length (now d) ≡ 256) ⌝ }

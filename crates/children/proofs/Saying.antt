@@ -9,7 +9,7 @@ use Rattle.walk.specs.Walk.{Walk, give, _>>=_, _>>_, require}
 use Rattle.walk.specs.See.{goes, see}
 use Rattle.walk.specs.Tell.{tell}
 use Rattle.walk.specs.Trace.{trace}
-use Rattle.walk.proofs.Went.{gate-went}
+use Rattle.walk.proofs.Went.{gate-went, went-first}
 use Rattle.walk.proofs.Told.{tell-bind, tell-give}
 use Rattle.walk.proofs.Tracing.{trace-bind, trace-give}
 use Rattle.children.specs.Children.{Said, said, _then_}
@@ -37,6 +37,11 @@ module _ {A B : Type 0} (o : Order) (b : ℕ) (s : List ℕ) (at : ℕ) where
   pub said-then : (w : Walk A) (v : Walk B) {a : A} {e : ℕ} → see o b s at w ≡ goes a e → said o b s at (w >> v) ≡ said o b s at w then said o b s e v
   unfolding _>>_
   said-then w v h = said-bind w (λ _. v) h
+
+  -- the same of a walk that went on, with what is found bound by a λ
+  pub by-said : {X : Type 0} (w : Walk A) (k : A → Walk B) {x : B} {e : ℕ} → see o b s at (w >>= k) ≡ goes x e →
+      ((a : A) (m : ℕ) → see o b s at w ≡ goes a m → see o b s m (k a) ≡ goes x e → said o b s at (w >>= k) ≡ said o b s at w then said o b s m (k a) → X) → X
+  by-said w k h f = let y = went-first o b s at w k h in f (y .value) (y .end) (y .is) (y .kept) (said-bind w k (y .is))
 
   pub said-give : (w : Walk A) (f : A → B) → said o b s at (w >>= λ a. give (f a)) ≡ said o b s at w
   unfolding said

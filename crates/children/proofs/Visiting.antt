@@ -17,7 +17,7 @@ use Rattle.rules.specs.declared.Head as At
 use Rattle.rules.specs.Rules.{Head, head, admit, span, limit, basicBody, channels, channelsBody, items, itemsBody, patientCode, eventCode, frames, framesBody, makerCode, delimiter}
 use Rattle.records.specs.Says.{headOf}
 use Rattle.records.proofs.Opened.{halted}
-use Rattle.children.specs.Children.{Said, Known, Heads, Inner, is100, is120, is130, is200, is140, isMaker, Chain, more, last, Parted, Closed, RecordAt, NoRecord, Visits}
+use Rattle.children.specs.Children.{Said, _then_, Known, Heads, Inner, is100, is120, is130, is200, is140, isMaker, Links, more, last, Parted, Chain, Closed, RecordAt, NoRecord, Visits}
 use Rattle.children.specs.declared.Direct.{Direct}
 use Rattle.children.specs.declared.Direct.the-variants as Direct
 
@@ -64,19 +64,32 @@ module _ (o : Order) (b : ℕ) (s : List ℕ) where
     inner-coded (is140 q r) z = omega arith
     inner-coded (isMaker q r) z = let n : 1024 ≤ h .code = leb-true 1024 (h .code) (and-left (leb 1024 (h .code)) _ q) in omega arith
 
-  -- what the cursor's answer at byte p says of a chain from there on
-  module _ {k : Known} {p : ℕ} {l : Said} where
-    pub chain-parted : {h : At.Head} {q : ℕ} → RecordAt o b s p h q → Chain o b s k p l → Parted o b s k p (headOf h) q l
-    chain-parted {h} v (more h₁ own rest k₁ i d e) =
+  -- what the cursor's answer at byte p says of links from there on
+  module _ {X : Type 0} {join : X → X → X} {I : ℕ → Head → X → Type 0} {E : ℕ → X → Type 0} {p : ℕ} {x : X} where
+    pub links-parted : {h : At.Head} {q : ℕ} → RecordAt o b s p h q → (E p x → ⊥) → Links o b s join I E p x → Parted o b s join I E p (headOf h) q x
+    links-parted {h} v none (more h₁ own rest k₁ i d e) =
         let y : h₁ ≡ headOf h = goes-same (sym k₁ ∙ v .heads) .0 in
         record { own = own; rest = rest; inner = rw y at i; on = rw (v .ends) (rw y at d); is = e }
-    chain-parted {h} v (last h₁ k₁ d e) =
-        let y : h₁ ≡ headOf h = goes-same (sym k₁ ∙ v .heads) .0 in
-        absurd (v .kind (delimiter-coded (b + (p + 16)) (headOf h) (rw y at d)))
+    links-parted v none (last e) = absurd (none e)
+
+    pub links-ended : ((h : Head) (y : X) → Heads o b s p h → I p h y → ⊥) → Links o b s join I E p x → E p x
+    links-ended none (more h own rest k i d e) = absurd (none h own k i)
+    links-ended none (last e) = e
+
+  -- a delimiter is no record, and a record that may stand in a recording is one
+  pub closed-alone : {p : ℕ} {l : Said} {h : At.Head} {q : ℕ} → RecordAt o b s p h q → Closed o b s p l → ⊥
+  closed-alone {p} {h} v c = v .kind (ap (λ (x : Head). x .code) (goes-same (sym (v .heads) ∙ c .stands) .0) ∙ delimiter-coded (b + (p + 16)) (c .head) (c .ends))
+
+  pub inner-there : {p : ℕ} {k : Known} {h : Head} {l : Said} → NoRecord o b s p → Heads o b s p h → Inner o b s p k h l → ⊥
+  inner-there {p} {h} v k i = v .none h k (inner-coded p i) (inner-admits p i)
+
+  -- and so of a chain
+  module _ {k : Known} {p : ℕ} {l : Said} where
+    pub chain-parted : {h : At.Head} {q : ℕ} → RecordAt o b s p h q → Chain o b s k p l → Parted o b s _then_ (λ p. Inner o b s p k) (Closed o b s) p (headOf h) q l
+    chain-parted v = links-parted v (closed-alone v)
 
     pub chain-closed : NoRecord o b s p → Chain o b s k p l → Closed o b s p l
-    chain-closed v (more h own rest k₁ i d e) = absurd (v .none h k₁ (inner-coded p i) (inner-admits p i))
-    chain-closed v (last h k₁ d e) = record { head = h; stands = k₁; ends = d; is = e }
+    chain-closed v = links-ended (λ _ _. inner-there v)
 
 -- the cursor's answers at byte p, by what the code found there: no head, the delimiter's, one that is not admitted
 module _ {o : Order} {b : ℕ} {s : List ℕ} {p : ℕ} where

@@ -49,23 +49,19 @@ pub record Known : Type 0 where
 abbrev pub knownOf : Placed → Known
 knownOf x = record { basic = x .recording .basic; own = x .recording .ownChannels; channels = x .recording .channels; back = x .layout .at140 - 20 }
 
--- in the part s at b a head stands at byte p; the walk, begun behind it, accepts and says l
+-- in the part s at b a head stands at byte p; the walk, begun behind it, accepts, and the two say l
 module _ (o : Order) (b : ℕ) (s : List ℕ) (p : ℕ) where
-  pub record Reads {A : Type 0} (w : Walk A) (l : Said) : Type 0 where
-    pub value : A
-    pub end : ℕ
-    pub is : see o b s (b + (p + 16)) w ≡ goes value end
-    pub says : l ≡ said o b s (b + (p + 16)) w
-
   abbrev pub Heads : Head → Type 0
   Heads h = see o b s (b + p) (head (length s - p)) ≡ goes h (b + (p + 16))
 
   abbrev pub heading : Said
   heading = said o b s (b + p) (head (length s - p))
 
-  -- what a delimiter's head, and the padding behind it, say
-  abbrev pub closing : Head → Said
-  closing h = said o b s (b + (p + 16)) (delimiter h) then said o b s (b + (p + 16)) (padding (length s - p - 16))
+  pub record Reads {A : Type 0} (w : Walk A) (l : Said) : Type 0 where
+    pub value : A
+    pub end : ℕ
+    pub is : see o b s (b + (p + 16)) w ≡ goes value end
+    pub says : l ≡ heading then said o b s (b + (p + 16)) w
 
   -- a record that may stand in a recording, by its code
   pub data Inner (k : Known) (h : Head) (l : Said) : Type 0 where
@@ -76,26 +72,33 @@ module _ (o : Order) (b : ℕ) (s : List ℕ) (p : ℕ) where
     is140 : h .code ≡ 140 → Reads (frames (k .basic) (k .own) (k .channels) (k .back) (length s - p) h) l → Inner k h l
     isMaker : makerCode (h .code) ≡ true → Reads (makerRest (length s - p) h) l → Inner k h l
 
--- from byte p on: records, each with its head, its rest and what follows it, and then the delimiter with what pads the recording; l is all that is said
-pub data Chain (o : Order) (b : ℕ) (s : List ℕ) (k : Known) : ℕ → Said → Type 0 where
-  more : {p : ℕ} {l : Said} (h : Head) (own rest : Said) → Heads o b s p h → Inner o b s p k h own → Chain o b s k (p + span h) rest →
-      l ≡ heading o b s p then (own then rest) → Chain o b s k p l
-  last : {p : ℕ} {l : Said} (h : Head) → Heads o b s p h → see o b s (b + (p + 16)) (delimiter h) ≡ goes tt (b + (p + 16)) →
-      l ≡ heading o b s p then closing o b s p h → Chain o b s k p l
+  -- what a delimiter's head, and the padding behind it, say
+  abbrev pub closing : Head → Said
+  closing h = said o b s (b + (p + 16)) (delimiter h) then said o b s (b + (p + 16)) (padding (length s - p - 16))
 
--- what a chain comes to at byte p: a record with the head h that ends at q, or the delimiter
-pub record Parted (o : Order) (b : ℕ) (s : List ℕ) (k : Known) (p : ℕ) (h : Head) (q : ℕ) (l : Said) : Type 0 where
-  pub own : Said
-  pub rest : Said
-  pub inner : Inner o b s p k h own
-  pub on : Chain o b s k q rest
-  pub is : l ≡ heading o b s p then (own then rest)
+  -- the delimiter, with what pads the recording
+  pub record Closed (l : Said) : Type 0 where
+    pub head : Head
+    pub stands : Heads head
+    pub ends : see o b s (b + (p + 16)) (delimiter head) ≡ goes tt (b + (p + 16))
+    pub is : l ≡ heading then closing head
 
-pub record Closed (o : Order) (b : ℕ) (s : List ℕ) (p : ℕ) (l : Said) : Type 0 where
-  pub head : Head
-  pub stands : Heads o b s p head
-  pub ends : see o b s (b + (p + 16)) (delimiter head) ≡ goes tt (b + (p + 16))
-  pub is : l ≡ heading o b s p then closing o b s p head
+-- records one after the other from byte p on, each an I by its head and what it comes to, up to where E holds of what is left; x is all that they come to together
+pub data Links (o : Order) (b : ℕ) (s : List ℕ) {X : Type 0} (join : X → X → X) (I : ℕ → Head → X → Type 0) (E : ℕ → X → Type 0) : ℕ → X → Type 0 where
+  more : {p : ℕ} {x : X} (h : Head) (own rest : X) → Heads o b s p h → I p h own → Links o b s join I E (p + span h) rest → x ≡ join own rest → Links o b s join I E p x
+  last : {p : ℕ} {x : X} → E p x → Links o b s join I E p x
+
+-- the first of them: its head is h, and it ends at byte q
+pub record Parted (o : Order) (b : ℕ) (s : List ℕ) {X : Type 0} (join : X → X → X) (I : ℕ → Head → X → Type 0) (E : ℕ → X → Type 0) (p : ℕ) (h : Head) (q : ℕ) (x : X) : Type 0 where
+  pub own : X
+  pub rest : X
+  pub inner : I p h own
+  pub on : Links o b s join I E q rest
+  pub is : x ≡ join own rest
+
+-- the records of a recording's body from byte p on, up to its delimiter, and all that they say
+abbrev pub Chain : Order → ℕ → List ℕ → Known → ℕ → Said → Type 0
+Chain o b s k = Links o b s _then_ (λ p. Inner o b s p k) (Closed o b s)
 
 -- the head h is admitted, whatever its serial: what every record meets but the delimiter
 module _ (o : Order) (b : ℕ) (s : List ℕ) (p : ℕ) where

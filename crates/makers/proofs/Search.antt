@@ -11,12 +11,12 @@ use Rattle.words.specs.declared.Order.{Order}
 use Rattle.walk.specs.Walk.{pick, Row}
 use Rattle.rules.specs.declared.Head as At
 use Rattle.rules.specs.Rules.{Head, makerCode, recordingBody}
-use Rattle.children.specs.Children.{Said, said, Known, knownOf, Chain, Parted, Closed, RecordAt, NoRecord}
+use Rattle.children.specs.Children.{Said, said, _then_, Known, knownOf, Inner, Chain, Closed, RecordAt, NoRecord}
 use Rattle.children.specs.Recordings.{OfBody}
 use Rattle.children.proofs.Chained.{body-chain}
 use Rattle.children.proofs.Visiting.{chain-parted, chain-closed}
 use Rattle.rows.specs.Rows.{seriesRows, channelRows, frameRows, heldRows}
-use Rattle.rows.proofs.Body.{inner-rows, parted-rows, closed-rows}
+use Rattle.rows.proofs.Body.{inner-rows, closed-rows}
 use Rattle.makers.specs.Makers.{firstMaker}
 
 -- a place, or else another
@@ -57,11 +57,11 @@ module _ (o : Order) (b : ℕ) (s : List ℕ) (p : ℕ) where
       go false true = first-series _ 1 _ _ 145 refl
       go false false = refl
 
-  parted-first : {k : Known} {h : Head} {q : ℕ} {l : Said} → p ≤ length s → (c : Parted o b s k p h q l) → firstMaker (l .rows) ≡ else (pick (makerCode (h .code)) (some (b + p + 4)) none) (firstMaker (c .rest .rows))
-  unfolding firstMaker
-  parted-first {h} fit c =
-      let i : firstMaker (c .own .rows) ≡ pick (makerCode (h .code)) (some (b + p + 4)) none = ap firstMaker (inner-rows o b s p fit (c .inner) .rows) ∙ rw (held-first (h .code)) in
-      ap firstMaker (parted-rows o b s p fit c) ∙ rw (first-append, i)
+  parted-first : {k : Known} {h : Head} {own l : Said} (rest : Said) → p ≤ length s → Inner o b s p k h own → l ≡ own then rest → firstMaker (l .rows) ≡ else (pick (makerCode (h .code)) (some (b + p + 4)) none) (firstMaker (rest .rows))
+  unfolding firstMaker _then_
+  parted-first {h} {own} rest fit k e =
+      let i : firstMaker (own .rows) ≡ pick (makerCode (h .code)) (some (b + p + 4)) none = ap firstMaker (inner-rows o b s p fit k .rows) ∙ rw (held-first (h .code)) in
+      ap (λ (l : Said). firstMaker (l .rows)) e ∙ rw (first-append, i)
 
   closed-first : {l : Said} → p ≤ length s → Closed o b s p l → firstMaker (l .rows) ≡ none
   unfolding firstMaker makerCode
@@ -85,7 +85,7 @@ module _ {o : Order} {b : ℕ} {s : List ℕ} where
 
     module _ {h : At.Head} {q : ℕ} (fit : p ≤ length s) (v : RecordAt o b s p h q) where
       pub sought-found : makerCode (h .code) ≡ true → some (b + p + 4) ≡ m
-      sought-found i = sym (g .first ∙ parted-first o b s p fit (chain-parted o b s v (g .chain)) ∙ rw i)
+      sought-found i = let c = chain-parted o b s v (g .chain) in sym (g .first ∙ parted-first o b s p (c .rest) fit (c .inner) (c .is) ∙ rw i)
 
       pub sought-next : makerCode (h .code) ≡ false → Sought o b s q m
-      sought-next i = let c = chain-parted o b s v (g .chain) in record { left = c .rest; known = g .known; chain = c .on; first = g .first ∙ parted-first o b s p fit c ∙ rw i }
+      sought-next i = let c = chain-parted o b s v (g .chain) in record { left = c .rest; known = g .known; chain = c .on; first = g .first ∙ parted-first o b s p (c .rest) fit (c .inner) (c .is) ∙ rw i }

@@ -20,7 +20,7 @@ use Rattle.walk.proofs.Laws.{read-of, size-append, size-cleared}
 use Rattle.walk.proofs.Seen.{seen, see-bind, stays-goes, stays-bind, body-length}
 use Rattle.walk.proofs.Tracing.{size-trace}
 use Rattle.walk.proofs.Went.{gate-went, goes-same, by-onward, by-went, by-then}
-use Rattle.rules.specs.Rules.{Head, head, span, padOk, padding, Basic, basic, channels, items, patientCode, eventCode, Frame, Frames, frames, Maker, Next, next, Held, heldChannels, heldPatient, Placed, contentLimit, delimiter, recordingBody, recording, Descriptions, descriptions, signals}
+use Rattle.rules.specs.Rules.{Head, head, span, padOk, padding, basic, channels, items, patientCode, eventCode, Frame, Frames, frames, Maker, Next, next, Held, heldChannels, heldPatient, Placed, contentLimit, delimiter, recordingBody, recording, Descriptions, descriptions, signals}
 use Rattle.rules.specs.Canonical.{recordOf, framesBytes, framesHead, framesWritten, makerEvents, delimiterHead, delimiterEvents, content, most, sizeFor, multiplierFor}
 use Rattle.rules.proofs.Room.{Behind, stays-basic, stays-next, stays-part, stays-channelsRest, stays-itemsRest, stays-framesRest}
 use Rattle.rules.proofs.Renew.{FramesOk, frames-ok, frames-size, next-ok}
@@ -104,11 +104,11 @@ pub record Accepted (o : Order) (b : ℕ) (s : List ℕ) (x : Placed) : Type 0 w
   pub inside : at + 16 ≤ length s
   pub top : Head
   pub stands : see o b s (b + at) (head (length s - at)) ≡ goes top (b + (at + 16))
-  pub counts : Basic
+  pub code : top .code ≡ 140
   pub own : Bool
   pub back : ℕ
   pub value : Frames
-  pub went : see o b s (b + (at + 16)) (frames counts own (x .recording .channels) back (length s - at) top) ≡ goes value (b + (at + span top))
+  pub went : see o b s (b + (at + 16)) (frames (before .basic) own (x .recording .channels) back (length s - at) top) ≡ goes value (b + (at + span top))
   pub fuel : ℕ
   pub enough : length s < at + span top + fuel
   pub after : Next
@@ -117,7 +117,8 @@ pub record Accepted (o : Order) (b : ℕ) (s : List ℕ) (x : Placed) : Type 0 w
   pub closes : after .head ≡ delimiterHead
   pub seconds : x .recording .seconds ≡ value .seconds
   pub frames : x .recording .frames ≡ value .frames
-  pub count : length (x .recording .frames) ≡ counts .frames
+  pub count : length (x .recording .frames) ≡ before .basic .frames
+  pub framed : size (recordOf (framesHead (x .recording .seconds) (x .recording .channels) (x .recording .frames)) (framesWritten (x .recording .seconds) (x .recording .channels) (x .recording .frames))) ≡ span (framesHead (x .recording .seconds) (x .recording .channels) (x .recording .frames))
   pub makers : ℕ
   pub wide : size (makerEvents (after .makers)) ≡ makers
   pub left : makers + after .room ≡ length s - (at + span top)
@@ -165,7 +166,8 @@ module _ (o : Order) (b : ℕ) (s : List ℕ) (bytes : Bytes s) (h : Head) (fill
       let top : Head = last .head in
       let back : ℕ = span h - last .room - 20 in
       let v : ℕ → Walk Frames = λ r. frames (t .basic) (t .channels .own) (t .channels .value) back r top in
-      by-went o b s m (v (last .room)) _ (require-went o b s m (eqb (top .code) 140) 9 12 _ g .1) λ f m₁ f₀ g₁.
+      let a = require-went o b s m (eqb (top .code) 140) 9 12 _ g in
+      by-went o b s m (v (last .room)) _ (a .1) λ f m₁ f₀ g₁.
       by-went o b s m₁ (next (span h) (last .room - span top)) _ g₁ λ d m₂ d₀ g₂.
       by-then o b s m₂ (delimiter (d .head)) _ g₂ λ _ m₃ c₃ g₃.
       let l = require-went o b s m₃ (leb (span h - (d .room - 16) - f .padded) contentLimit) 14 _ _ g₃ in
@@ -190,7 +192,7 @@ module _ (o : Order) (b : ℕ) (s : List ℕ) (bytes : Bytes s) (h : Head) (fill
         inside = omega (arith, q .0);
         top = top;
         stands = moved o b s head (m - 16) (b + at) (last .room) (length s - at) m (b + (at + 16)) (omega (arith, k .long)) (omega arith) (omega (arith, k .long)) (k .stands .head);
-        counts = t .basic;
+        code = eqb-true (top .code) 140 (a .0);
         own = t .channels .own;
         back = back;
         value = f;
@@ -204,6 +206,7 @@ module _ (o : Order) (b : ℕ) (s : List ℕ) (bytes : Bytes s) (h : Head) (fill
         seconds = refl;
         frames = refl;
         count = f₂ .0 .count;
+        framed = frames-size (t .basic) (t .channels .own) (t .channels .value) (f .seconds) (f .frames) (f₂ .0);
         makers = size (makerEvents (d .makers));
         wide = refl;
         left = omega (arith, d₂ .left);

@@ -142,12 +142,12 @@ module _ {o : Order} {base : ℕ} {s : List ℕ} {x : R.Placed} (v : Accepted o 
     same-head : v .top ≡ headOf h
     same-head = goes-same (sym stands ∙ found) .0
 
-    went : see o base s (base + (h .at + 16)) (R.frames (v .counts) (v .own) (x .recording .channels) (v .back) (length s - h .at) (headOf h)) ≡ goes (v .value) (base + (h .at + R.span (headOf h)))
+    went : see o base s (base + (h .at + 16)) (R.frames (v .before .basic) (v .own) (x .recording .channels) (v .back) (length s - h .at) (headOf h)) ≡ goes (v .value) (base + (h .at + R.span (headOf h)))
     went = let e : v .at ≡ h .at = omega (arith, v .place) in rw (e, same-head) at (v .went)
 
     -- it is admitted
     pub measure-refused : {n p : ℕ} → see o base s (base + (h .at + 16)) (R.admit (length s - h .at) 128 (leb 32) (eqb 0) (headOf h)) ≡ stops n p → ⊥
-    measure-refused g = frames-refused o base s (v .counts) (v .own) (x .recording .channels) (v .back) (base + (h .at + 16)) (length s - h .at) (headOf h) g went
+    measure-refused g = frames-refused o base s (v .before .basic) (v .own) (x .recording .channels) (v .back) (base + (h .at + 16)) (length s - h .at) (headOf h) g went
 
     -- the 140 stops at q, and another head follows
     module _ (q : ℕ) (stop : q ≡ h .at + R.span (headOf h)) where
@@ -166,18 +166,18 @@ module _ {o : Order} {base : ℕ} {s : List ℕ} {x : R.Placed} (v : Accepted o 
         abbrev body : List ℕ
         body = take (q - (at + 16)) (drop (at + 16) s)
 
-        pub in-body : see o (base + at + 16) body (base + at + 16) (R.framesBody (v .counts) (x .recording .channels) (headOf h)) ≡ goes (v .value) (base + q)
+        pub in-body : see o (base + at + 16) body (base + at + 16) (R.framesBody (v .before .basic) (x .recording .channels) (headOf h)) ≡ goes (v .value) (base + q)
         unfolding R.frames
         in-body =
-            let w : Walk R.Frames = R.framesBody (v .counts) (x .recording .channels) (headOf h) in
-            let d = admit-went o base s (base + (h .at + 16)) (length s - h .at) 128 (leb 32) (eqb 0) (headOf h) (require (v .own || eqb (length (x .recording .channels)) (v .counts .channels)) 14 (v .back) >> w) went in
-            let t = require-went o base s (base + (h .at + 16)) (v .own || eqb (length (x .recording .channels)) (v .counts .channels)) 14 (v .back) w (d .rest) in
+            let w : Walk R.Frames = R.framesBody (v .before .basic) (x .recording .channels) (headOf h) in
+            let d = admit-went o base s (base + (h .at + 16)) (length s - h .at) 128 (leb 32) (eqb 0) (headOf h) (require (v .own || eqb (length (x .recording .channels)) (v .before .basic .channels)) 14 (v .back) >> w) went in
+            let t = require-went o base s (base + (h .at + 16)) (v .own || eqb (length (x .recording .channels)) (v .before .basic .channels)) 14 (v .back) w (d .rest) in
             let z : base + at + 16 + (R.span (headOf h) - 16) ≡ base + q = omega arith in
-            see-body o base at q s w _ (omega arith) inside (rw z at (stays-framesBody (v .counts) (x .recording .channels) (headOf h) (base + at + 16) least)) ∙ (ap (λ (y : ℕ). see o base s (base + (y + 16)) w) (sym here) ∙ (t .1 ∙ ap (λ (y : ℕ). goes (v .value) (base + y)) (sym stop)))
+            see-body o base at q s w _ (omega arith) inside (rw z at (stays-framesBody (v .before .basic) (x .recording .channels) (headOf h) (base + at + 16) least)) ∙ (ap (λ (y : ℕ). see o base s (base + (y + 16)) w) (sym here) ∙ (t .1 ∙ ap (λ (y : ℕ). goes (v .value) (base + y)) (sym stop)))
 
         module _ (t size n : ℕ) (e₁ : t ≡ numberAt o 4 body 0) (e₂ : size ≡ numberAt o 4 body 4) (e₃ : n ≡ numberAt o 4 body 8) where
-          pub measure-fields : Fields t size n (x .recording .channels) (v .counts) (v .value) (R.span (headOf h))
-          measure-fields = rw (e₁, e₂, e₃) (fields-told o (base + at + 16) body (v .counts) (x .recording .channels) (headOf h) in-body)
+          pub measure-fields : Fields t size n (x .recording .channels) (v .before .basic) (v .value) (R.span (headOf h))
+          measure-fields = rw (e₁, e₂, e₃) (fields-told o (base + at + 16) body (v .before .basic) (x .recording .channels) (headOf h) in-body)
 
           -- the code's test of these numbers passes
           pub measure-fits : (bytes : ℕ) (r : Bool) → bytes ≡ R.sampleBytes t (x .recording .channels) → r ≡ leb (24 + bytes) size && leb (16 + size * n) (length body) → r ≡ false → ⊥

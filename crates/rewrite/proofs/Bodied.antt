@@ -1,126 +1,119 @@
--- The body of a canonical recording: what the code's writes leave in a buffer of its length, from what each of them wrote.
+-- The body of a canonical recording, record by record: what is written of each, that all of it together is the canonical content, and what the code's writes then leave in a buffer.
 -- Assumes nothing.
-use mathlib.Core.Path.{_≡_, refl, sym, ap, subst, _∙_}
+use mathlib.Core.Path.{_≡_, refl, sym, ap, _∙_}
 use mathlib.Core.Bool.{false, _||_}
-use mathlib.Core.List.{List, [], _∷_, _++_, append-assoc, append-nil}
-use mathlib.Core.Option.{Option}
-use Prim.Native.Nat.{ℕ, _+_, _-_, _≤_, _<_}
+use mathlib.Core.List.{List, _++_, append-assoc, append-cancel-right}
+use Prim.Native.Nat.{ℕ, _+_, _-_, _≤_}
 use native.Mathlib.Omega.{arith}
 use borrow.Author.Tests.{leb-true}
 use lib.Dec.{leb, eqb}
-use lib.ListN.{length, take, drop, replicate, length-append, length-drop}
-use lib.Seq.{take-at, length-take-le}
-use Rattle.words.specs.Numbers.{Bytes}
-use Rattle.words.specs.Runs.{pasted}
+use lib.ListN.{length, take, drop, replicate, length-append, length-drop, replicate-append-replicate}
+use lib.Seq.{length-take-le}
+use Rattle.words.specs.Numbers.{Bytes, bytesIn}
 use Rattle.words.specs.declared.Order.{Order}
-use Rattle.words.proofs.Fronts.{put, front-more, front-all}
-use Rattle.words.proofs.Runs.{length-pasted, take-pasted}
+use Rattle.words.specs.declared.Order.the-variants.{Little, Big}
+use Rattle.words.proofs.Fronts.{put, front-all}
+use Rattle.words.proofs.Runs.{take-pasted}
 use Rattle.walk.specs.See.{goes, see}
-use Rattle.walk.specs.Walk.{Event, row, render, size, Walk, require, _>>_}
-use Rattle.walk.proofs.Laws.{length-render, size-append}
+use Rattle.walk.specs.Walk.{Event, render, size, Walk, require, _>>_}
+use Rattle.walk.proofs.Laws.{length-render}
 use Rattle.walk.proofs.Seen.{body-length}
-use Rattle.walk.proofs.Tracing.{render-append}
-use Rattle.rules.specs.Canonical.{numerals, recordOf, framesHead, framesWritten, makerEvents, delimiterHead, delimiterEvents, content, recordingHead}
-use Rattle.rules.specs.Rules.{Head, head, span, framesBody, frames, Next, next, Held, Recording, Placed, Descriptions, descriptions}
+use Rattle.walk.proofs.Tracing.{render-append, written-none}
+use Rattle.walk.proofs.Went.{goes-same}
+use Rattle.rules.specs.Canonical.{numerals, recordOf, framesHead, framesWritten, makerEvents, delimiterEvents, content, recordingHead}
+use Rattle.rules.specs.Rules.{Head, Next, head, span, framesBody, frames, next, Recording, Placed, descriptions}
 use Rattle.rules.specs.declared.Channels.{Channels}
+use Rattle.rules.specs.declared.Head as At
+use Rattle.rules.proofs.Renew.{record-size}
 use Rattle.rules.proofs.Sized.{sized}
-use Rattle.measures.specs.Standing.{ChannelsStand}
+use Rattle.records.specs.Says.{headOf}
 use Rattle.records.proofs.Opened.{admit-went}
+use Rattle.children.specs.Children.{Said, said, _then_, Known, Heads, heading, Inner, is140, Links, more, last, RecordAt, NoRecord}
+use Rattle.children.proofs.Chained.{Other, onto, Leads, next-leads, tables-leads}
+use Rattle.children.proofs.Visiting.{links-parted, links-ended, inner-there}
 use Rattle.bodies.specs.Copy.{copy, Pastes}
 use Rattle.bodies.specs.declared.Way.{Way}
+use Rattle.transcripts.specs.Transcript.{anew}
+use Rattle.transcripts.proofs.Transcribing.{anew-then, Copying, copying-none, copying-more}
+use Rattle.measures.specs.Standing.{ChannelsStand}
 use Rattle.measures.specs.Measures.{MeasureOf, MeasureIn, signalsIn, behindHead}
 use Rattle.measures.specs.declared.Measure.{Measure}
 use Rattle.measures.specs.declared.Sized.{Sized}
-use Rattle.measures.proofs.Canonic.{bare}
+use Rattle.measures.proofs.Canonic.{bare, head-bare}
 use Rattle.measures.proofs.Chained.{tablesEvents, tables-bare, next-bare}
 use Rattle.measures.proofs.Lengths.{Accepted, accepted}
 use Rattle.measures.proofs.Measures.{stands, in-body}
-use Rattle.rewrite.specs.FramesAnew.{FramesAnew}
-use Rattle.rewrite.specs.RecordingsAnew.{BodyAnew}
+use Rattle.rewrite.specs.FramesAnew.{FramesAnew, signalsEvents, BodyRead, SignalsAnew}
+use Rattle.rewrite.specs.RecordingsAnew.{ChildAnew, BodyAnew}
 use Rattle.rewrite.proofs.Framing.{render-record, padded-events}
+use Rattle.rewrite.proofs.Placed.{record-placed}
 
--- the first of the bytes that are written first
-take-written : (d₀ d₁ t h : List ℕ) (at : ℕ) → length t ≡ at → d₁ ≡ pasted d₀ 0 (t ++ h) → take at d₁ ≡ t
-unfolding pasted
-take-written d₀ d₁ t h at l e = rw (e, append-assoc) (take-at t (h ++ drop (0 + length (t ++ h)) d₀) at l)
+-- what is written of the record at byte p with the head h, in a recording r
+data Renews (w : Way) (b : ℕ) (s : List ℕ) (r : Recording) (p : ℕ) (h : Head) (xs : List ℕ) : Type 0 where
+  signals : {k : Known} {l : Said} → Inner (w .from) b s p k h l → h .code ≡ 140 → xs ≡ render (w .to) (signalsEvents r) → Renews w b s r p h xs
+  other : {k : Known} {l : Said} → Inner (w .from) b s p k h l → (h .code ≡ 140 → ⊥) → xs ≡ anew w l → Renews w b s r p h xs
 
--- a buffer d₀ that is written front to back: t with h behind it; a part in the place of h, and the part behind it; n; and zeros to the end
-module _ (d₀ d₁ t h y₁ y₂ d₄ n zs : List ℕ) (at m₁ from m₂ end k₁ k : ℕ) where
-  abbrev second : List ℕ
-  second = put at m₁ d₁ y₁
+renews-there : {w : Way} {b : ℕ} {s : List ℕ} {r : Recording} {p : ℕ} {h : Head} {xs : List ℕ} → NoRecord (w .from) b s p → Heads (w .from) b s p h → Renews w b s r p h xs → ⊥
+renews-there {w} {b} {s} v k (signals i e is) = inner-there (w .from) b s v k i
+renews-there {w} {b} {s} v k (other i n is) = inner-there (w .from) b s v k i
 
-  abbrev third : List ℕ
-  third = put from m₂ second y₂
+-- and of its delimiter
+record Closes (w : Way) (b : ℕ) (s : List ℕ) (p : ℕ) (xs : List ℕ) : Type 0 where
+  head : Head
+  stands : Heads (w .from) b s p head
+  code : head .code ≡ 0
+  is : xs ≡ replicate 16 0
 
-  abbrev last : List ℕ
-  last = put k (length d₄ - k) d₄ zs
+-- all that is written of the records from byte p on
+abbrev Renewal : Way → ℕ → List ℕ → Recording → ℕ → List ℕ → Type 0
+Renewal w b s r = Links (w .from) b s _++_ (Renews w b s r) (Closes w b s)
 
-  pub five-writes : length t ≡ at → from ≡ at + m₁ → end ≡ from + m₂ → at + length h ≤ length d₀ → end + length n ≤ length d₀ → Pastes d₀ d₁ 0 k₁ (t ++ h) → length second ≡ length d₁ → length third ≡ length second → Pastes third d₄ end k n → length last ≡ length d₄ →
-      zs ≡ replicate (length (take (length d₄ - k) (drop k d₄))) 0 → last ≡ (((t ++ y₁) ++ y₂) ++ n) ++ replicate (length d₀ - (end + length n)) 0
-  five-writes i₀ i₁ i₂ f₁ f₂ p₁ l₂ l₃ p₄ l₅ z =
-      let c : length (t ++ h) ≡ length t + length h = length-append t h in
-      let q₁ = p₁ (omega arith) in
-      let l₁ : length d₁ ≡ length d₀ = ap length (q₁ .1) ∙ length-pasted d₀ 0 (t ++ h) (omega arith) in
-      let x₂ : take from second ≡ t ++ y₁ = ap (λ (i : ℕ). take i second) i₁ ∙ front-more d₁ y₁ t at m₁ (omega arith) l₂ (take-written d₀ d₁ t h at i₀ (q₁ .1)) in
-      let x₃ : take end third ≡ (t ++ y₁) ++ y₂ = ap (λ (i : ℕ). take i third) i₂ ∙ front-more second y₂ (t ++ y₁) from m₂ (omega arith) l₃ x₂ in
-      let q₄ = p₄ (omega arith) in
-      let l₄ : length d₄ ≡ length third = ap length (q₄ .1) ∙ length-pasted third end n (omega arith) in
-      let x₄ : take k d₄ ≡ ((t ++ y₁) ++ y₂) ++ n = ap (λ (i : ℕ). take i d₄) (q₄ .0) ∙ (ap (take (end + length n)) (q₄ .1) ∙ (take-pasted third end n (omega arith) ∙ ap (λ (l : List ℕ). l ++ n) x₃)) in
-      let u : length (take (length d₄ - k) (drop k d₄)) ≡ length d₀ - (end + length n) = length-take-le (length d₄ - k) (drop k d₄) (rw length-drop (omega arith)) ∙ omega (arith, q₄ .0) in
-      front-all d₄ zs (((t ++ y₁) ++ y₂) ++ n) k (length d₄ - k) (omega (arith, q₄ .0)) l₅ x₄ ∙ ap (λ (l : List ℕ). (((t ++ y₁) ++ y₂) ++ n) ++ l) (z ∙ ap (λ (i : ℕ). replicate i 0) u)
+delimiter-bytes : (o : Order) → render o delimiterEvents ≡ replicate 16 0
+unfolding delimiterEvents render bytesIn
+delimiter-bytes Little = refl
+delimiter-bytes Big = refl
 
--- the bytes of a canonical recording, piece by piece
-module _ (o : Order) where
-  delimited : (t : List Event) → render o (t ++ delimiterEvents) ≡ render o (t ++ numerals delimiterHead)
-  unfolding delimiterEvents render
-  delimited t = rw (← append-assoc) (render-append o (t ++ numerals delimiterHead) (row 16 16 0 0 ∷ []) ∙ append-nil _)
+-- the 140 of a body that the walk accepted is whole
+whole : {o : Order} {b : ℕ} {s : List ℕ} {x : Placed} (v : Accepted o b s x) → (32 ≤ span (v .top)) × (v .at + span (v .top) ≤ length s)
+unfolding frames
+whole {o} {b} {s} {x} v =
+    let d = admit-went o b s (b + (v .at + 16)) (length s - v .at) 128 (leb 32) (eqb 0) (v .top) (require (v .own || eqb (length (x .recording .channels)) (v .before .basic .channels)) 14 (v .back) >> framesBody (v .before .basic) (x .recording .channels) (v .top)) (v .went) in
+    (leb-true 32 (span (v .top)) (d .length), omega (arith, d .inside, v .inside))
 
-  pieces : (t : List Event) (h : Head) (f ms : List Event) → render o (t ++ (recordOf h f ++ (ms ++ delimiterEvents))) ≡ ((render o t ++ render o (numerals h)) ++ render o f) ++ render o (ms ++ numerals delimiterHead)
-  pieces t h f ms = rw (render-append o t, render-append o (recordOf h f), render-record o h f, delimited ms) (simp append-assoc)
+-- a body that the walk accepted, where reserve is cleared: all that is written of it is the canonical content
+module _ (w : Way) {b : ℕ} {s : List ℕ} {x : Placed} (v : Accepted (w .from) b s x) (clear : w .keep ≡ false) where
+  abbrev known : Known
+  known = record { basic = v .before .basic; own = v .own; channels = x .recording .channels; back = v .back }
 
-  behind-head : (r : Recording) (t : List Event) (h : Head) (f ms : List Event) → content r ≡ t ++ (recordOf h f ++ (ms ++ delimiterEvents)) →
-      render o (behindHead r) ≡ (((render o t ++ render o (numerals h)) ++ render o f) ++ render o (ms ++ numerals delimiterHead)) ++ replicate (span (recordingHead 0 r) - (16 + size (content r))) 0
-  behind-head r t h f ms c =
-      let n : ℕ = span (recordingHead 0 r) - (16 + size (content r)) in
-      padded-events o (content r) n ∙ ap (λ (l : List ℕ). l ++ replicate n 0) (ap (render o) c ∙ pieces t h f ms)
+  anew-bare : {A : Type 0} (at : ℕ) (u : Walk A) → anew w (said (w .from) b s at u) ≡ render (w .to) (bare (w .from) b s at u)
+  unfolding said
+  anew-bare at u = rw clear
 
--- what is written of a walk where the bytes that are not judged become zero
-copy-bare : {A : Type 0} (w : Way) (b : ℕ) (s : List ℕ) (at : ℕ) (v : Walk A) → w .keep ≡ false → copy w b s at v ≡ render (w .to) (bare (w .from) b s at v)
-copy-bare w b s at v clear = rw clear
+  -- a walk that leads to a head: what is written of the records before that
+  leads-written : {A : Type 0} (p at : ℕ) (u : Walk A) {n : Next} {e : ℕ} (d : Leads (w .from) b s known p (said (w .from) b s at u) n e) (t : List Event) → bare (w .from) b s at u ≡ t ++ numerals (n .head) →
+      (ys : List ℕ) → Renewal w b s (x .recording) (d .to) ys → Renewal w b s (x .recording) p (render (w .to) t ++ ys)
+  leads-written p at u {n} d t is ys later =
+      let hs : List ℕ = render (w .to) (numerals (n .head)) in
+      let i : anew w (heading (w .from) b s (d .to)) ≡ hs = anew-bare (b + d .to) (head (length s - d .to)) ∙ ap (render (w .to)) (head-bare (w .from) b s (b + d .to) (length s - d .to) (d .stands .heads)) in
+      let j : anew w (d .before) ++ hs ≡ render (w .to) t ++ hs =
+      ap (λ (l : List ℕ). anew w (d .before) ++ l) (sym i) ∙ (sym (anew-then w (d .before) (heading (w .from) b s (d .to))) ∙ (ap (anew w) (sym (d .says)) ∙ (anew-bare at u ∙ (ap (render (w .to)) is ∙ render-append (w .to) t (numerals (n .head)))))) in
+      rw (← append-cancel-right (anew w (d .before)) (render (w .to) t) hs j)
+      (onto (w .from) b s known _++_ (Renews w b s (x .recording)) (Closes w b s) (anew w) ys (λ l m. rw (anew-then w l m) (append-assoc (anew w l) (anew w m) ys)) (rw (written-none (w .keep) (w .to))) (λ p h l i. other (i .inner) (i .other) refl) later (d .links))
 
--- the pieces are what they should be, and as many zeros
-same-pieces : (t y₁ z₁ y₂ z₂ n : List ℕ) (i j : ℕ) → y₁ ≡ z₁ → y₂ ≡ z₂ → i ≡ j → (((t ++ y₁) ++ y₂) ++ n) ++ replicate i 0 ≡ (((t ++ z₁) ++ z₂) ++ n) ++ replicate j 0
-same-pieces t y₁ z₁ y₂ z₂ n i j e₁ e₂ e₃ = rw (e₁, e₂, e₃)
-
--- what the code wrote of the body s of a recording into the buffer d₀, whatever the bytes are: d₁ has the tables, y₁ and y₂ are the head and the body of the 140, d₄ has what follows it before byte k, and zs is the rest
-module _ (w : Way) (file : List ℕ) (cs : Channels) (f : Measure) (s : List ℕ) (b : ℕ) (d₀ d₁ y₁ y₂ d₄ zs : List ℕ) (k₁ k : ℕ) where
-  abbrev behind : ℕ
-  behind = f .at + f .signals .length
-
-  abbrev long : ℕ
-  long = behind - (f .at + 16)
-
-  abbrev d₂ : List ℕ
-  d₂ = put (f .at) (f .at + 16 - f .at) d₁ y₁
-
-  abbrev d₃ : List ℕ
-  d₃ = put (f .at + 16) long d₂ y₂
-
-  abbrev d₅ : List ℕ
-  d₅ = put k (length d₄ - k) d₄ zs
-
-  pub record Writes : Type 0 where
-    pub least : 16 ≤ f .signals .length
-    pub room : 16 + length d₀ ≡ f .whole .length
-    pub same₁ : length d₁ ≡ length d₀
-    pub same₂ : length d₂ ≡ length d₁
-    pub same₃ : length d₃ ≡ length d₂
-    pub same₅ : length d₅ ≡ length d₄
-    pub front : (held : Option Held) (t : Descriptions) (e : ℕ) → see (w .from) b s b (descriptions held (16 + length s)) ≡ goes t e → Pastes d₀ d₁ 0 k₁ (copy w b s b (descriptions held (16 + length s)))
-    pub top : y₁ ≡ render (w .to) (numerals (record { size = f .signals .size; code = 140; serial = 0; multiplier = f .signals .multiplier }))
-    pub signals : FramesAnew w file (signalsIn s f) (take long (drop (f .at + 16) d₂)) y₂ cs (f .seconds) (f .filled) (f .size) (f .count)
-    pub after : (fuel : ℕ) (n : Next) (e : ℕ) → length s < f .end + fuel → see (w .from) b s (b + f .end) (next fuel (length s - f .end)) ≡ goes n e → Pastes d₃ d₄ behind k (copy w b s (b + f .end) (next fuel (length s - f .end)))
-    pub rest : zs ≡ replicate (length (take (length d₄ - k) (drop k d₄))) 0
+  pub renewal : Renewal w b s (x .recording) 0 (render (w .to) (content (x .recording)))
+  renewal =
+      let o : Order = w .to in
+      let q : ℕ = v .at + span (v .top) in
+      let d₁ = tables-leads (w .from) b s known (v .held) (16 + length s) refl refl (v .begins) in
+      let d₂ = next-leads (w .from) b s known (v .fuel) q (v .after) (v .end) (whole v .1) (v .behind) in
+      let i : v .at ≡ d₁ .to = omega (arith, d₁ .end) in
+      let z : List ℕ = render o delimiterEvents in
+      let c₂ = leads-written q (b + q) (next (v .fuel) (length s - q)) d₂ (makerEvents (v .after .makers)) (next-bare (w .from) b s (v .fuel) (length s - q) (b + q + (length s - q)) (b + q) (v .after) (v .end) (omega arith) refl (v .behind) .0) z
+          (last (record { head = v .after .head; stands = d₂ .stands .heads; code = ap (λ (h : Head). h .code) (v .closes); is = delimiter-bytes o })) in
+      let c₁ : Renewal w b s (x .recording) (v .at) (render o (signalsEvents (x .recording)) ++ (render o (makerEvents (v .after .makers)) ++ z)) =
+      more (v .top) _ _ (v .stands) (signals (is140 (v .code) (record { value = v .value; end = _; is = v .went; says = refl })) (v .code) refl) c₂ refl in
+      rw (v .events, render-append o (tablesEvents (v .before)), render-append o (signalsEvents (x .recording)), render-append o (makerEvents (v .after .makers)))
+      (leads-written 0 b (descriptions (v .held) (16 + length s)) d₁ (tablesEvents (v .before)) (tables-bare (w .from) b s (v .held) (16 + length s) (v .before) (b + (v .at + 16)) (omega arith) (v .begins) .0) _ (rw i at c₁))
 
 -- a body that the walk accepted, and what is known of its measure
 module _ (w : Way) {b : ℕ} {s : List ℕ} {x : Placed} (v : Accepted (w .from) b s x) (f : Measure) (reads : MeasureIn (w .from) b s f) (is : MeasureOf f x) where
@@ -133,76 +126,90 @@ module _ (w : Way) {b : ℕ} {s : List ℕ} {x : Placed} (v : Accepted (w .from)
   stop : f .end ≡ f .at + span (v .top)
   stop = reads .end (v .top) (b + (f .at + 16)) found
 
-  -- the 140 is whole
-  whole : (32 ≤ span (v .top)) × (f .end ≤ length s)
-  unfolding frames
-  whole =
-      let d = admit-went (w .from) b s (b + (v .at + 16)) (length s - v .at) 128 (leb 32) (eqb 0) (v .top) (require (v .own || eqb (length (x .recording .channels)) (v .counts .channels)) 14 (v .back) >> framesBody (v .counts) (x .recording .channels) (v .top)) (v .went) in
-      (leb-true 32 (span (v .top)) (d .length), omega (arith, d .inside, v .inside, stop, same-at))
+  ends : f .end ≤ length s
+  ends = omega (arith, whole v .1, stop, same-at)
 
-  in-signals : see (w .from) (b + f .at + 16) (signalsIn s f) (b + f .at + 16) (framesBody (v .counts) (x .recording .channels) (v .top)) ≡ goes (v .value) (b + f .end)
-  in-signals = in-body v (f .at) (is .at) (record { at = f .at; size = v .top .size; code = v .top .code; serial = v .top .serial; multiplier = v .top .multiplier }) found refl (f .end) stop (whole .1) (whole .0)
+  in-signals : see (w .from) (b + f .at + 16) (signalsIn s f) (b + f .at + 16) (framesBody (v .before .basic) (x .recording .channels) (v .top)) ≡ goes (v .value) (b + f .end)
+  in-signals = in-body v (f .at) (is .at) (record { at = f .at; size = v .top .size; code = v .top .code; serial = v .top .serial; multiplier = v .top .multiplier }) found refl (f .end) stop ends (whole v .0)
 
   fills : span (v .top) ≡ 16 + length (signalsIn s f)
-  fills = omega (arith, body-length (f .at) (f .end) s (omega (arith, stop, whole .0)) (whole .1), stop)
+  fills = omega (arith, body-length (f .at) (f .end) s (omega (arith, stop, whole v .0)) ends, stop)
 
-  -- its canonical form, and that of the recording, in bytes
+  -- its canonical form in bytes
   signals-long : f .signals .length ≡ span (framesHead (x .recording .seconds) (x .recording .channels) (x .recording .frames))
   signals-long = ap (λ (z : Sized). z .length) (is .signals)
 
-  whole-long : f .whole .length ≡ span (recordingHead 0 (x .recording))
-  whole-long = ap (λ (z : Sized). z .length) (is .whole)
-
-  content-long : size (content (x .recording)) ≡ f .at + f .signals .length + (size (makerEvents (v .after .makers)) + 16)
-  content-long = omega (arith, v .long, same-at, signals-long, v .wide)
-
-  -- what is written of the tables before it, and of what follows it
-  tables-bytes : w .keep ≡ false → copy w b s b (descriptions (v .held) (16 + length s)) ≡ render (w .to) (tablesEvents (v .before)) ++ render (w .to) (numerals (v .before .events .next .head))
-  tables-bytes clear =
-      copy-bare w b s b (descriptions (v .held) (16 + length s)) clear
-      ∙ (ap (render (w .to)) (tables-bare (w .from) b s (v .held) (16 + length s) (v .before) (b + (v .at + 16)) (omega arith) (v .begins) .0) ∙ render-append (w .to) (tablesEvents (v .before)) (numerals (v .before .events .next .head)))
-
-  goes-on : see (w .from) b s (b + f .end) (next (v .fuel) (length s - f .end)) ≡ goes (v .after) (v .end)
-  goes-on = let i : v .at + span (v .top) ≡ f .end = omega (arith, stop, same-at) in rw i at (v .behind)
-
-  next-bytes : w .keep ≡ false → copy w b s (b + f .end) (next (v .fuel) (length s - f .end)) ≡ render (w .to) (makerEvents (v .after .makers) ++ numerals delimiterHead)
-  next-bytes clear =
-      copy-bare w b s (b + f .end) (next (v .fuel) (length s - f .end)) clear
-      ∙ (ap (render (w .to)) (next-bare (w .from) b s (v .fuel) (length s - f .end) (b + f .end + (length s - f .end)) (b + f .end) (v .after) (v .end) (omega arith) refl goes-on .0) ∙ ap (λ (h : Head). render (w .to) (makerEvents (v .after .makers) ++ numerals h)) (v .closes))
-
-  next-long : length (render (w .to) (makerEvents (v .after .makers) ++ numerals delimiterHead)) ≡ size (makerEvents (v .after .makers)) + 16
-  unfolding size
-  next-long = length-render (w .to) (makerEvents (v .after .makers) ++ numerals delimiterHead) ∙ size-append (makerEvents (v .after .makers)) (numerals delimiterHead)
-
-  old-long : length (render (w .to) (numerals (v .before .events .next .head))) ≡ 16
-  unfolding size
-  old-long = length-render (w .to) (numerals (v .before .events .next .head))
-
-  -- so what the code wrote is canonical
-  canonical-body : (file : List ℕ) (cs : Channels) (d₀ d₁ y₁ y₂ d₄ zs : List ℕ) (k₁ k : ℕ) → Writes w file cs f s b d₀ d₁ y₁ y₂ d₄ zs k₁ k → w .keep ≡ false → ChannelsStand (w .from) file cs (x .recording .channels) →
-      put k (length d₄ - k) d₄ zs ≡ render (w .to) (behindHead (x .recording))
-  canonical-body file cs d₀ d₁ y₁ y₂ d₄ zs k₁ k q clear here =
+  -- the code wrote its head and its body, ys and zs, one behind the other
+  signals-placed : (file : List ℕ) (cs : Channels) (out ys zs : List ℕ) (k n m : ℕ) → n ≡ 16 → 16 + m ≡ f .signals .length → k + f .signals .length ≤ length out → length (put k n out ys) ≡ length out → w .keep ≡ false →
+      ChannelsStand (w .from) file cs (x .recording .channels) → ys ≡ render (w .to) (numerals (record { size = f .signals .size; code = 140; serial = 0; multiplier = f .signals .multiplier })) →
+      FramesAnew w file (signalsIn s f) (take m (drop (k + 16) (put k n out ys))) zs cs (f .seconds) (f .filled) (f .size) (f .count) →
+      Pastes out (put (k + 16) m (put k n out ys) zs) k (k + f .signals .length) (render (w .to) (signalsEvents (x .recording)))
+  signals-placed file cs out ys zs k n m e₁ e₂ room same clear here top body =
       let o : Order = w .to in
       let r : Recording = x .recording in
-      let end : ℕ = f .at + f .signals .length in
-      let m : ℕ = end - (f .at + 16) in
-      let p : List ℕ = put (f .at) (f .at + 16 - f .at) d₁ y₁ in
-      let t : List ℕ = render o (tablesEvents (v .before)) in
-      let n : List ℕ = render o (makerEvents (v .after .makers) ++ numerals delimiterHead) in
-      let serves = sized (16 + size (content r)) .serves in
-      let inside : end + length n ≤ length d₀ = omega (arith, q .room, whole-long, content-long, next-long, serves) in
-      let j : length (take m (drop (f .at + 16) p)) ≡ m = length-take-le m (drop (f .at + 16) p) (rw length-drop (omega (arith, q .same₁, q .same₂))) in
-      let e₁ : y₁ ≡ render o (numerals (framesHead (r .seconds) (r .channels) (r .frames))) = q .top ∙ ap (λ (z : Sized). render o (numerals (record { size = z .size; code = 140; serial = 0; multiplier = z .multiplier }))) (is .signals) in
-      let e₂ : y₂ ≡ render o (framesWritten (r .seconds) (r .channels) (r .frames)) =
+      let h : Head = framesHead (r .seconds) (r .channels) (r .frames) in
+      let t : List Event = framesWritten (r .seconds) (r .channels) (r .frames) in
+      let j : length (take m (drop (k + 16) (put k n out ys))) ≡ m = length-take-le m (drop (k + 16) (put k n out ys)) (rw length-drop (omega arith)) in
+      let z : zs ≡ render o t =
       rw (is .seconds, ← v .frames) at
-      (q .signals clear (b + f .at + 16) (v .counts) (r .channels) (v .top) (v .value) (b + f .end) here (is .filled ∙ rw (is .seconds)) (reads .says) fills in-signals (omega (arith, j, q .least) ∙ (signals-long ∙ rw (is .seconds, ← v .frames)))) in
-      five-writes d₀ d₁ t (render o (numerals (v .before .events .next .head))) y₁ y₂ d₄ n zs (f .at) (f .at + 16 - f .at) (f .at + 16) m end k₁ k (length-render o (tablesEvents (v .before)) ∙ (v .front ∙ same-at)) (omega arith) (omega (arith, q .least)) (omega (arith, old-long, q .least)) inside
-      (subst (λ (l : List ℕ). Pastes d₀ d₁ 0 k₁ l) (tables-bytes clear) (q .front (v .held) (v .before) (b + (v .at + 16)) (v .begins))) (q .same₂) (q .same₃)
-      (subst (λ (l : List ℕ). Pastes (put (f .at + 16) m p y₂) d₄ end k l) (next-bytes clear) (q .after (v .fuel) (v .after) (v .end) (omega (arith, v .enough, stop, same-at)) goes-on)) (q .same₅) (q .rest)
-      ∙ (same-pieces t y₁ _ y₂ _ n (length d₀ - (end + length n)) (span (recordingHead 0 r) - (16 + size (content r))) e₁ e₂ (omega (arith, q .room, whole-long, content-long, next-long, serves))
-      ∙ sym (behind-head o r (tablesEvents (v .before)) (framesHead (r .seconds) (r .channels) (r .frames)) (framesWritten (r .seconds) (r .channels) (r .frames)) (makerEvents (v .after .makers)) (v .events)))
+      (body clear (b + f .at + 16) (v .before .basic) (r .channels) (v .top) (v .value) (b + f .end) here (is .filled ∙ rw (is .seconds)) (reads .says) fills in-signals (omega (arith, j) ∙ (signals-long ∙ rw (is .seconds, ← v .frames)))) in
+      rw (render-record o h t) (record-placed o h t out ys zs k n m (f .signals .length) e₁ e₂ (omega arith) (omega (arith, length-render o t, record-size h t, v .framed, signals-long)) (top ∙ ap (λ (z : Sized). render o (numerals (record { size = z .size; code = 140; serial = 0; multiplier = z .multiplier }))) (is .signals)) z)
 
-pub body-written : (w : Way) (file : List ℕ) (cs : Channels) (f : Measure) (s : List ℕ) (b : ℕ) (d₀ d₁ y₁ y₂ d₄ zs : List ℕ) (k₁ k : ℕ) → Bytes s →
-    Writes w file cs f s b d₀ d₁ y₁ y₂ d₄ zs k₁ k → BodyAnew w file s (put k (length d₄ - k) d₄ zs) cs f b
-body-written w file cs f s b d₀ d₁ y₁ y₂ d₄ zs k₁ k bytes q =
-    λ clear held h x e fills here reads is g. canonical-body w (accepted (w .from) b s bytes h fills held g) f reads is file cs d₀ d₁ y₁ y₂ d₄ zs k₁ k q clear here
+-- what the code wrote of the 140, whatever the bytes are
+pub signals-written : (w : Way) (file s : List ℕ) (cs : Channels) (f : Measure) (out ys zs : List ℕ) (k n m : ℕ) → Bytes s → n ≡ 16 → 16 + m ≡ f .signals .length → k + f .signals .length ≤ length out → length (put k n out ys) ≡ length out →
+    ys ≡ render (w .to) (numerals (record { size = f .signals .size; code = 140; serial = 0; multiplier = f .signals .multiplier })) →
+    FramesAnew w file (signalsIn s f) (take m (drop (k + 16) (put k n out ys))) zs cs (f .seconds) (f .filled) (f .size) (f .count) →
+    SignalsAnew w file s cs f out (put (k + 16) m (put k n out ys) zs) k (k + f .signals .length)
+signals-written w file s cs f out ys zs k n m bytes e₁ e₂ room same top body =
+    record {
+      inside = room;
+      wrote = λ b x g. signals-placed w (accepted (w .from) b s bytes (g .head) (g .fills) (g .held) (g .went)) f (g .reads) (g .is) file cs out ys zs k n m e₁ e₂ room same (g .clear) (g .channels) top body;
+    }
+
+-- there is no room for it
+pub signals-full : (w : Way) (file s : List ℕ) (cs : Channels) (f : Measure) (out : List ℕ) (k : ℕ) → Bytes s → k ≤ length out → length out - k < f .signals .length → SignalsAnew w file s cs f out out k k
+signals-full w file s cs f out k bytes fit full =
+    record {
+      inside = fit;
+      wrote = λ b x g room.
+          let v = accepted (w .from) b s bytes (g .head) (g .fills) (g .held) (g .went) in
+          absurd (omega (arith, full, room, length-render (w .to) (signalsEvents (x .recording)), v .framed, ap (λ (z : Sized). z .length) (g .is .signals)));
+    }
+
+-- the records up to byte p are written, of all the content of a body that is accepted as x
+abbrev pub RenewedUpTo : Way → ℕ → List ℕ → Placed → List ℕ → List ℕ → ℕ → ℕ → Type 0
+RenewedUpTo w b s x d₀ d k p = Copying (λ (l : List ℕ). l) (Renewal w b s (x .recording)) d₀ d 0 k p (render (w .to) (content (x .recording)))
+
+module _ {w : Way} {file s : List ℕ} {cs : Channels} {f : Measure} {b : ℕ} {x : Placed} (g : BodyRead w file s cs f b x) {d₀ : List ℕ} where
+  pub renewed-none : Bytes s → RenewedUpTo w b s x d₀ d₀ 0 0
+  renewed-none bytes = copying-none _ (renewal w (accepted (w .from) b s bytes (g .head) (g .fills) (g .held) (g .went)) (g .clear))
+
+  module _ {d : List ℕ} {k p : ℕ} (y : RenewedUpTo w b s x d₀ d k p) where
+    -- one record more, with the head h and up to q
+    pub renewed-more : (d′ : List ℕ) (k′ : ℕ) {h : At.Head} {q : ℕ} → RecordAt (w .from) b s p h q → ChildAnew w file s cs f h q d d′ k k′ → RenewedUpTo w b s x d₀ d′ k′ q
+    renewed-more d′ k′ {h} {q} v z = copying-more y (λ _ _. refl) c d′ k′ (go (c .inner))
+      where
+        c = links-parted (w .from) b s v (λ e. v .kind (ap (λ (h : Head). h .code) (goes-same (sym (v .heads) ∙ e .stands) .0) ∙ e .code)) (y .links)
+
+        go : Renews w b s (x .recording) p (headOf h) (c .own) → Pastes d d′ k k′ (c .own)
+        go (signals i e is) = rw is (z .signals e .wrote b x g)
+        go (other i n is) = rw is ((rw (v .place) at (z .other n .wrote b)) _ _ (v .ends) n i)
+
+    -- the delimiter and the padding are zeros
+    pub renewed-last : (zs : List ℕ) → 16 + length d₀ ≡ f .whole .length → length d ≡ length d₀ → length (put k (length d - k) d zs) ≡ length d → NoRecord (w .from) b s p → zs ≡ replicate (length (take (length d - k) (drop k d))) 0 →
+        put k (length d - k) d zs ≡ render (w .to) (behindHead (x .recording))
+    renewed-last zs room same long v is =
+        let o : Order = w .to in
+        let t : List Event = content (x .recording) in
+        let n : ℕ = span (recordingHead 0 (x .recording)) - (16 + size t) in
+        let e = links-ended (w .from) b s (λ h ys j i. renews-there v j i) (y .links) in
+        let c : render o t ≡ y .done ++ replicate 16 0 = y .is ∙ ap (λ (l : List ℕ). y .done ++ l) (e .is) in
+        let l : size t ≡ length (y .done) + 16 = sym (length-render o t) ∙ (ap length c ∙ length-append (y .done) (replicate 16 0)) in
+        let u : f .whole .length ≡ span (recordingHead 0 (x .recording)) = ap (λ (z : Sized). z .length) (g .is .whole) in
+        let serves = sized (16 + size t) .serves in
+        let q = y .wrote (omega arith) in
+        let front : take k d ≡ y .done = ap (λ (i : ℕ). take i d) (q .0) ∙ (ap (take (0 + length (y .done))) (q .1) ∙ take-pasted d₀ 0 (y .done) (omega arith)) in
+        let m : length (take (length d - k) (drop k d)) ≡ 16 + n = length-take-le (length d - k) (drop k d) (rw length-drop (omega arith)) ∙ omega (arith, q .0) in
+        front-all d zs (y .done) k (length d - k) (omega (arith, q .0)) long front
+        ∙ (ap (λ (l : List ℕ). y .done ++ l) (is ∙ (ap (λ (i : ℕ). replicate i 0) m ∙ sym (replicate-append-replicate 16 n 0)))
+        ∙ (sym (append-assoc (y .done) (replicate 16 0) (replicate n 0)) ∙ (ap (λ (l : List ℕ). l ++ replicate n 0) (sym c) ∙ sym (padded-events o t n))))

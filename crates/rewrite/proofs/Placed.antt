@@ -11,7 +11,7 @@ use Rattle.words.specs.declared.Order.{Order}
 use Rattle.words.specs.Runs.{pasted}
 use Rattle.words.proofs.Fronts.{put}
 use Rattle.words.proofs.Runs.{part-pasted, pasted-pasted}
-use Rattle.walk.specs.Walk.{render, size}
+use Rattle.walk.specs.Walk.{Event, render, size}
 use Rattle.walk.proofs.Laws.{length-render}
 use Rattle.walk.proofs.Seen.{body-length}
 use Rattle.rules.specs.Rules as R
@@ -34,6 +34,20 @@ use Rattle.rewrite.proofs.Framing.{render-record}
 head-length : (o : Order) (h : R.Head) → length (render o (C.numerals h)) ≡ 16
 unfolding size
 head-length o h = length-render o (C.numerals h)
+
+-- a record that the code wrote in two, one behind the other: its head, and what stands behind it
+pub record-placed : (o : Order) (h : R.Head) (t : List Event) (out ys zs : List ℕ) (k n m long : ℕ) → n ≡ 16 → 16 + m ≡ long → k ≤ length out → length (render o t) ≡ m → ys ≡ render o (C.numerals h) → zs ≡ render o t →
+    Pastes out (put (k + 16) m (put k n out ys) zs) k (k + long) (render o (C.numerals h) ++ render o t)
+record-placed o h t out ys zs k n m long f g l u p q =
+    let first : length ys ≡ 16 = ap length p ∙ head-length o h in
+    let one : put k n out ys ≡ pasted out k ys = part-pasted out ys k n (first ∙ sym f) in
+    λ room. (
+      omega (arith, length-append (render o (C.numerals h)) (render o t), head-length o h),
+      part-pasted (put k n out ys) zs (k + 16) m (ap length q ∙ u)
+          ∙ (ap (λ (d : List ℕ). pasted d (k + 16) zs) one
+          ∙ (ap (λ (x : ℕ). pasted (pasted out k ys) (k + x) zs) (sym first)
+          ∙ (pasted-pasted out k ys zs l ∙ rw (p, q)))),
+    )
 
 -- what stands behind it fills the record
 behind-length : (o : Order) (r : R.Recording) → 16 + length (render o (behindHead r)) ≡ R.span (C.recordingHead 0 r)
@@ -58,26 +72,7 @@ module _ (o : Order) (i : ℕ) (r : R.Recording) where
         ys ≡ render o (C.numerals (record { size = w .size; code = 10; serial = i; multiplier = w .multiplier })) → zs ≡ render o (behindHead r) →
         Pastes out (put (k + 16) m (put k n out ys) zs) k (k + w .length) (render o (C.recordingEvents i (r ∷ [])))
     recording-placed out ys zs k n m f g l p q =
-        λ room. (ap (λ (x : ℕ). k + x) (sym recording-length), whole)
-      where
-        first : length ys ≡ 16
-        first = ap length p ∙ head-length o _
-
-        behind : length zs ≡ m
-        behind = omega (arith, ap length q, behind-length o r, ap (λ (x : Sized). x .length) e)
-
-        joined : ys ++ zs ≡ render o (C.recordingEvents i (r ∷ []))
-        joined = rw (p, q, e) (sym in-two)
-
-        one : put k n out ys ≡ pasted out k ys
-        one = part-pasted out ys k n (first ∙ sym f)
-
-        whole : put (k + 16) m (put k n out ys) zs ≡ pasted out k (render o (C.recordingEvents i (r ∷ [])))
-        whole =
-            part-pasted (put k n out ys) zs (k + 16) m behind
-            ∙ (ap (λ (d : List ℕ). pasted d (k + 16) zs) one
-            ∙ (ap (λ (x : ℕ). pasted (pasted out k ys) (k + x) zs) (sym first)
-            ∙ (pasted-pasted out k ys zs l ∙ ap (pasted out k) joined)))
+        rw in-two (record-placed o _ _ out ys zs k n m (w .length) f g l (omega (arith, behind-length o r, ap (λ (x : Sized). x .length) e)) (p ∙ ap (λ (x : Sized). render o (C.numerals (record { size = x .size; code = 10; serial = i; multiplier = x .multiplier }))) e) q)
 
 -- the room behind the head of a record of n bytes at byte k
 pub room-behind : (d : List ℕ) (k n : ℕ) → 16 ≤ n → k + n ≤ length d → 16 + length (take (k + n - (k + 16)) (drop (k + 16) d)) ≡ n
@@ -94,4 +89,4 @@ module _ (w : Way) (file : List ℕ) (p i : ℕ) (q : Places) (f : Measure) wher
       let v = within (w .from) file p (q .end) held i (y .went) in
       let s = t .told held i x y in
       let here : ChannelsStand (w .from) file (record { subs = q .channels + 32; count = q .count }) (x .recording .channels) = record { count = y .channels .0; kept = y .channels .1 } in
-      recording-placed (w .to) i (x .recording) (f .whole) (s .whole) out ys zs k n m e₁ e₂ l first (later clear held (v .top) x (q .end) (v .fills) here (t .reads) s (v .body))
+      recording-placed (w .to) i (x .recording) (f .whole) (s .whole) out ys zs k n m e₁ e₂ l first (later x (record { clear = clear; head = v .top; held = held; end = q .end; fills = v .fills; went = v .body; channels = here; reads = t .reads; is = s }))

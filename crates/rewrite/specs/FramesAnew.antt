@@ -3,18 +3,20 @@
 use mathlib.Core.Path.{_≡_}
 use mathlib.Core.Bool.{false}
 use mathlib.Core.List.{List}
+use mathlib.Core.Option.{Option}
 use Prim.Native.Nat.{ℕ, _+_, _*_, _≤_, _<_}
 use lib.ListN.{length}
-use Rattle.walk.specs.Walk.{render}
+use Rattle.walk.specs.Walk.{Event, render}
 use Rattle.walk.specs.See.{see, goes}
 use Rattle.rules.specs.Rules as R
 use Rattle.rules.specs.Canonical as C
 use Rattle.rules.specs.declared.Channels.{Channels}
-use Rattle.measures.specs.Standing.{ChannelsStand}
-use Rattle.bodies.specs.Copy.{widthsIn}
+use Rattle.measures.specs.Standing.{ChannelsIn, ChannelsStand}
+use Rattle.bodies.specs.Copy.{widthsIn, Pastes}
 use Rattle.bodies.specs.declared.Way.{Way}
 use Rattle.bodies.specs.declared.Widths.{Widths}
-use Rattle.measures.specs.Measures.{FramesSay, FrameIn}
+use Rattle.measures.specs.Measures.{MeasureOf, MeasureIn, Bounds, FramesSay, FrameIn}
+use Rattle.measures.specs.declared.Measure.{Measure}
 
 -- s is a frame up to its padding, d has as much room, and the samples' widths are those of the records 125 at cs
 pub record FrameFits (w : Way) (file s d : List ℕ) (cs : Channels) (widths : Widths) (t : ℕ) : Type 0 where
@@ -49,3 +51,35 @@ FramesAnew w file s d d′ cs t filled size count =
     filled ≡ 24 + R.sampleBytes t ch → FramesSay (w .from) s t size count → R.span hd ≡ 16 + length s →
     see (w .from) b s b (R.framesBody c ch hd) ≡ goes f e → 16 + length d ≡ R.span (C.framesHead t ch (f .frames)) →
     d′ ≡ render (w .to) (C.framesWritten t ch (f .frames))
+
+-- where the walk accepts the body s of a recording, which stands at `base`, as x, and f is its measure
+pub record BodyRead (w : Way) (file s : List ℕ) (cs : Channels) (f : Measure) (base : ℕ) (x : R.Placed) : Type 0 where
+  -- reserve is cleared
+  pub clear : w .keep ≡ false
+  -- the recording's head, what earlier ones hand on, and where the walk came to
+  pub head : R.Head
+  pub held : Option R.Held
+  pub end : ℕ
+  pub fills : R.span head ≡ 16 + length s
+  pub went : see (w .from) base s base (R.recordingBody held head) ≡ goes x end
+  -- its channels stand at cs
+  pub channels : ChannelsStand (w .from) file cs (x .recording .channels)
+  -- what the measure says of the bytes, and of the recording
+  pub reads : MeasureIn (w .from) base s f
+  pub is : MeasureOf f x
+
+-- its 140 in canonical form
+abbrev pub signalsEvents : R.Recording → List Event
+signalsEvents r = C.recordOf (C.framesHead (r .seconds) (r .channels) (r .frames)) (C.framesWritten (r .seconds) (r .channels) (r .frames))
+
+-- it goes to byte k of the buffer
+pub record SignalsFit (file s out : List ℕ) (cs : Channels) (f : Measure) (k : ℕ) : Type 0 where
+  pub channels : ChannelsIn file cs
+  pub bounds : Bounds (length s) f
+  pub target : k ≤ length out
+
+-- where there is room, the 140 in canonical form stands there, and the next bytes go at r
+pub record SignalsAnew (w : Way) (file s : List ℕ) (cs : Channels) (f : Measure) (out out′ : List ℕ) (k r : ℕ) : Type 0 where
+  pub inside : r ≤ length out
+  pub wrote : (base : ℕ) (x : R.Placed) → BodyRead w file s cs f base x →
+      Pastes out out′ k r (render (w .to) (signalsEvents (x .recording)))

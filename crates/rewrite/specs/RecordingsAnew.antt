@@ -14,17 +14,20 @@ use Rattle.walk.specs.See.{see, goes}
 use Rattle.rules.specs.Rules as R
 use Rattle.rules.specs.Canonical as C
 use Rattle.rules.specs.declared.Channels.{Channels}
+use Rattle.rules.specs.declared.Head.{Head}
 use Rattle.rules.specs.declared.Heading.{Heading}
-use Rattle.measures.specs.Standing.{ChannelsIn, ChannelsStand}
+use Rattle.measures.specs.Standing.{ChannelsIn}
 use Rattle.header.specs.Opened.{headingOf}
 use Rattle.descriptions.specs.Tabled.{Room, Stand}
 use Rattle.descriptions.specs.declared.Places.{Places}
 use Rattle.children.specs.Recordings.{ReadAs}
 use Rattle.bodies.specs.Copy.{Pastes}
 use Rattle.bodies.specs.declared.Way.{Way}
+use Rattle.transcripts.specs.Transcript.{Transcribed}
 use Rattle.measures.specs.Measures.{MeasureOf, MeasureIn, Bounds, Each, Given, behindHead}
 use Rattle.measures.specs.declared.Measure.{Measure}
 use Rattle.measures.specs.declared.Measured.{Measured}
+use Rattle.rewrite.specs.FramesAnew.{BodyRead, SignalsFit, SignalsAnew}
 
 -- a file of n bytes with room for its header
 pub record Lent (n : ℕ) : Type 0 where
@@ -65,10 +68,21 @@ pub record BodyFits (file s d : List ℕ) (cs : Channels) (f : Measure) (base : 
 
 -- where the walk accepts the body s as x, d is what stands behind the head of its canonical form
 abbrev pub BodyAnew : Way → List ℕ → List ℕ → List ℕ → Channels → Measure → ℕ → Type 0
-BodyAnew w file s d cs f base =
-    w .keep ≡ false → (held : Option R.Held) (h : R.Head) (x : R.Placed) (e : ℕ) → R.span h ≡ 16 + length s →
-    ChannelsStand (w .from) file cs (x .recording .channels) → MeasureIn (w .from) base s f → MeasureOf f x →
-    see (w .from) base s base (R.recordingBody held h) ≡ goes x e → d ≡ render (w .to) (behindHead (x .recording))
+BodyAnew w file s d cs f base = (x : R.Placed) → BodyRead w file s cs f base x → d ≡ render (w .to) (behindHead (x .recording))
+
+-- a record of the body s, with the code's head h and up to byte q, goes to byte k of the buffer
+pub record ChildFits (file s out : List ℕ) (cs : Channels) (f : Measure) (h : Head) (q k : ℕ) : Type 0 where
+  pub recording : SignalsFit file s out cs f k
+  pub least : h .at + 16 ≤ q
+  pub inside : q ≤ length s
+
+-- it is written there, and the next bytes go at r
+pub record ChildAnew (w : Way) (file s : List ℕ) (cs : Channels) (f : Measure) (h : Head) (q : ℕ) (out out′ : List ℕ) (k r : ℕ) : Type 0 where
+  pub inside : r ≤ length out
+  -- a 140 by the recording's measure
+  pub signals : h .code ≡ 140 → SignalsAnew w file s cs f out out′ k r
+  -- any other as it is read
+  pub other : (h .code ≡ 140 → ⊥) → Transcribed w s h q out out′ k r
 
 -- a recording from byte p of the file on goes to byte k of the buffer
 pub record RecordingFits (file : List ℕ) (p : ℕ) (q : Places) (out : List ℕ) (k : ℕ) : Type 0 where

@@ -1,10 +1,11 @@
 // Record 140 and its frames in canonical form.
-ghost use Rattle.rewrite.specs.FramesAnew.{FrameFits, FrameAnew, FramesFit, FramesAnew};
+ghost use Rattle.rewrite.specs.FramesAnew.{FrameFits, FrameAnew, FramesFit, FramesAnew, SignalsFit, SignalsAnew};
 use bodies::Way;
 use bodies::Widths;
 use bodies::frame_body;
 use bodies::widths_of;
 use bulk::clear_run;
+use measures::Measure;
 use records::writing::put_head;
 use rules::Channels;
 use rules::Frame;
@@ -38,7 +39,7 @@ fn frame(w: Way, file: &[u8], cs: Channels, widths: Widths, t: u32, i: u32, s: &
 }
 
 // The body of a 140 of so many frames: s is the body that is read, where a frame takes `size` bytes, `filled` of them without its padding.
-pub fn frames_body(
+fn frames_body(
     w: Way,
     file: &[u8],
     cs: Channels,
@@ -83,4 +84,40 @@ pub fn frames_body(
         i += 1;
     }
     clear_run(&mut d[k..]);
+}
+
+// The 140 of a recording of this measure, whose body is s: where the next bytes go.
+pub fn frames(w: Way, file: &[u8], cs: Channels, f: Measure, s: &[u8], out: &mut [u8], k: usize) -> usize
+    requires { ⌜ SignalsFit (now file) (now s) (now out) cs f k ⌝ }
+    ensures { λ r. ⌜ SignalsAnew w (now (file .entry)) (now (s .entry)) cs f (now (out .entry)) (now (out .exit)) k r ⌝ }
+{
+    let to = w.to;
+    let signals = f.signals;
+    if out.len() - k < signals.length {
+        return k;
+    }
+    let from = f.at + Head::LENGTH;
+    let stop = f.end;
+    let body = k + Head::LENGTH;
+    let end = k + signals.length;
+    put_head(
+        to,
+        signals.size,
+        Frames::CODE,
+        0,
+        signals.multiplier,
+        &mut out[k..body],
+    );
+    frames_body(
+        w,
+        file,
+        cs,
+        f.seconds,
+        f.filled,
+        f.size,
+        f.count,
+        &s[from..stop],
+        &mut out[body..end],
+    );
+    end
 }

@@ -9,13 +9,13 @@ ghost use Rattle.rules.specs.Canonical as C;
 ghost use Rattle.header.specs.Opened.{headingOf};
 ghost use Rattle.children.specs.Recordings.{ReadAs};
 ghost use Rattle.measures.specs.Measures.{lengthIn};
-ghost use Rattle.rewrite.specs.RecordingsAnew.{StandsIn, MeasuredAt, BodyFits, BodyAnew, RecordingFits, RecordingAnew};
+ghost use Rattle.rewrite.specs.RecordingsAnew.{StandsIn, MeasuredAt, ChildFits, ChildAnew, BodyFits, BodyAnew, RecordingFits, RecordingAnew};
 ghost use Rattle.rewrite.specs.RecordingsAnew.{HeaderFits, Counts, lengthAnew, FileFits, FileAnew};
-use crate::frames::frames_body;
 use bodies::Way;
 use bodies::runs::letter;
 use bulk::clear_run;
 use bulk::copy_run;
+use children::Direct;
 use descriptions::Before;
 use descriptions::Places;
 use judge::recording::Recorded;
@@ -72,10 +72,10 @@ fn digits(count: u32, d: &mut [u8])
 {
     copy_run(b"    ", d);
     if count < 10 {
-        d[0] = (48 + count) as u8;
+        d[0] = (FileHeader::ZERO + count) as u8;
     } else {
-        d[0] = (48 + count / 10) as u8;
-        d[1] = (48 + count % 10) as u8;
+        d[0] = (FileHeader::ZERO + count / 10) as u8;
+        d[1] = (FileHeader::ZERO + count % 10) as u8;
     }
 }
 
@@ -94,40 +94,44 @@ fn header(to: Order, heading: Heading, count: u32, d: &mut [u8])
     copy_run(b"          ", &mut d[FileHeader::SPACES..]);
 }
 
-// The body of a recording of this measure: d has room for its canonical form and no more.
+// The record with the head h that stands in a recording of this measure, up to byte `end` of its body s: where the next bytes go.
+fn child(
+    w: Way,
+    file: &[u8],
+    cs: Channels,
+    f: Measure,
+    s: &[u8],
+    h: Head,
+    end: usize,
+    out: &mut [u8],
+    k: usize,
+) -> usize
+    requires { ⌜ ChildFits (now file) (now s) (now out) cs f h end k ⌝ }
+    ensures { λ r. ⌜ ChildAnew w (now (file .entry)) (now (s .entry)) cs f h end (now (out .entry)) (now (out .exit)) k r ⌝ }
+{
+    if h.code == Frames::CODE {
+        return crate::frames::frames(w, file, cs, f, s, out, k);
+    }
+    transcripts::transcribe(w, s, h, end, out, k)
+}
+
+// The body of a recording of this measure: d has room for its canonical form and no more. The delimiter and what pads it are zeros.
 fn body(w: Way, file: &[u8], cs: Channels, f: Measure, s: &[u8], base: usize, d: &mut [u8])
     requires { ⌜ BodyFits (now file) (now s) (now d) cs f base ⌝ }
     ensures { λ _. ⌜ BodyAnew w (now (file .entry)) (now (s .entry)) (now (d .exit)) cs f base ⌝ }
 {
-    let to = w.to;
-    let signals = f.signals;
-    let at = f.at;
-    let stop = f.end;
-    let from = at + Head::LENGTH;
-    let end = at + signals.length;
-    transcripts::tables(w, s, base, d, 0);
-    put_head(
-        to,
-        signals.size,
-        Frames::CODE,
-        0,
-        signals.multiplier,
-        &mut d[at..from],
-    );
-    frames_body(
-        w,
-        file,
-        cs,
-        f.seconds,
-        f.filled,
-        f.size,
-        f.count,
-        &s[from..stop],
-        &mut d[from..end],
-    );
-    let n = transcripts::next(w, s, base, stop, d, end);
-    let rest = n.k;
-    clear_run(&mut d[rest..]);
+    let o = w.from;
+    let mut p: usize = 0;
+    let mut k: usize = 0;
+    loop {
+        let there = children::record_at(o, s, base, p);
+        let Direct::Record(h, end) = there else {
+            clear_run(&mut d[k..]);
+            return;
+        };
+        k = child(w, file, cs, f, s, h, end, d, k);
+        p = end;
+    }
 }
 
 // The recording from byte p on, with the serial i, which has these places: where the next bytes go.

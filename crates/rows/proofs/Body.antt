@@ -13,7 +13,7 @@ use lib.IntN.{ℤ}
 use lib.ListN.{length}
 use Rattle.words.specs.Numbers.{numberAt}
 use Rattle.words.specs.declared.Order.{Order}
-use Rattle.walk.specs.Walk.{Row, _>>=_, _>>_, require, text}
+use Rattle.walk.specs.Walk.{Row, Walk, _>>=_, _>>_, require, text}
 use Rattle.walk.specs.See.{goes, see}
 use Rattle.walk.specs.Tell.{tell}
 use Rattle.walk.proofs.Seen.{and-left, stays-goes}
@@ -24,7 +24,7 @@ use Rattle.rules.specs.declared.Head as At
 use Rattle.rules.proofs.Room.{stays-head}
 use Rattle.records.specs.Says.{headOf}
 use Rattle.records.proofs.Opened.{tell-head, admit-went}
-use Rattle.children.specs.Children.{Said, said, _then_, Known, knownOf, Reads, Inner, is100, is120, is130, is200, is140, isMaker, Chain, Parted, Closed, RecordAt, NoRecord}
+use Rattle.children.specs.Children.{Said, said, _then_, Known, knownOf, Reads, Inner, is100, is120, is130, is200, is140, isMaker, Chain, Closed, RecordAt, NoRecord}
 use Rattle.children.proofs.Chained.{body-chain}
 use Rattle.children.proofs.Visiting.{chain-parted, chain-closed}
 use Rattle.rows.specs.Rows.{channelRows, frameRows, heldRows, Holds, Wrote}
@@ -57,26 +57,31 @@ module _ (o : Order) (b : ℕ) (s : List ℕ) (p : ℕ) (fit : p ≤ length s) w
   start : b + (p + 16) - 16 ≡ b + p
   start = omega arith
 
+  -- a head lists nothing
+  reads-rows : {A : Type 0} {w : Walk A} {l : Said} → Reads o b s p w l → l .rows ≡ tell o b s (b + (p + 16)) w
+  unfolding said _then_
+  reads-rows r = ap (λ (l : Said). l .rows) (r .says) ∙ rw tell-head
+
   other : (h : Head) (rs : List Row) → (h .code ≡ 120 → ⊥) → (h .code ≡ 140 → ⊥) → rs ≡ record { start = b + (p + 16) - 16; size = span h; code = h .code; serial = h .serial } ∷ [] → Rowed o b s p h rs
   other h rs n₁ n₂ e = record { fits = record { channels = λ q. absurd (n₁ q); frames = λ q. absurd (n₂ q) }; rows = e ∙ rw (start, held-none o b s p (h .code) n₁ n₂) }
 
   items-rowed : (ok : ℕ → Bool) (h : Head) {code : ℕ} {l : Said} → h .code ≡ code → (code ≡ 120 → ⊥) → (code ≡ 140 → ⊥) → Reads o b s p (items ok (length s - p) h) l → Rowed o b s p h (l .rows)
-  unfolding said items
+  unfolding items
   items-rowed ok h q n₁ n₂ r =
       let n = eqb-true 0 (h .serial) (admit-went o b s (b + (p + 16)) (length s - p) 0 (leb 24) (eqb 0) h (itemsBody ok (span h)) (r .is) .number) in
-      other h _ (rw q n₁) (rw q n₂) (rw (r .says, items-lists o b s ok (b + (p + 16)) (length s - p) h (r .is), ← n))
+      other h _ (rw q n₁) (rw q n₂) (rw (reads-rows r, items-lists o b s ok (b + (p + 16)) (length s - p) h (r .is), ← n))
 
   -- a record is one row, and those of the records that it holds
   pub inner-rows : {k : Known} {h : Head} {l : Said} → Inner o b s p k h l → Rowed o b s p h (l .rows)
-  unfolding said channels items frames heldRows makerCode
+  unfolding channels items frames heldRows makerCode
   inner-rows {h} (is100 q r) =
       let d = admit-went o b s (b + (p + 16)) (length s - p) 0 (eqb 128) (eqb 0) h basicBody (r .is) in
-      other h _ (λ z. omega arith) (λ z. omega arith) (rw (r .says, d .rows, silent o b s (b + (p + 16)) basicBody silent-basicBody))
+      other h _ (λ z. omega arith) (λ z. omega arith) (rw (reads-rows r, d .rows, silent o b s (b + (p + 16)) basicBody silent-basicBody))
   inner-rows {k} {h} (is120 q r) =
       let d = channels-lists o b s (p + 16) (k .basic) (length s - p) h (omega arith) (r .is) in
       let n = eqb-true 0 (h .serial) (admit-went o b s (b + (p + 16)) (length s - p) 0 (leb 32) (eqb 0) h (channelsBody (k .basic) (span h)) (r .is) .number) in
       let i : b + (p + 16 + 16) ≡ b + p + 32 = omega arith in
-      record { fits = record { channels = λ _. omega (arith, d .0); frames = λ z. absurd (omega arith) }; rows = rw (r .says, d .1, ← n, q, start, i) }
+      record { fits = record { channels = λ _. omega (arith, d .0); frames = λ z. absurd (omega arith) }; rows = rw (reads-rows r, d .1, ← n, q, start, i) }
   inner-rows {h} (is130 q r) = items-rowed patientCode h q (λ z. omega arith) (λ z. omega arith) r
   inner-rows {h} (is200 q r) = items-rowed eventCode h q (λ z. omega arith) (λ z. omega arith) r
   inner-rows {k} {h} (is140 q r) =
@@ -88,12 +93,12 @@ module _ (o : Order) (b : ℕ) (s : List ℕ) (p : ℕ) (fit : p ≤ length s) w
       let e = rw (j₁, j₂) at d in
       record {
         fits = record { channels = λ z. absurd (omega arith); frames = λ _. record { least = e .0; inside = omega (arith, e .1, mul-comm (numberAt o 4 s (p + 20)) (numberAt o 4 s (p + 24))) } };
-        rows = rw (r .says, e .2, ← n, q, start, i);
+        rows = rw (reads-rows r, e .2, ← n, q, start, i);
       }
   inner-rows {h} (isMaker q r) =
       let d = admit-went o b s (b + (p + 16)) (length s - p) 128 (leb 16) (λ _. true) h (text (span h - 16)) (r .is) in
       let n : 1024 ≤ h .code = leb-true 1024 (h .code) (and-left (leb 1024 (h .code)) _ q) in
-      other h _ (λ z. omega arith) (λ z. omega arith) (rw (r .says, d .rows, silent o b s (b + (p + 16)) (text (span h - 16)) (λ _. tt)))
+      other h _ (λ z. omega arith) (λ z. omega arith) (rw (reads-rows r, d .rows, silent o b s (b + (p + 16)) (text (span h - 16)) (λ _. tt)))
 
   -- a delimiter is one row, and what pads the recording is none
   pub closed-rows : {l : Said} → Closed o b s p l → l .rows ≡ record { start = b + p; size = 16; code = 0; serial = 0 } ∷ []
@@ -107,11 +112,6 @@ module _ (o : Order) (b : ℕ) (s : List ℕ) (p : ℕ) (fit : p ≤ length s) w
 
   pub closed-inside : {l : Said} → Closed o b s p l → p + 16 ≤ length s
   closed-inside c = let z = stays-goes o b s (b + p + (length s - p)) (omega arith) (head (length s - p)) (b + p) _ (omega arith) (stays-head (b + p) (length s - p)) (c .stands) in omega (arith, z .1)
-
-  -- a head lists nothing
-  pub parted-rows : {k : Known} {h : Head} {q : ℕ} {l : Said} → (c : Parted o b s k p h q l) → l .rows ≡ c .own .rows ++ c .rest .rows
-  unfolding said _then_
-  parted-rows c = ap (λ (l : Said). l .rows) (c .is) ∙ rw tell-head
 
 -- of the rows rs those up to byte p are written
 pub record Listed (o : Order) (b : ℕ) (s : List ℕ) (w : Bool) (out out₁ : List ℤ) (k k₁ p : ℕ) (rs : List Row) : Type 0 where
@@ -136,6 +136,7 @@ module _ {o : Order} {b : ℕ} {s : List ℕ} {w : Bool} {out : List ℤ} {k : �
 
     pub listed-more : {out₂ : List ℤ} {k₂ : ℕ} {h : At.Head} {q : ℕ} → RecordAt o b s p h q →
         (Holds o s (h .at) q (h .code) → Wrote w out₁ out₂ k₁ k₂ (record { start = b + h .at; size = q - h .at; code = h .code; serial = h .serial } ∷ heldRows o b s (h .at) (h .code))) → Listed o b s w out out₂ k k₂ q rs
+    unfolding _then_
     listed-more {out₂} {k₂} {h} {q} v y =
         let d = chain-parted o b s v (g .chain) in
         let r = inner-rows o b s p fit (d .inner) in
@@ -146,6 +147,6 @@ module _ {o : Order} {b : ℕ} {s : List ℕ} {w : Bool} {out : List ℤ} {k : �
           left = d .rest;
           known = g .known;
           chain = d .on;
-          all = g .all ∙ ap (λ (r : List Row). g .done ++ r) (parted-rows o b s p fit d) ∙ sym (append-assoc (g .done) (d .own .rows) (d .rest .rows));
+          all = g .all ∙ ap (λ (l : Said). g .done ++ l .rows) (d .is) ∙ sym (append-assoc (g .done) (d .own .rows) (d .rest .rows));
           wrote = wrote-join w out out₁ out₂ k k₁ k₂ (g .done) _ (g .wrote) (rw (r .rows) z);
         }

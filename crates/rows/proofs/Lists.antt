@@ -1,15 +1,12 @@
 -- What the walks of the rules list: a record is one row, and behind it a 120 and a 140 list one row for each record that they hold.
 -- Assumes nothing.
-use mathlib.Core.Path.{_≡_, refl, sym, ap, _∙_}
+use mathlib.Core.Path.{_≡_, refl, sym, _∙_}
 use mathlib.Core.Bool.{Bool, true, false, _&&_, _||_}
-use mathlib.Core.List.{List, [], _∷_, _++_, append-nil}
-use mathlib.Core.Option.{Option, none, some}
-use Prim.Native.Nat.{ℕ, zero, suc, _+_, _*_, _-_, _≤_, _<_}
-use native.Mathlib.Nat.{mul-comm}
+use mathlib.Core.List.{List, [], _∷_, append-nil}
+use Prim.Native.Nat.{ℕ, zero, suc, _+_, _*_, _-_, _≤_}
 use native.Mathlib.Omega.{arith}
-use borrow.Author.Tests.{leb-true, eqb-true, eq-eqb, ne-eqb}
+use borrow.Author.Tests.{leb-true, eqb-true}
 use lib.Dec.{leb, eqb}
-use lib.IntN.{ℤ}
 use lib.ListN.{length}
 use Rattle.words.specs.Numbers.{numberAt}
 use Rattle.words.specs.declared.Order.{Order}
@@ -17,15 +14,13 @@ use Rattle.walk.specs.See.{stops, goes, see, Goes, Stays}
 use Rattle.walk.specs.Tell.{tell}
 use Rattle.walk.specs.Walk.{Row, Walk, give, _>>=_, _>>_, require}
 use Rattle.walk.proofs.Seen.{stays-goes, and-left}
-use Rattle.walk.proofs.Went.{gate-went, went-first, goes-same}
+use Rattle.walk.proofs.Went.{gate-went, went-first}
 use Rattle.walk.proofs.Told.{tell-bind, tell-give, Silent, silent, silent-bind, silent-then}
-use Rattle.rules.specs.Rules.{Head, head, admit, span, coded, fixed, zeros, padding, series, Channel, channel, channelBody, channelsBody, channels, Basic, Item, Frame, item, itemSize, itemList, itemsBody, items, numberList, samples, sampleBytes, samplesIn, width, frameBody, frame, frames, framesBody, Frames, padOk, between, Next, Part, part, next}
-use Rattle.rules.specs.declared.Head as At
-use Rattle.rules.proofs.Room.{Rests, stays-channel, stays-frame}
-use Rattle.records.specs.Says.{headOf}
+use Rattle.rules.specs.Rules.{Head, head, admit, span, coded, fixed, zeros, padding, series, Channel, channel, channelBody, channelsBody, channels, Basic, Item, Frame, item, itemSize, itemList, itemsBody, items, numberList, samples, sampleBytes, samplesIn, width, frameBody, frame, frames, framesBody, Frames, padOk, between}
+use Rattle.rules.proofs.Room.{stays-channel, stays-frame}
 use Rattle.records.proofs.Facts.{both-true, both-false}
-use Rattle.records.proofs.Opened.{Opened, opened, admit-went, require-went, not-admitted, halted}
-use Rattle.rows.specs.Rows.{seriesRows, Marks}
+use Rattle.records.proofs.Opened.{opened, admit-went, require-went, not-admitted}
+use Rattle.rows.specs.Rows.{seriesRows}
 
 silent-zeros : (bs : List ℕ) → Silent (zeros bs)
 unfolding zeros
@@ -188,95 +183,6 @@ module _ (o : Order) (b : ℕ) (s : List ℕ) (p : ℕ) where
       let z : b + p + 4 + 4 + 4 + 4 ≡ b + (p + 16) = omega arith in
       let r = series-lists o b s size 145 (frame size seconds cs) (frame-lists o b s size seconds cs) (stays-frame size seconds cs (x .long)) count 1 (span h - 32) (b + p + 4 + 4 + 4 + 4) (omega arith) (omega (arith, d .inside, x .fits)) (x .went .is) in
       (omega (arith, x .long), x .fits, d .rows ∙ rw (t .2, x .rows, r, z, eqb-true 0 (h .serial) (d .number)))
-
--- a part of a recording that is there, and the head behind it
-pub record Owns {A : Type 0} (o : Order) (b : ℕ) (s : List ℕ) (at : ℕ) (w : Walk A) (v : Walk Next) (x : Next) (e : ℕ) (rs : List Row) : Type 0 where
-  pub value : A
-  pub mid : ℕ
-  pub first : see o b s at w ≡ goes value mid
-  pub second : see o b s mid v ≡ goes x e
-  pub rows : rs ≡ tell o b s at w ++ tell o b s mid v
-
-module _ {A : Type 0} (o : Order) (b : ℕ) (s : List ℕ) (at fuel code : ℕ) (body : ℕ → Head → Walk A) (n : Next) where
-  abbrev owned : Walk A → Walk Next → Walk (Part A)
-  owned w v = w >>= λ a. v >>= λ m. give (record { own = true; value = a; next = m })
-
-  part-is : (held : Option A) (h : Head) (room : ℕ) → n .head ≡ h → n .room ≡ room → eqb (h .code) code ≡ true → part fuel code body held n ≡ owned (body room h) (next fuel (room - span h))
-  unfolding part
-  part-is held h room i j q = let c : eqb (n .head .code) code ≡ true = rw i q in rw (part, c, i, j)
-
-  owned-lists : (w : Walk A) (v : Walk Next) {x : Part A} {e : ℕ} → see o b s at (owned w v) ≡ goes x e → Owns o b s at w v (x .next) e (tell o b s at (owned w v))
-  unfolding see tell
-  owned-lists w v {x} {e} h =
-      let k : A → Walk (Part A) = λ a. v >>= λ m. give (record { own = true; value = a; next = m }) in
-      let y = went-first o b s at w k h in
-      let j : Next → Part A = λ m. record { own = true; value = y .value; next = m } in
-      let z = went-first o b s (y .end) v (λ m. give (j m)) (y .kept) in
-      let g = goes-same (z .kept) in
-      let i : z .value ≡ x .next = ap (λ (q : Part A). q .next) (g .0) in
-      let u : see o b s (y .end) v ≡ goes (x .next) e = z .is ∙ ap (λ (q : Next). goes q (z .end)) i ∙ ap (λ (q : ℕ). goes (x .next) q) (g .1) in
-      record {
-        value = y .value;
-        mid = y .end;
-        first = y .is;
-        second = u;
-        rows = tell-bind o b s at w k (y .is) ∙ rw (tell-give o b s (y .end) v j);
-      }
-
-  pub part-lists : (held : Option A) (h : Head) (room : ℕ) {x : Part A} {e : ℕ} → n .head ≡ h → n .room ≡ room → eqb (h .code) code ≡ true → see o b s at (part fuel code body held n) ≡ goes x e →
-      Owns o b s at (body room h) (next fuel (room - span h)) (x .next) e (tell o b s at (part fuel code body held n))
-  part-lists held h room i j q g = rw (part-is held h room i j q) (owned-lists (body room h) (next fuel (room - span h)) (rw (part-is held h room i j q) at g))
-
-  -- one that is absent lists nothing, and the head stays
-  pub absent-lists : (held : Option A) {x : Part A} {e : ℕ} → eqb (n .head .code) code ≡ false → see o b s at (part fuel code body held n) ≡ goes x e →
-      (x .next .head ≡ n .head) × (x .next .room ≡ n .room) × (e ≡ at) × (tell o b s at (part fuel code body held n) ≡ [])
-  unfolding part see tell
-  absent-lists none q h = halted refl (rw (part, q) at h)
-  absent-lists (some a) {x} {e} q h =
-      let g = goes-same (rw (part, q) at h) in
-      let i : record { makers = []; head = n .head; room = n .room } ≡ x .next = ap (λ (y : Part A). y .next) (g .0) in
-      (ap (λ (y : Next). y .head) (sym i), ap (λ (y : Next). y .room) (sym i), sym (g .1), rw (part, q))
-
--- the code's head h in the part s, and the rest of its record
-module _ {A : Type 0} (o : Order) (base : ℕ) (s : List ℕ) (h : At.Head) (body : ℕ → Head → Walk A) where
-  abbrev rest : Walk A
-  rest = body (length s - h .at) (headOf h)
-
-  abbrev after : ℕ → Walk Next
-  after fuel = next fuel (length s - h .at - span (headOf h))
-
-  pub part-found : (fuel code : ℕ) (held : Option A) (n : Next) {x : Part A} {e : ℕ} → h .code ≡ code → Marks o base s h n (base + (h .at + 16)) → see o base s (base + (h .at + 16)) (part fuel code body held n) ≡ goes x e →
-      Owns o base s (base + (h .at + 16)) rest (after fuel) (x .next) e (tell o base s (base + (h .at + 16)) (part fuel code body held n))
-  part-found fuel code held n q m g =
-      part-lists o base s (base + (h .at + 16)) fuel code body n held (headOf h) (length s - h .at) (m .0) (m .1) (eq-eqb (h .code) code q) g
-
--- the row of the record with the code's head h, which stops at q
-pub head-row : (base q : ℕ) (h : At.Head) (code : ℕ) → q ≡ h .at + span (headOf h) → h .code ≡ code →
-    _≡_ {A = Row} (record { start = base + (h .at + 16) - 16; size = span (headOf h); code = h .code; serial = 0 }) (record { start = base + h .at; size = q - h .at; code = code; serial = 0 })
-head-row base q h code d e =
-    let i : base + (h .at + 16) - 16 ≡ base + h .at = omega arith in
-    let j : span (headOf h) ≡ q - h .at = omega arith in
-    rw (i, j, e)
-
--- a 120 and a 140 with the code's head h that stop at q: how long they are, and their rows
-module _ (o : Order) (base : ℕ) (s : List ℕ) (h : At.Head) (fit : h .at ≤ length s) (q : ℕ) (stop : q ≡ h .at + span (headOf h)) where
-  pub channels-found : (c : Basic) (l : List Channel) (e : ℕ) → h .code ≡ 120 → see o base s (base + (h .at + 16)) (channels c (length s - h .at) (headOf h)) ≡ goes l e →
-      (q - h .at ≡ 32 + 256 * numberAt o 4 s (h .at + 16)) ×
-      (tell o base s (base + (h .at + 16)) (channels c (length s - h .at) (headOf h)) ≡ record { start = base + h .at; size = q - h .at; code = 120; serial = 0 } ∷ seriesRows (numberAt o 4 s (h .at + 16)) 1 (base + h .at + 32) 256 125)
-  channels-found c l e d g =
-      let x = channels-lists o base s (h .at + 16) c (length s - h .at) (headOf h) (omega arith) g in
-      let i : base + (h .at + 16 + 16) ≡ base + h .at + 32 = omega arith in
-      (omega (arith, x .0), x .1 ∙ rw (i, head-row base q h 120 stop d))
-
-  pub frames-found : (c : Basic) (own : Bool) (cs : List Channel) (back : ℕ) (f : Frames) (e : ℕ) → h .code ≡ 140 → see o base s (base + (h .at + 16)) (frames c own cs back (length s - h .at) (headOf h)) ≡ goes f e →
-      (24 ≤ numberAt o 4 s (h .at + 20)) × (32 + numberAt o 4 s (h .at + 20) * numberAt o 4 s (h .at + 24) ≤ q - h .at) ×
-      (tell o base s (base + (h .at + 16)) (frames c own cs back (length s - h .at) (headOf h)) ≡ record { start = base + h .at; size = q - h .at; code = 140; serial = 0 } ∷ seriesRows (numberAt o 4 s (h .at + 24)) 1 (base + h .at + 32) (numberAt o 4 s (h .at + 20)) 145)
-  frames-found c own cs back f e d g =
-      let i : base + (h .at + 16 + 16) ≡ base + h .at + 32 = omega arith in
-      let j : h .at + 16 + 4 ≡ h .at + 20 = omega arith in
-      let k : h .at + 16 + 8 ≡ h .at + 24 = omega arith in
-      let x = rw (j, k) at (frames-lists o base s (h .at + 16) c own cs back (length s - h .at) (headOf h) (omega arith) g) in
-      (x .0, omega (arith, x .1, mul-comm (numberAt o 4 s (h .at + 20)) (numberAt o 4 s (h .at + 24))), x .2 ∙ rw (i, head-row base q h 140 stop d))
 
 -- a 140 whose head is not admitted
 pub frames-refused : (o : Order) (b : ℕ) (s : List ℕ) (c : Basic) (own : Bool) (cs : List Channel) (back at room : ℕ) (h : Head) {m q : ℕ} {f : Frames} {e : ℕ} →

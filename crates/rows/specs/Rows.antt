@@ -12,9 +12,6 @@ use Rattle.words.specs.Numbers.{numberAt}
 use Rattle.words.specs.Values.{signed}
 use Rattle.words.specs.declared.Order.{Order}
 use Rattle.walk.specs.Walk.{pick, Row}
-use Rattle.rules.specs.Rules as R
-use Rattle.rules.specs.declared.Head.{Head}
-use Rattle.records.specs.Says.{headOf}
 use Rattle.children.specs.Recordings.{OfBody, OfRecording, OfFile}
 
 -- the four signed numbers of a row: position, length, code, serial
@@ -131,7 +128,3 @@ pub record RecordingListed (o : Order) (s : List ℕ) (p q : ℕ) (write : Bool)
 pub record FileListed (o : Order) (s : List ℕ) (count : ℕ) (write : Bool) (out out′ : List ℤ) (k′ : ℕ) : Type 0 where
   pub reaches : k′ ≤ length s
   pub wrote : OfFile o s count (Wrote write out out′ 0 k′)
-
--- the code's head is the one that the walk came to in the part s at b, and the walk goes on behind it
-abbrev pub Marks : Order → ℕ → List ℕ → Head → R.Next → ℕ → Type 0
-Marks o b s h n e = (n .head ≡ headOf h) × (n .room ≡ length s - h .at) × (h .at + 16 ≤ length s) × (e ≡ b + (h .at + 16))

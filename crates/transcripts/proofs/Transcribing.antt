@@ -3,7 +3,6 @@
 use mathlib.Core.Path.{_≡_, refl, sym, ap, _∙_}
 use mathlib.Core.Bool.{Bool, true}
 use mathlib.Core.List.{List, [], _∷_, _++_, append-assoc, append-nil}
-use mathlib.Core.Option.{Option}
 use Prim.Native.Nat.{ℕ, _+_, _-_, _*_, _≤_, _<_}
 use native.Mathlib.Omega.{arith}
 use borrow.Author.Tests.{leb-true, eqb-true}
@@ -17,40 +16,60 @@ use Rattle.walk.specs.Walk.{Padding, laid, Walk, text, _>>=_, _>>_}
 use Rattle.walk.proofs.Laid.{laid-padding}
 use Rattle.walk.proofs.Seen.{and-left, stays-goes, see-body, body-length}
 use Rattle.walk.proofs.Tracing.{written-append, written-none, written-row, written-piece}
-use Rattle.rules.specs.Rules.{Head, Basic, Channel, Held, Placed, head, admit, span, zeros, padding, basicBody, channels, channelsBody, items, itemsBody, patientCode, eventCode, frames, makerCode, delimiter, recordingBody}
+use Rattle.rules.specs.Rules.{Head, Basic, Channel, head, admit, span, zeros, padding, numberList, basicBody, channels, channelsBody, items, itemsBody, patientCode, eventCode, frames, makerCode, delimiter}
 use Rattle.rules.specs.declared.Head as At
 use Rattle.rules.proofs.Room.{stays-basicBody, stays-channelsBody, stays-itemsBody}
 use Rattle.records.specs.Says.{headOf}
 use Rattle.records.proofs.Opened.{admit-went}
-use Rattle.children.specs.Children.{Said, said, _then_, Known, knownOf, Reads, heading, Inner, is100, is120, is130, is200, is140, isMaker, Chain, RecordAt, Closed}
-use Rattle.children.proofs.Chained.{body-chain}
-use Rattle.children.proofs.Visiting.{chain-parted}
+use Rattle.children.specs.Children.{Said, said, _then_, Known, Reads, Inner, is100, is120, is130, is200, is140, isMaker, Links, Parted, Closed}
 use Rattle.rows.proofs.Lists.{channelsBody-lists}
 use Rattle.bodies.specs.Copy.{copy, Pastes}
 use Rattle.bodies.specs.declared.Way.{Way}
-use Rattle.bodies.proofs.Copying.{copy-body, length-copy, pastes-join, pastes-nothing}
-use Rattle.bodies.proofs.Pieces.{text-whole}
-use Rattle.transcripts.specs.Transcript.{anew, Anew, Itemized, Bodied, Copied, Transcribed}
-use Rattle.transcripts.proofs.Onward.{copy-admit, pastes-whole, pastes-full}
+use Rattle.bodies.proofs.Copying.{copy-admit, copy-body, length-copy, pastes-join, pastes-nothing, pastes-whole, pastes-full}
+use Rattle.bodies.proofs.Pieces.{Takes, copy-within, length-within, text-whole}
+use Rattle.transcripts.specs.Transcript.{anew, Anew, Itemized, Bodied, Transcribed}
 
 pub anew-then : (w : Way) (x y : Said) → anew w (x then y) ≡ anew w x ++ anew w y
 unfolding _then_
 anew-then w x y = written-append (w .keep) (w .to) (x .events) (y .events)
 
+-- a head is four numbers
+takes-head : (room : ℕ) → Takes 16 (head room)
+unfolding head _>>=_ _>>_
+takes-head room at = λ _ _ _ _. omega arith
+
+module _ (w : Way) (b : ℕ) (s : List ℕ) (p room : ℕ) (fit : p + 16 ≤ length s) (out : List ℕ) (k : ℕ) where
+  head-length : length (copy w b s (b + p) (head room)) ≡ 16
+  head-length = length-within w b s 16 (head room) (takes-head room) (b + p) (omega arith) (omega arith)
+
+  pub head-written : (ys : List ℕ) → ys ≡ copy w (b + p) (take (p + 16 - p) (drop p s)) (b + p) (numberList 4 4) → Pastes out (take k out ++ (ys ++ drop (k + 16 - k) (drop k out))) k (k + 16) (copy w b s (b + p) (head room))
+  unfolding head numberList trace _>>=_ _>>_
+  head-written ys same =
+      let n : p + 16 - p ≡ 16 = omega arith in
+      pastes-whole out ys _ k (k + 16) (same ∙ (ap (λ (m : ℕ). copy w (b + p) (take m (drop p s)) (b + p) (numberList 4 4)) n ∙ copy-within w b s 16 (head room) (takes-head room) p)) (ap (λ (n : ℕ). k + n) (sym head-length))
+
+  pub head-full : length out - k < 16 → Pastes out out k k (copy w b s (b + p) (head room))
+  head-full full = pastes-full out out k k _ (rw head-length full)
+
 -- what the walk v says behind the head of a record at byte p, which ends at q: it reads the same in the body alone, and as many bytes are written
 pub record Behind {A : Type 0} (w : Way) (b : ℕ) (s : List ℕ) (p q : ℕ) (v : Walk A) (l : Said) (a : A) (e : ℕ) : Type 0 where
   pub reads : see (w .from) (b + p + 16) (take (q - (p + 16)) (drop (p + 16) s)) (b + p + 16) v ≡ goes a e
-  pub is : copy w (b + p + 16) (take (q - (p + 16)) (drop (p + 16) s)) (b + p + 16) v ≡ anew w l
-  pub long : length (anew w l) ≡ q - (p + 16)
+  pub is : anew w l ≡ copy w b s (b + p) (head (length s - p)) ++ copy w (b + p + 16) (take (q - (p + 16)) (drop (p + 16) s)) (b + p + 16) v
+  pub long : length (copy w (b + p + 16) (take (q - (p + 16)) (drop (p + 16) s)) (b + p + 16) v) ≡ q - (p + 16)
 
 module _ (w : Way) (b : ℕ) (s : List ℕ) (p q : ℕ) (h : Head) (stop : q ≡ p + span h) (least : p + 16 ≤ q) (inside : q ≤ length s) where
+  abbrev from : ℕ
+  from = b + p + 16
+
+  abbrev body : List ℕ
+  body = take (q - (p + 16)) (drop (p + 16) s)
+
   -- a head that is admitted, and the walk v
   pub behind : {A : Type 0} (most : ℕ) (fits serial : ℕ → Bool) (v : Walk A) → (fits (span h) ≡ true → (at : ℕ) → Stays (at + (span h - 16)) at v (λ _ e. e ≡ at + (span h - 16))) →
       {l : Said} (r : Reads (w .from) b s p (admit (length s - p) most fits serial h >> v) l) → Behind w b s p q v l (r .value) (r .end)
   unfolding said
   behind most fits serial v stays {l} r =
       let at : ℕ = b + (p + 16) in
-      let from : ℕ = b + p + 16 in
       let d = admit-went (w .from) b s at (length s - p) most fits serial h v (r .is) in
       let z : from + (span h - 16) ≡ b + q = omega arith in
       let t = rw z at (stays (d .length) from) in
@@ -58,32 +77,32 @@ module _ (w : Way) (b : ℕ) (s : List ℕ) (p q : ℕ) (h : Head) (stop : q ≡
       let g : see (w .from) b s from v ≡ goes (r .value) (r .end) = rw i at (d .rest) in
       let n = length-copy w b s (b + q) (omega arith) v from _ (omega arith) t g in
       let u = stays-goes (w .from) b s (b + q) (omega arith) v from _ (omega arith) t g in
-      let c : anew w l ≡ copy w b s at v = ap (anew w) (r .says) ∙ copy-admit w b s at (length s - p) most fits serial h v in
+      let c : copy w from body from v ≡ copy w b s at v = copy-body w b p q s v _ least inside t (d .rest) in
       record {
         reads = see-body (w .from) b p q s v _ least inside t ∙ d .rest;
-        is = copy-body w b p q s v _ least inside t (d .rest) ∙ sym c;
+        is = ap (anew w) (r .says) ∙ (anew-then w _ _ ∙ ap (λ (l : List ℕ). copy w b s (b + p) (head (length s - p)) ++ l) (copy-admit w b s at (length s - p) most fits serial h v ∙ sym c));
         long = ap length c ∙ (ap (λ (x : ℕ). length (copy w b s x v)) i ∙ omega (arith, n, u));
       }
 
-  abbrev from : ℕ
-  from = b + p + 16
+  -- a record of a recording, but no 140: the bytes that are written of it behind its head, and that a body written by its code is these
+  pub record Told (l : Said) : Type 0 where
+    pub bytes : List ℕ
+    pub is : anew w l ≡ copy w b s (b + p) (head (length s - p)) ++ bytes
+    pub long : length bytes ≡ q - (p + 16)
+    pub body : (d : List ℕ) → Bodied w (h .code) body d → d ≡ bytes
 
-  abbrev body : List ℕ
-  body = take (q - (p + 16)) (drop (p + 16) s)
-
-  -- a record of a recording, but no 140: how many bytes are written of it behind its head, and that a body written by its code is what it says
-  abbrev pub Told : Said → Type 0
-  Told l = (length (anew w l) ≡ q - (p + 16)) × ((d : List ℕ) → Bodied w (h .code) body d → d ≡ anew w l)
+  told : {A : Type 0} {v : Walk A} {l : Said} {a : A} {e : ℕ} → Behind w b s p q v l a e → ((d : List ℕ) → Bodied w (h .code) body d → d ≡ copy w from body from v) → Told l
+  told z f = record { bytes = _; is = z .is; long = z .long; body = f }
 
   body-span : 16 + length body ≡ span h
   body-span = body-length p q s least inside ∙ omega arith
 
-  items-told : (ok : ℕ → Bool) {l : Said} → Reads (w .from) b s p (items ok (length s - p) h) l → (length (anew w l) ≡ q - (p + 16)) × ((d : List ℕ) → Itemized w body d → d ≡ anew w l)
+  items-told : (ok : ℕ → Bool) {l : Said} → ((d : List ℕ) → Bodied w (h .code) body d → Itemized w body d) → Reads (w .from) b s p (items ok (length s - p) h) l → Told l
   unfolding items
-  items-told ok r =
-      let f = leb-true 24 (span h) (admit-went (w .from) b s (b + (p + 16)) (length s - p) 0 (leb 24) (eqb 0) h (itemsBody ok (span h)) (r .is) .length) in
+  items-told ok f r =
+      let n = leb-true 24 (span h) (admit-went (w .from) b s (b + (p + 16)) (length s - p) 0 (leb 24) (eqb 0) h (itemsBody ok (span h)) (r .is) .length) in
       let z = behind 0 (leb 24) (eqb 0) (itemsBody ok (span h)) (λ e at. stays-itemsBody ok (span h) at (leb-true 24 (span h) e)) r in
-      (z .long, λ d y. (rw body-span at (y (omega (arith, body-span)) ok from)) (r .value) (r .end) (z .reads) ∙ z .is)
+      told z (λ d y. (rw body-span at (f d y (omega (arith, body-span)) ok from)) (r .value) (r .end) (z .reads))
 
   pub inner-told : {k : Known} {l : Said} → Inner (w .from) b s p k h l → (h .code ≡ 140 → ⊥) → Told l
   unfolding channels
@@ -91,16 +110,16 @@ module _ (w : Way) (b : ℕ) (s : List ℕ) (p q : ℕ) (h : Head) (stop : q ≡
       let f = eqb-true 128 (span h) (admit-went (w .from) b s (b + (p + 16)) (length s - p) 0 (eqb 128) (eqb 0) h basicBody (r .is) .length) in
       let j : (at : ℕ) → at + (span h - 16) ≡ at + 112 = λ at. omega arith in
       let z = behind 0 (eqb 128) (eqb 0) basicBody (λ _ at. rw (j at) (stays-basicBody at (at + 112) (omega arith))) r in
-      (z .long, λ d y. y .basic c (omega (arith, body-span)) from (r .value) (r .end) (z .reads) ∙ z .is)
+      told z (λ d y. y .basic c (omega (arith, body-span)) from (r .value) (r .end) (z .reads))
   inner-told {k} (is120 c r) n =
       let z = behind 0 (leb 32) (eqb 0) (channelsBody (k .basic) (span h)) (λ e at. stays-channelsBody (k .basic) (span h) at (leb-true 32 (span h) e)) r in
-      (z .long, λ d y. (rw body-span at (y .channels c (k .basic) from)) (r .value) (r .end) (z .reads) ∙ z .is)
-  inner-told (is130 c r) n = let z = items-told patientCode r in (z .0, λ d y. z .1 d (y .patient c))
-  inner-told (is200 c r) n = let z = items-told eventCode r in (z .0, λ d y. z .1 d (y .events c))
+      told z (λ d y. (rw body-span at (y .channels c (k .basic) from)) (r .value) (r .end) (z .reads))
+  inner-told (is130 c r) n = items-told patientCode (λ d y. y .patient c) r
+  inner-told (is200 c r) n = items-told eventCode (λ d y. y .events c) r
   inner-told (is140 c r) n = absurd (n c)
   inner-told (isMaker c r) n =
       let z = behind 128 (leb 16) (λ _. true) (text (span h - 16)) (λ _ at. (omega arith, λ _ _. refl)) r in
-      (z .long, λ d y. y .maker c ∙ (text-whole w from body (span h - 16) (omega (arith, body-span)) ∙ z .is))
+      told z (λ d y. y .maker c ∙ text-whole w from body (span h - 16) (omega (arith, body-span)))
 
 maker-high : (code : ℕ) → makerCode code ≡ true → 1024 ≤ code
 unfolding makerCode
@@ -114,11 +133,6 @@ inner-140 (is130 c r) e = absurd (omega arith)
 inner-140 (is200 c r) e = absurd (omega arith)
 inner-140 (is140 c r) e = r
 inner-140 {h} (isMaker c r) e = absurd (omega (arith, maker-high (h .code) c))
-
--- a record whose head is written, and then its rest
-pub record-copied : (w : Way) (b : ℕ) (s : List ℕ) (p : ℕ) (l : Said) (out out₁ out₂ : List ℕ) (k k₁ k₂ : ℕ) → ((b room : ℕ) → Pastes out out₁ k k₁ (copy w b s (b + p) (head room))) → Pastes out₁ out₂ k₁ k₂ (anew w l) → Copied w b s p l out out₂ k k₂
-unfolding said
-record-copied w b s p l out out₁ out₂ k k₁ k₂ headed rest = rw (anew-then w (heading (w .from) b s p) l) (pastes-join out out₁ out₂ k k₁ k₂ _ (anew w l) (headed b (length s - p)) rest)
 
 -- the body d of a record by its code, from what the code wrote of it
 module _ (w : Way) (code : ℕ) (s d : List ℕ) where
@@ -147,7 +161,9 @@ module _ (w : Way) (s : List ℕ) (h : At.Head) (q : ℕ) (least : h .at + 16 �
   transcribed-full fit full =
       record {
         inside = fit;
-        wrote = λ b known l stop other i. record-copied w b s (h .at) l out out₁ out₁ k k₁ k₁ headed (pastes-full out₁ out₁ k₁ k₁ (anew w l) (rw (inner-told w b s (h .at) q (headOf h) stop least inside i other .0) full));
+        wrote = λ b known l stop other i.
+            let z = inner-told w b s (h .at) q (headOf h) stop least inside i other in
+            rw (z .is) (pastes-join out out₁ out₁ k k₁ k₁ _ _ (headed b (length s - h .at)) (pastes-full out₁ out₁ k₁ k₁ (z .bytes) (rw (z .long) full)));
       }
 
   pub transcribed : (ys : List ℕ) → k₁ + (q - (h .at + 16)) ≤ length out₁ → Bodied w (h .code) (take (q - (h .at + 16)) (drop (h .at + 16) s)) ys →
@@ -157,37 +173,32 @@ module _ (w : Way) (s : List ℕ) (h : At.Head) (q : ℕ) (least : h .at + 16 �
         inside = omega arith;
         wrote = λ b known l stop other i.
             let z = inner-told w b s (h .at) q (headOf h) stop least inside i other in
-            record-copied w b s (h .at) l out out₁ _ k k₁ _ headed (pastes-whole out₁ ys (anew w l) k₁ _ (z .1 ys y) (ap (λ (n : ℕ). k₁ + n) (sym (z .0))));
+            rw (z .is) (pastes-join out out₁ _ k k₁ _ _ _ (headed b (length s - h .at)) (pastes-whole out₁ ys (z .bytes) k₁ _ (z .body ys y) (ap (λ (n : ℕ). k₁ + n) (sym (z .long)))));
       }
 
--- the records up to byte p are written, of all that a recording's body says
-pub record Copying (w : Way) (b : ℕ) (s : List ℕ) (known : Known) (out out₁ : List ℕ) (k k₁ p : ℕ) (all : List ℕ) : Type 0 where
+-- of all bytes, those of the records up to byte p are written; the links C are those from there on, and each comes to some bytes
+pub record Copying {X : Type 0} (bytes : X → List ℕ) (C : ℕ → X → Type 0) (out out₁ : List ℕ) (k k₁ p : ℕ) (all : List ℕ) : Type 0 where
   pub done : List ℕ
-  pub left : Said
-  pub chain : Chain (w .from) b s known p left
-  pub is : all ≡ done ++ anew w left
+  pub left : X
+  pub links : C p left
+  pub is : all ≡ done ++ bytes left
   pub wrote : Pastes out out₁ k k₁ done
 
-module _ {w : Way} {b : ℕ} {s : List ℕ} {out : List ℕ} {k : ℕ} where
-  pub copying-none : (held : Option Held) (h : Head) (x : Placed) (e : ℕ) → span h ≡ 16 + length s → see (w .from) b s b (recordingBody held h) ≡ goes x e → Copying w b s (knownOf x) out out k k 0 (copy w b s b (recordingBody held h))
-  unfolding said
-  copying-none held h x e n g = record { done = []; left = said (w .from) b s b (recordingBody held h); chain = body-chain (w .from) b s held h n g; is = refl; wrote = pastes-nothing out k }
+pub copying-none : {X : Type 0} {bytes : X → List ℕ} {C : ℕ → X → Type 0} {out : List ℕ} {k : ℕ} (x : X) → C 0 x → Copying bytes C out out k k 0 (bytes x)
+copying-none {out} {k} x c = record { done = []; left = x; links = c; is = refl; wrote = pastes-nothing out k }
 
-  module _ {known : Known} {out₁ : List ℕ} {k₁ p : ℕ} {all : List ℕ} (g : Copying w b s known out out₁ k k₁ p all) where
-    -- one record more, with the head h and up to q
-    pub copying-more : {out₂ : List ℕ} {k₂ : ℕ} {h : At.Head} {q : ℕ} (v : RecordAt (w .from) b s p h q) → ((l : Said) → q ≡ h .at + span (headOf h) → Inner (w .from) b s (h .at) known (headOf h) l → Copied w b s (h .at) l out₁ out₂ k₁ k₂) → Copying w b s known out out₂ k k₂ q all
-    copying-more {out₂} {k₂} v wrote =
-        let d = chain-parted (w .from) b s v (g .chain) in
-        let xs : List ℕ = anew w (heading (w .from) b s p) in
-        let i : anew w (g .left) ≡ anew w (heading (w .from) b s p then d .own) ++ anew w (d .rest) =
-        ap (anew w) (d .is) ∙ (anew-then w (heading (w .from) b s p) (d .own then d .rest) ∙ (ap (λ (l : List ℕ). xs ++ l) (anew-then w (d .own) (d .rest)) ∙ (sym (append-assoc xs (anew w (d .own)) (anew w (d .rest))) ∙ ap (λ (l : List ℕ). l ++ anew w (d .rest)) (sym (anew-then w (heading (w .from) b s p) (d .own)))))) in
-        record {
-          done = g .done ++ anew w (heading (w .from) b s p then d .own);
-          left = d .rest;
-          chain = d .on;
-          is = g .is ∙ (ap (λ (l : List ℕ). g .done ++ l) i ∙ sym (append-assoc (g .done) _ _));
-          wrote = pastes-join out out₁ out₂ k k₁ k₂ (g .done) _ (g .wrote) ((rw (v .place) at wrote) (d .own) (v .ends) (d .inner));
-        }
+-- one record more, with the head h and up to q
+module _ {o : Order} {b : ℕ} {s : List ℕ} {X : Type 0} {bytes : X → List ℕ} {join : X → X → X} {I : ℕ → Head → X → Type 0} {E : ℕ → X → Type 0} {out out₁ : List ℕ} {k k₁ p : ℕ} {all : List ℕ} where
+  pub copying-more : (g : Copying bytes (Links o b s join I E) out out₁ k k₁ p all) → ((x y : X) → bytes (join x y) ≡ bytes x ++ bytes y) → {h : Head} {q : ℕ} (d : Parted o b s join I E p h q (g .left)) →
+      (out₂ : List ℕ) (k₂ : ℕ) → Pastes out₁ out₂ k₁ k₂ (bytes (d .own)) → Copying bytes (Links o b s join I E) out out₂ k k₂ q all
+  copying-more g joined d out₂ k₂ wrote =
+      record {
+        done = g .done ++ bytes (d .own);
+        left = d .rest;
+        links = d .on;
+        is = g .is ∙ (ap (λ (x : X). g .done ++ bytes x) (d .is) ∙ (ap (λ (l : List ℕ). g .done ++ l) (joined (d .own) (d .rest)) ∙ sym (append-assoc (g .done) _ _)));
+        wrote = pastes-join out out₁ out₂ k k₁ k₂ (g .done) _ (g .wrote) wrote;
+      }
 
 trace-zeros : (o : Order) (b : ℕ) (s : List ℕ) (at : ℕ) (bs : List ℕ) → trace o b s at (zeros bs) ≡ []
 unfolding zeros trace

@@ -8,10 +8,10 @@ use lib.ListN.{length}
 use Rattle.walk.specs.See.{goes, see}
 use Rattle.walk.specs.Trace.{written}
 use Rattle.walk.specs.Walk.{Walk}
-use Rattle.rules.specs.Rules.{Basic, Channel, Item, span, basicBody, channelsBody, itemsBody, makerCode}
+use Rattle.rules.specs.Rules.{Basic, span, basicBody, channelsBody, itemsBody, makerCode}
 use Rattle.rules.specs.declared.Head.{Head}
 use Rattle.records.specs.Says.{headOf}
-use Rattle.children.specs.Children.{Said, _then_, Known, heading, Inner}
+use Rattle.children.specs.Children.{Said, Known, Inner}
 use Rattle.bodies.specs.Copy.{copy, Pastes}
 use Rattle.bodies.specs.declared.Way.{Way}
 
@@ -35,11 +35,11 @@ pub record Bodied (w : Way) (code : ℕ) (s d : List ℕ) : Type 0 where
   pub events : code ≡ 200 → Itemized w s d
   pub maker : makerCode code ≡ true → d ≡ s
 
--- all that a record at byte p of the part s says, l behind its head, is written from k on, where there is room, and the next bytes go at k′
-abbrev pub Copied : Way → ℕ → List ℕ → ℕ → Said → List ℕ → List ℕ → ℕ → ℕ → Type 0
-Copied w b s p l out out′ k k′ = Pastes out out′ k k′ (anew w (heading (w .from) b s p then l))
+-- all that a record says is written from k on, where there is room, and the next bytes go at k′
+abbrev pub Copied : Way → Said → List ℕ → List ℕ → ℕ → ℕ → Type 0
+Copied w l out out′ k k′ = Pastes out out′ k k′ (anew w l)
 
 -- the record with the code's head h, which ends at byte q, if it stands in a recording and is no 140
 pub record Transcribed (w : Way) (s : List ℕ) (h : Head) (q : ℕ) (out out′ : List ℕ) (k k′ : ℕ) : Type 0 where
   pub inside : k′ ≤ length out
-  pub wrote : (b : ℕ) (known : Known) (l : Said) → q ≡ h .at + span (headOf h) → (h .code ≡ 140 → ⊥) → Inner (w .from) b s (h .at) known (headOf h) l → Copied w b s (h .at) l out out′ k k′
+  pub wrote : (b : ℕ) (known : Known) (l : Said) → q ≡ h .at + span (headOf h) → (h .code ≡ 140 → ⊥) → Inner (w .from) b s (h .at) known (headOf h) l → Copied w l out out′ k k′

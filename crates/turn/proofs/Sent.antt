@@ -29,8 +29,9 @@ use Rattle.rules.specs.declared.Channels.{Channels}
 use Rattle.rules.specs.declared.Head.{Head}
 use Rattle.rules.proofs.Room.{stays-recordingBody, stays-recording}
 use Rattle.records.specs.Says.{headOf}
-use Rattle.children.specs.Children.{Known, NoRecord}
-use Rattle.children.proofs.Visiting.{chain-closed}
+use Rattle.children.specs.Children.{Said, said, Known, knownOf, Inner, Chain, RecordAt, NoRecord}
+use Rattle.children.proofs.Chained.{body-chain}
+use Rattle.children.proofs.Visiting.{chain-parted, chain-closed}
 use Rattle.descriptions.specs.Tabled.{Stand, HeldAs}
 use Rattle.descriptions.specs.declared.Before.{Before}
 use Rattle.descriptions.specs.declared.Before.the-variants as Before
@@ -41,10 +42,9 @@ use Rattle.children.proofs.Recordings.{Begun, begun, led-events}
 use Rattle.rows.proofs.Body.{closed-inside}
 use Rattle.bodies.specs.Copy.{copy, Pastes, Holds}
 use Rattle.bodies.specs.declared.Way.{Way}
-use Rattle.bodies.proofs.Copying.{copy-bind, copy-part, length-copy, holds-join}
-use Rattle.transcripts.proofs.Onward.{copy-admit}
-use Rattle.transcripts.specs.Transcript.{Transcribed}
-use Rattle.transcripts.proofs.Transcribing.{inner-140, Copying, closed-bytes}
+use Rattle.bodies.proofs.Copying.{copy-bind, copy-admit, copy-part, length-copy, holds-join}
+use Rattle.transcripts.specs.Transcript.{anew, Copied, Transcribed}
+use Rattle.transcripts.proofs.Transcribing.{inner-140, anew-then, Copying, copying-none, copying-more, closed-bytes}
 use Rattle.turn.specs.Turn.{Subs, FramesSent, ChildSent, LastSent}
 use Rattle.turn.proofs.Turning.{filled-first, read-part, copy-require}
 
@@ -56,12 +56,25 @@ module _ (w : Way) (file : List ℕ) (cs : Channels) (s : List ℕ) (h : Head) (
   pub child-other : (h .code ≡ 140 → ⊥) → Transcribed w s h q out out′ k k′ → ChildSent w file cs s h q out out′ k k′
   child-other other x = record { inside = x .inside; wrote = λ b known l stop subs i. x .wrote b known l stop other i }
 
--- the delimiter is written behind the records of a body, and the bytes behind it
-pub copying-last : {w : Way} {b : ℕ} {s : List ℕ} {known : Known} {out out₁ : List ℕ} {k k₁ p : ℕ} {all : List ℕ} (out₂ : List ℕ) → Copying w b s known out out₁ k k₁ p all → p ≤ length s →
-    NoRecord (w .from) b s p → LastSent w s p out₁ out₂ k₁ → Holds out out₂ k all
-copying-last {w} {b} {s} {known} {out} {out₁} {k} {k₁} {p} out₂ g fit ends last =
-    let c = chain-closed (w .from) b s ends (g .chain) in
-    rw (g .is, closed-bytes w b s p fit c) (holds-join out out₁ out₂ k k₁ k₁ (g .done) _ (g .wrote) (last (closed-inside (w .from) b s p fit c) b (length s - p)))
+-- the records of a body that the walk accepted as x, written up to byte p
+pub record SentUpTo (w : Way) (b : ℕ) (s : List ℕ) (known : Known) (out out₁ : List ℕ) (k k₁ p : ℕ) (all : List ℕ) : Type 0 where
+  pub sent : Copying (anew w) (Chain (w .from) b s known) out out₁ k k₁ p all
+
+module _ {w : Way} {b : ℕ} {s out : List ℕ} {k : ℕ} where
+  pub sent-none : (held : Option R.Held) (h : R.Head) (x : R.Placed) (e : ℕ) → span h ≡ 16 + length s → see (w .from) b s b (recordingBody held h) ≡ goes x e → SentUpTo w b s (knownOf x) out out k k 0 (copy w b s b (recordingBody held h))
+  unfolding said
+  sent-none held h x e n g = record { sent = copying-none (said (w .from) b s b (recordingBody held h)) (body-chain (w .from) b s held h n g) }
+
+  module _ {known : Known} {out₁ : List ℕ} {k₁ p : ℕ} {all : List ℕ} (out₂ : List ℕ) (g : SentUpTo w b s known out out₁ k k₁ p all) where
+    -- one more, with the head h and up to q
+    pub sent-more : (k₂ : ℕ) {h : Head} {q : ℕ} (v : RecordAt (w .from) b s p h q) → ((l : Said) → q ≡ h .at + span (headOf h) → Inner (w .from) b s (h .at) known (headOf h) l → Copied w l out₁ out₂ k₁ k₂) → SentUpTo w b s known out out₂ k k₂ q all
+    sent-more k₂ v wrote = let d = chain-parted (w .from) b s v (g .sent .links) in record { sent = copying-more (g .sent) (anew-then w) d out₂ k₂ ((rw (v .place) at wrote) (d .own) (v .ends) (d .inner)) }
+
+    -- the delimiter, and the bytes behind it
+    pub sent-last : p ≤ length s → NoRecord (w .from) b s p → LastSent w s p out₁ out₂ k₁ → Holds out out₂ k all
+    sent-last fit ends last =
+        let c = chain-closed (w .from) b s ends (g .sent .links) in
+        rw (g .sent .is, closed-bytes w b s p fit c) (holds-join out out₁ out₂ k k₁ k₁ (g .sent .done) _ (g .sent .wrote) (last (closed-inside (w .from) b s p fit c) b (length s - p)))
 
 -- the bytes of a recording that the walk accepted: those of its head, and of its body
 begun-bytes : (w : Way) (s : List ℕ) (p : ℕ) (held : Option R.Held) (i : ℕ) {x : R.Placed} {e : ℕ} (v : Begun (w .from) s p held i x e) →

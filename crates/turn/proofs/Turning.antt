@@ -32,9 +32,9 @@ use Rattle.signals.proofs.FramesBody.{size-fits}
 use Rattle.records.proofs.Opened.{admit-went, require-went}
 use Rattle.bodies.specs.Copy.{copy, filling, Pastes}
 use Rattle.bodies.specs.declared.Way.{Way}
-use Rattle.bodies.proofs.Copying.{copy-give, copy-part, length-copy}
+use Rattle.bodies.proofs.Copying.{copy-give, copy-part, length-copy, pastes-join}
 use Rattle.transcripts.specs.Transcript.{anew}
-use Rattle.transcripts.proofs.Transcribing.{behind, padding-stands, record-copied}
+use Rattle.transcripts.proofs.Transcribing.{behind, padding-stands}
 use Rattle.turn.specs.Turn.{FramesSent}
 
 -- bytes written front to back: the first of them, and a part behind what stands
@@ -362,13 +362,13 @@ module _ (w : Way) (b : ℕ) (s : List ℕ) (p q : ℕ) (h : Head) (stop : q ≡
       omega arith
 
   pub frames-in : {l : Said} (r : Reads (w .from) b s p (frames c own cs back (length s - p) h) l) →
-      (span h ≡ 16 + length body) × (see (w .from) from body from (framesBody c cs h) ≡ goes (r .value) (r .end)) × (copy w from body from (framesBody c cs h) ≡ anew w l)
+      (span h ≡ 16 + length body) × (see (w .from) from body from (framesBody c cs h) ≡ goes (r .value) (r .end)) × (anew w l ≡ copy w b s (b + p) (head (length s - p)) ++ copy w from body from (framesBody c cs h))
   unfolding frames
   frames-in r =
       let v : Walk Frames = require counted 14 back >> framesBody c cs h in
       let z = behind w b s p q h stop least inside 128 (leb 32) (eqb 0) v (λ e at. stays-require counted 14 back (framesBody c cs h) _ at _ refl (λ _. stays-framesBody c cs h at (leb-true 32 (span h) e))) r in
       let t = require-went (w .from) from body from counted 14 back (framesBody c cs h) (z .reads) in
-      (omega (arith, body-length p q s least inside), t .1, sym (copy-require w from body from counted 14 back (framesBody c cs h)) ∙ z .is)
+      (omega (arith, body-length p q s least inside), t .1, z .is ∙ ap (λ (l : List ℕ). copy w b s (b + p) (head (length s - p)) ++ l) (copy-require w from body from counted 14 back (framesBody c cs h)))
 
 -- the code's part in it: a record that is too short, or its head and then its body
 module _ (w : Way) (file : List ℕ) (at : Channels) (s : List ℕ) (p q : ℕ) (least : p + 16 ≤ q) (inside : q ≤ length s) (out : List ℕ) (k : ℕ) where
@@ -383,5 +383,5 @@ module _ (w : Way) (file : List ℕ) (at : Channels) (s : List ℕ) (p q : ℕ) 
         inside = fit;
         wrote = λ b c own cs back h l stop subs r.
             let t = frames-in w b s p q h stop least inside c own cs back r in
-            record-copied w b s p l out out₁ out₂ k k₁ k₂ headed (rw (t .2) at (body (b + p + 16) c cs h (r .value) (r .end) (subs .many) (subs .kept) (t .0) (t .1)));
+            rw (t .2) (pastes-join out out₁ out₂ k k₁ k₂ _ _ (headed b (length s - p)) (body (b + p + 16) c cs h (r .value) (r .end) (subs .many) (subs .kept) (t .0) (t .1)));
       }

@@ -52,13 +52,13 @@ pub record Subs (o : Order) (file : List ℕ) (cs : Channels) (ch : List R.Chann
 pub record FramesSent (w : Way) (file : List ℕ) (cs : Channels) (s : List ℕ) (p q : ℕ) (out out′ : List ℕ) (k k′ : ℕ) : Type 0 where
   pub inside : k′ ≤ length out
   pub wrote : (b : ℕ) (c : R.Basic) (own : Bool) (ch : List R.Channel) (back : ℕ) (h : R.Head) (l : Said) → q ≡ p + R.span h → Subs (w .from) file cs ch →
-      Reads (w .from) b s p (R.frames c own ch back (length s - p) h) l → Copied w b s p l out out′ k k′
+      Reads (w .from) b s p (R.frames c own ch back (length s - p) h) l → Copied w l out out′ k k′
 
 -- any record that stands in a recording, with the code's head h
 pub record ChildSent (w : Way) (file : List ℕ) (cs : Channels) (s : List ℕ) (h : Head) (q : ℕ) (out out′ : List ℕ) (k k′ : ℕ) : Type 0 where
   pub inside : k′ ≤ length out
   pub wrote : (b : ℕ) (known : Known) (l : Said) → q ≡ h .at + R.span (headOf h) → Subs (w .from) file cs (known .channels) →
-      Inner (w .from) b s (h .at) known (headOf h) l → Copied w b s (h .at) l out out′ k k′
+      Inner (w .from) b s (h .at) known (headOf h) l → Copied w l out out′ k k′
 
 -- the delimiter at byte p and the bytes behind it, as they stand
 abbrev pub LastSent : Way → List ℕ → ℕ → List ℕ → List ℕ → ℕ → Type 0

@@ -159,7 +159,7 @@ module _ (c : tie.After-field3) where
   n = c .field3 .result
 
   module _ (x : R.Placed) (v : Accepted (o f) (base f) (s f) x) (is : 16 + at f ≡ x .layout .at140) where
-    fields : Fields t size n (x .recording .channels) (v .counts) (v .value) (R.span (headOf (h f)))
+    fields : Fields t size n (x .recording .channels) (v .before .basic) (v .value) (R.span (headOf (h f)))
     fields =
         measure-fields v (at f) is (h f) (top f .seen) (top f .stands .0) (q y) (stop y .0) (stop y .1) (stop y .2) t size n (c .before .before .field .ensures .0) (c .before .field2 .ensures .0) (c .field3 .ensures .0)
 

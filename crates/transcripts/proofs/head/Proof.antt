@@ -2,7 +2,7 @@
 use Prim.Native.Nat.{_+_}
 use native.Mathlib.Omega.{arith}
 use denote.Ref.{now}
-use Rattle.transcripts.proofs.Onward.{head-written, head-full}
+use Rattle.transcripts.proofs.Transcribing.{head-written, head-full}
 use borrow.Author.Needs.{needs}
 use Rattle.transcripts.proofs.head.Statement.{statement}
 use Rattle.transcripts.proofs.head.Tie as tie

@@ -1,7 +1,7 @@
 -- `transcripts::text` meets its contract: bytes as they stand, if there is room for them.
 use mathlib.Core.Path.{refl}
 use native.Mathlib.Omega.{arith}
-use Rattle.transcripts.proofs.Onward.{pastes-whole, pastes-full}
+use Rattle.bodies.proofs.Copying.{pastes-whole, pastes-full}
 use borrow.Author.Needs.{needs}
 use Rattle.transcripts.proofs.text.Statement.{statement}
 use Rattle.transcripts.proofs.text.Tie as tie

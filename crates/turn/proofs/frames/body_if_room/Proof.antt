@@ -12,7 +12,7 @@ use Rattle.walk.specs.See.{see, goes}
 use Rattle.rules.specs.Rules as R
 use Rattle.records.proofs.Facts.{both-true}
 use Rattle.bodies.specs.Copy.{copy}
-use Rattle.transcripts.proofs.Onward.{pastes-whole, pastes-full}
+use Rattle.bodies.proofs.Copying.{pastes-whole, pastes-full}
 use Rattle.turn.proofs.Turning.{Framed, framed, framed-length, framed-fits}
 use borrow.Author.Needs.{needs}
 use Rattle.turn.proofs.frames.body_if_room.Statement.{statement}

@@ -10,9 +10,8 @@ use Rattle.rules.specs.Rules.{Held, Head, Placed, span, recordingBody}
 use Rattle.children.specs.Children.{knownOf}
 use Rattle.children.proofs.Visiting.{recorded}
 use Rattle.bodies.specs.Copy.{copy}
-use Rattle.transcripts.proofs.Transcribing.{Copying, copying-none, copying-more}
 use Rattle.turn.specs.Turn.{Subs}
-use Rattle.turn.proofs.Sent.{copying-last}
+use Rattle.turn.proofs.Sent.{SentUpTo, sent-none, sent-more, sent-last}
 use borrow.Author.Needs.{needs}
 use Rattle.turn.proofs.recordings.body.Statement.{statement}
 use Rattle.turn.proofs.recordings.body.Tie as tie
@@ -21,20 +20,20 @@ abbrev Inv-loop : tie.InvT-loop
 Inv-loop w file cs s base out₀ k o p₀ next₀ out p next =
     (p ≤ length s) × (next ≤ length out) × (length out ≡ length out₀) ×
     ((held : Option Held) (h : Head) (x : Placed) (e : ℕ) → span h ≡ 16 + length s → Subs (w .from) file cs (x .recording .channels) → see (w .from) base s base (recordingBody held h) ≡ goes x e →
-    Copying w base s (knownOf x) out₀ out k next p (copy w base s base (recordingBody held h)))
+    SentUpTo w base s (knownOf x) out₀ out k next p (copy w base s base (recordingBody held h)))
 
 abbrev μ-loop : tie.MeasureT-loop
 μ-loop w file cs s base out₀ k o p₀ next₀ out p next = length s - p
 
 loop-holds : tie.Need-loop-holds Inv-loop μ-loop
-loop-holds c = (omega arith, search needs, refl, λ held h x e n m g. copying-none held h x e n g)
+loop-holds c = (omega arith, search needs, refl, λ held h x e n m g. sent-none held h x e n g)
 
 returns : tie.Need-returns Inv-loop μ-loop
 returns c =
     let y = c .before .before .before .before in
     let w = y .before .before .before .loop .inv in
     let v = rw (y .enum-told .given .1) at (y .before .before .record-at .ensures) in
-    λ held h x e n m g. copying-last _ (w .3 held h x e n m g) (w .0) v (c .before .before .last .ensures)
+    λ held h x e n m g. sent-last _ (w .3 held h x e n m g) (w .0) v (c .before .before .last .ensures)
 
 child-requires : tie.Need-child-requires Inv-loop μ-loop
 child-requires c κs =
@@ -54,7 +53,7 @@ loop-again c =
     let w = y .before .before .before .loop .inv in
     let v = recorded (y .there .given .1) (y .before .before .record-at .ensures) in
     let d = c .before .before .child .ensures in
-    (v .inside, omega (arith, d .inside), search needs, λ held h x e n m g. copying-more (w .3 held h x e n m g) v (λ l stop i. d .wrote _ (knownOf x) l stop m i))
+    (v .inside, omega (arith, d .inside), search needs, λ held h x e n m g. sent-more _ (w .3 held h x e n m g) _ v (λ l stop i. d .wrote _ (knownOf x) l stop m i))
 
 pub body-spec : {M : Type 1} → statement M
 body-spec =
