@@ -3,13 +3,13 @@
 use mathlib.Core.Path.{_≡_, refl, sym, ap, _∙_}
 use mathlib.Core.Bool.{false, _||_}
 use mathlib.Core.List.{List, _++_, append-assoc, append-cancel-right}
-use Prim.Native.Nat.{ℕ, _+_, _-_, _≤_}
+use Prim.Native.Nat.{ℕ, _+_, _-_, _≤_, _<_}
 use native.Mathlib.Omega.{arith}
 use borrow.Author.Tests.{leb-true}
 use lib.Dec.{leb, eqb}
 use lib.ListN.{length, take, drop, replicate, length-append, length-drop, replicate-append-replicate}
 use lib.Seq.{length-take-le}
-use Rattle.words.specs.Numbers.{Bytes, bytesIn}
+use Rattle.words.specs.Numbers.{Bytes, ordered, bytesOf, bytesIn}
 use Rattle.words.specs.declared.Order.{Order}
 use Rattle.words.specs.declared.Order.the-variants.{Little, Big}
 use Rattle.words.proofs.Fronts.{put, front-all}
@@ -20,7 +20,7 @@ use Rattle.walk.proofs.Laws.{length-render}
 use Rattle.walk.proofs.Seen.{body-length}
 use Rattle.walk.proofs.Tracing.{render-append, written-none}
 use Rattle.walk.proofs.Went.{goes-same}
-use Rattle.rules.specs.Canonical.{numerals, recordOf, framesHead, framesWritten, makerEvents, delimiterEvents, content, recordingHead}
+use Rattle.rules.specs.Canonical.{numerals, framesHead, framesWritten, makerEvents, delimiterEvents, content, recordingHead}
 use Rattle.rules.specs.Rules.{Head, Next, head, span, framesBody, frames, next, Recording, Placed, descriptions}
 use Rattle.rules.specs.declared.Channels.{Channels}
 use Rattle.rules.specs.declared.Head as At
@@ -28,10 +28,10 @@ use Rattle.rules.proofs.Renew.{record-size}
 use Rattle.rules.proofs.Sized.{sized}
 use Rattle.records.specs.Says.{headOf}
 use Rattle.records.proofs.Opened.{admit-went}
-use Rattle.children.specs.Children.{Said, said, _then_, Known, Heads, heading, Inner, is140, Links, more, last, RecordAt, NoRecord}
-use Rattle.children.proofs.Chained.{Other, onto, Leads, next-leads, tables-leads}
+use Rattle.children.specs.Children.{Said, said, Known, Heads, heading, Inner, is140, Links, more, last, RecordAt, NoRecord}
+use Rattle.children.proofs.Chained.{onto, Leads, next-leads, tables-leads}
 use Rattle.children.proofs.Visiting.{links-parted, links-ended, inner-there}
-use Rattle.bodies.specs.Copy.{copy, Pastes}
+use Rattle.bodies.specs.Copy.{Pastes}
 use Rattle.bodies.specs.declared.Way.{Way}
 use Rattle.transcripts.specs.Transcript.{anew}
 use Rattle.transcripts.proofs.Transcribing.{anew-then, Copying, copying-none, copying-more}
@@ -44,12 +44,12 @@ use Rattle.measures.proofs.Chained.{tablesEvents, tables-bare, next-bare}
 use Rattle.measures.proofs.Lengths.{Accepted, accepted}
 use Rattle.measures.proofs.Measures.{stands, in-body}
 use Rattle.rewrite.specs.FramesAnew.{FramesAnew, signalsEvents, BodyRead, SignalsAnew}
-use Rattle.rewrite.specs.RecordingsAnew.{ChildAnew, BodyAnew}
+use Rattle.rewrite.specs.RecordingsAnew.{ChildAnew}
 use Rattle.rewrite.proofs.Framing.{render-record, padded-events}
 use Rattle.rewrite.proofs.Placed.{record-placed}
 
 -- what is written of the record at byte p with the head h, in a recording r
-data Renews (w : Way) (b : ℕ) (s : List ℕ) (r : Recording) (p : ℕ) (h : Head) (xs : List ℕ) : Type 0 where
+pub data Renews (w : Way) (b : ℕ) (s : List ℕ) (r : Recording) (p : ℕ) (h : Head) (xs : List ℕ) : Type 0 where
   signals : {k : Known} {l : Said} → Inner (w .from) b s p k h l → h .code ≡ 140 → xs ≡ render (w .to) (signalsEvents r) → Renews w b s r p h xs
   other : {k : Known} {l : Said} → Inner (w .from) b s p k h l → (h .code ≡ 140 → ⊥) → xs ≡ anew w l → Renews w b s r p h xs
 
@@ -58,18 +58,18 @@ renews-there {w} {b} {s} v k (signals i e is) = inner-there (w .from) b s v k i
 renews-there {w} {b} {s} v k (other i n is) = inner-there (w .from) b s v k i
 
 -- and of its delimiter
-record Closes (w : Way) (b : ℕ) (s : List ℕ) (p : ℕ) (xs : List ℕ) : Type 0 where
-  head : Head
-  stands : Heads (w .from) b s p head
-  code : head .code ≡ 0
-  is : xs ≡ replicate 16 0
+pub record Closes (w : Way) (b : ℕ) (s : List ℕ) (p : ℕ) (xs : List ℕ) : Type 0 where
+  pub head : Head
+  pub stands : Heads (w .from) b s p head
+  pub code : head .code ≡ 0
+  pub is : xs ≡ replicate 16 0
 
 -- all that is written of the records from byte p on
-abbrev Renewal : Way → ℕ → List ℕ → Recording → ℕ → List ℕ → Type 0
+abbrev pub Renewal : Way → ℕ → List ℕ → Recording → ℕ → List ℕ → Type 0
 Renewal w b s r = Links (w .from) b s _++_ (Renews w b s r) (Closes w b s)
 
 delimiter-bytes : (o : Order) → render o delimiterEvents ≡ replicate 16 0
-unfolding delimiterEvents render bytesIn
+unfolding delimiterEvents render bytesIn ordered bytesOf
 delimiter-bytes Little = refl
 delimiter-bytes Big = refl
 
@@ -180,20 +180,21 @@ signals-full w file s cs f out k bytes fit full =
 abbrev pub RenewedUpTo : Way → ℕ → List ℕ → Placed → List ℕ → List ℕ → ℕ → ℕ → Type 0
 RenewedUpTo w b s x d₀ d k p = Copying (λ (l : List ℕ). l) (Renewal w b s (x .recording)) d₀ d 0 k p (render (w .to) (content (x .recording)))
 
-module _ {w : Way} {file s : List ℕ} {cs : Channels} {f : Measure} {b : ℕ} {x : Placed} (g : BodyRead w file s cs f b x) {d₀ : List ℕ} where
-  pub renewed-none : Bytes s → RenewedUpTo w b s x d₀ d₀ 0 0
+module _ {w : Way} {file s : List ℕ} {cs : Channels} {f : Measure} {b : ℕ} {x : Placed} (g : BodyRead w file s cs f b x) where
+  pub renewed-none : {d₀ : List ℕ} → Bytes s → RenewedUpTo w b s x d₀ d₀ 0 0
   renewed-none bytes = copying-none _ (renewal w (accepted (w .from) b s bytes (g .head) (g .fills) (g .held) (g .went)) (g .clear))
 
-  module _ {d : List ℕ} {k p : ℕ} (y : RenewedUpTo w b s x d₀ d k p) where
+  -- what the code wrote of one record
+  renews-wrote : (d d′ : List ℕ) (k k′ : ℕ) {p : ℕ} {h : At.Head} {q : ℕ} → RecordAt (w .from) b s p h q → ChildAnew w file s cs f h q d d′ k k′ → {xs : List ℕ} → Renews w b s (x .recording) p (headOf h) xs → Pastes d d′ k k′ xs
+  renews-wrote d d′ k k′ v z (signals i e is) = rw is (z .signals e .wrote b x g)
+  renews-wrote d d′ k k′ v z (other i n is) = rw is ((rw (v .place) at (z .other n .wrote b)) _ _ (v .ends) n i)
+
+  module _ {d₀ d : List ℕ} {k p : ℕ} (y : RenewedUpTo w b s x d₀ d k p) where
     -- one record more, with the head h and up to q
     pub renewed-more : (d′ : List ℕ) (k′ : ℕ) {h : At.Head} {q : ℕ} → RecordAt (w .from) b s p h q → ChildAnew w file s cs f h q d d′ k k′ → RenewedUpTo w b s x d₀ d′ k′ q
-    renewed-more d′ k′ {h} {q} v z = copying-more y (λ _ _. refl) c d′ k′ (go (c .inner))
-      where
-        c = links-parted (w .from) b s v (λ e. v .kind (ap (λ (h : Head). h .code) (goes-same (sym (v .heads) ∙ e .stands) .0) ∙ e .code)) (y .links)
-
-        go : Renews w b s (x .recording) p (headOf h) (c .own) → Pastes d d′ k k′ (c .own)
-        go (signals i e is) = rw is (z .signals e .wrote b x g)
-        go (other i n is) = rw is ((rw (v .place) at (z .other n .wrote b)) _ _ (v .ends) n i)
+    renewed-more d′ k′ v z =
+        let c = links-parted (w .from) b s v (λ e. v .kind (ap (λ (h : Head). h .code) (goes-same (sym (v .heads) ∙ e .stands) .0) ∙ e .code)) (y .links) in
+        copying-more y (λ _ _. refl) c d′ k′ (renews-wrote d d′ k k′ v z (c .inner))
 
     -- the delimiter and the padding are zeros
     pub renewed-last : (zs : List ℕ) → 16 + length d₀ ≡ f .whole .length → length d ≡ length d₀ → length (put k (length d - k) d zs) ≡ length d → NoRecord (w .from) b s p → zs ≡ replicate (length (take (length d - k) (drop k d))) 0 →

@@ -1,61 +1,75 @@
--- `rewrite::recordings::body` meets its contract: the tables, the canonical 140 and what follows it are written one behind the other, and zeros to the end.
--- z: the start. Assumes nothing.
+-- `rewrite::recordings::body` meets its contract. The loop's invariant: the records up to byte p are written, and take the first k bytes. The measure is what is left of the part.
+-- y: behind the cursor's step. Assumes nothing.
+use mathlib.Core.Path.{_≡_, refl}
+use Prim.Native.Nat.{_-_, _≤_}
 use native.Mathlib.Omega.{arith}
+use lib.ListN.{length}
 use borrow.Author.Needs.{needs}
 use Rattle.words.proofs.Words.{bytes}
-use Rattle.rewrite.proofs.Bodied.{body-written}
+use Rattle.rules.specs.Rules.{Placed}
+use Rattle.children.proofs.Visiting.{recorded}
+use Rattle.rewrite.specs.FramesAnew.{BodyRead}
+use Rattle.rewrite.proofs.Bodied.{RenewedUpTo, renewed-none, renewed-more, renewed-last}
 use Rattle.rewrite.proofs.recordings.body.Statement.{statement}
 use Rattle.rewrite.proofs.recordings.body.Tie as tie
 
-next-requires : tie.Need-next-requires
-next-requires c κs =
-    let z = c .before .before .before .before .before .before .before .before .before .before .before .before .before .before .before .before .before .before .before in
-    (omega (arith, z .pre .bounds .end, z .pre .bounds .last), z .pre .short, omega (arith, z .pre .bounds .whole, z .pre .room, c .before .before .d3 .given .1, c .before .before .before .before .before .before .before .d2 .given .1, c .before .before .before .before .before .before .before .before .before .before .before .d .given))
+abbrev Inv-loop : tie.InvT-loop
+Inv-loop w file cs f s base d₀ o p₀ k₀ d p k =
+    (p ≤ length s) × (k ≤ length d) × (length d ≡ length d₀) × ((x : Placed) → BodyRead w file s cs f base x → RenewedUpTo w base s x d₀ d k p)
 
-returns : tie.Need-returns
+abbrev μ-loop : tie.MeasureT-loop
+μ-loop w file cs f s base d₀ o p₀ k₀ d p k = length s - p
+
+abbrev start : tie.At-loop Inv-loop μ-loop → tie.Start Inv-loop μ-loop
+start c = c .before .before .before .before
+
+loop-holds : tie.Need-loop-holds Inv-loop μ-loop
+loop-holds c = (omega arith, omega arith, refl, λ x g. renewed-none g (bytes (c .before .before .before .args .s .now) (λ i. c .before .shared-slice-known2 .given i .fits)))
+
+returns : tie.Need-returns Inv-loop μ-loop
 returns c =
-    let z = c .before .before .before .before .before .before .before .before .before .before .before .before .before .before .before .before .before .before .before .before .before .before .before .before .before .before in
-    let a = z .args in
-    let s = a .s .now in
-    let t = c .before .before .before .before .before .before .before .before .before .before .before .before .before .before .before .before .before .before .before .tables in
-    let n = c .before .before .before .before .before .before .next in
-    body-written (a .w) (a .file .now) (a .cs) (a .f) s (a .base) (a .d .now) _ _ _ _ _ (t .result .k) (n .result .k) (bytes s (λ i. c .before .before .before .before .before .before .before .before .before .before .before .before .before .before .before .before .before .before .before .before .before .before .before .before .shared-slice-known2 .given i .fits))
-    (record {
-      least = omega (arith, z .pre .bounds .signals);
-      room = z .pre .room;
-      same₁ = c .before .before .before .before .before .before .before .before .before .before .before .before .before .before .before .before .before .before .d .given;
-      same₂ = c .before .before .before .before .before .before .before .before .before .before .before .before .before .before .d2 .given .1;
-      same₃ = c .before .before .before .before .before .before .before .before .before .d3 .given .1;
-      same₅ = c .before .d5 .given .1;
-      front = λ held v e g. t .ensures .2 held v e g .1;
-      top = c .before .before .before .before .before .before .before .before .before .before .before .before .before .before .before .put-head .ensures;
-      signals = c .before .before .before .before .before .before .before .before .before .before .frames-body .ensures;
-      after = λ fuel v e l g. n .ensures .3 fuel v e l g .1;
-      rest = c .before .before .clear-run .ensures;
-    })
+    let y = c .before .before .before .before in
+    let l = y .before .before .before in
+    let v = rw (y .enum-told .given .1) at (y .before .before .record-at .ensures) in
+    λ x g. renewed-last g (l .loop .inv .3 x g) _ (start l .pre .room) (l .loop .inv .2) (c .before .d .given .1) v (c .before .before .clear-run .ensures)
+
+child-requires : tie.Need-child-requires Inv-loop μ-loop
+child-requires c κs =
+    let y = c .before .before in
+    let l = y .before .before .before in
+    let v = recorded (y .there .given .1) (y .before .before .record-at .ensures) in
+    record { recording = record { channels = start l .pre .channels; bounds = start l .pre .bounds; target = l .loop .inv .1 }; least = omega (arith, v .place, v .least); inside = v .inside }
+
+loop-less : tie.Need-loop-less Inv-loop μ-loop
+loop-less c =
+    let y = c .before .before .before .before .before in
+    let v = recorded (y .there .given .1) (y .before .before .record-at .ensures) in
+    omega (arith, v .least, v .inside)
+
+loop-again : tie.Need-loop-again Inv-loop μ-loop
+loop-again c =
+    let y = c .before .before .before .before .before in
+    let w = y .before .before .before .loop .inv in
+    let v = recorded (y .there .given .1) (y .before .before .record-at .ensures) in
+    let d = c .before .before .child .ensures in
+    (v .inside, omega (arith, d .inside), search needs, λ x g. renewed-more g (w .3 x g) _ _ v d)
 
 pub body-spec : {M : Type 1} → statement M
 body-spec =
     tie.close
     (tie.spec
-    (λ c. search needs)
-    (λ c. search needs)
+    Inv-loop
+    μ-loop
+    loop-holds
     (λ c κs. search needs)
-    (λ c. search needs)
-    (λ c. search needs)
-    (λ c. search needs)
-    (λ c κs. search needs)
-    (λ c. search needs)
     (λ c. search needs)
     (λ c. search needs)
     (λ c. search needs)
     (λ c. search needs)
     (λ c. search needs)
     (λ c κs. search needs)
-    next-requires
     (λ c. search needs)
-    (λ c. search needs)
-    (λ c. search needs)
-    (λ c κs. search needs)
-    (λ c. search needs)
-    returns)
+    returns
+    child-requires
+    loop-less
+    loop-again)
