@@ -1,6 +1,6 @@
 -- No position is cut off at 0: each refusal and each row of the rules lies back at most as many bytes as were read.
 -- Assumes nothing.
-use mathlib.Core.Path.{_≡_, refl, sym, _∙_}
+use mathlib.Core.Path.{_≡_, _∙_}
 use mathlib.Core.Bool.{Bool, true, false, _&&_}
 use mathlib.Core.List.{List, [], _∷_}
 use mathlib.Core.Option.{Option, none, some}
@@ -10,12 +10,14 @@ use native.Mathlib.Omega.{arith}
 use borrow.Author.Tests.{leb-true}
 use lib.Dec.{leb, eqb}
 use lib.ListN.{length}
-use Rattle.walk.specs.Walk.{Walk, give, refuse, Event, Outcome, refused, passed, run, rows, size, _>>=_, _>>_, pick, text}
+use Rattle.walk.specs.Walk.{Walk, give, refuse, Outcome, refused, passed, run, size, _>>=_, _>>_, pick, text}
 use Rattle.walk.proofs.Laws.{Spent, spent}
-use Rattle.walk.proofs.Reach.{Reaches, reaches-bind, reaches-any, reaches-then, reaches-next, reaches-require, Later, run-later}
-use Rattle.rules.specs.Rules.{head, Head, span, coded, admit, exactly, fixed, basicBody, basic, channelBody, channel, Basic, channelsBody, channels, item, itemSize, itemList, itemBytes, itemsBody, items, series, zeros, padding, Channel, width, samplesIn, sampleBytes, numberList, samples, frameBody, frame, padOk, framesBody, frames, Next, next, makerCode, Part, part, delimiter, Held, heldChannels, heldPatient, patientCode, eventCode, signals, recordingBody, recording, recordings, fileHeader, File, file, orderOf, whole, judge}
+use Rattle.walk.specs.See.{Stays}
+use Rattle.walk.proofs.Seen.{stays-bind}
+use Rattle.walk.proofs.Reach.{stays-grows, Reaches, reaches-bind, reaches-any, reaches-then, reaches-next, reaches-require, Later, run-later}
+use Rattle.rules.specs.Rules.{head, Head, span, coded, admit, exactly, fixed, basicBody, basic, channelBody, channel, Basic, channelsBody, channels, item, itemSize, itemList, itemsBody, items, series, zeros, padding, Channel, width, samplesIn, sampleBytes, numberList, samples, frameBody, frame, padOk, framesBody, frames, Next, next, makerCode, Part, part, delimiter, Held, heldChannels, heldPatient, patientCode, eventCode, descriptions, countBack, signals, recordingBody, recording, recordings, fileHeader, File, file, orderOf, whole, judge}
 use Rattle.rules.proofs.Steps.{body-steps}
-use Rattle.rules.proofs.Room.{stays-head, stays-admit, stays-basic, stays-itemList, Rests, stays-channelsRest, stays-itemsRest, stays-framesRest, stays-next, stays-part, stays-delimiter}
+use Rattle.rules.proofs.Room.{Behind, stays-head, stays-admit, stays-basic, stays-itemList, Rests, stays-channelsRest, stays-itemsRest, stays-framesRest, stays-next, stays-part, stays-delimiter}
 use Rattle.rules.proofs.Refusals.{room}
 
 -- a record: its head, and what is said of it from behind the head
@@ -130,14 +132,14 @@ reaches-framesBody b cs h at = λ t. (
 )
 
 -- the rest of a record whose head is read, so that its 16 bytes lie behind
-abbrev Behind : {A : Type 0} → (ℕ → Head → Walk A) → Type 0
-Behind body = (rest : ℕ) (h : Head) (at : ℕ) → 16 ≤ at → Reaches at (body rest h)
+abbrev AfterHead : {A : Type 0} → (ℕ → Head → Walk A) → Type 0
+AfterHead body = (rest : ℕ) (h : Head) (at : ℕ) → 16 ≤ at → Reaches at (body rest h)
 
-reaches-channels : (b : Basic) → Behind (channels b)
+reaches-channels : (b : Basic) → AfterHead (channels b)
 unfolding channels
 reaches-channels b rest h at g = reaches-next _ _ _ (reaches-admit rest 0 (leb 32) (eqb 0) h at g) (λ e. reaches-channelsBody b (span h) e)
 
-reaches-items : (ok : ℕ → Bool) → Behind (items ok)
+reaches-items : (ok : ℕ → Bool) → AfterHead (items ok)
 unfolding items
 reaches-items ok rest h at g = reaches-next _ _ _ (reaches-admit rest 0 (leb 24) (eqb 0) h at g) (λ e. reaches-itemsBody ok (span h) e)
 
@@ -169,7 +171,7 @@ reaches-own true held n w at g k = k
 reaches-own false none n w at g k = omega arith
 reaches-own false (some a) n w at g k = tt
 
-reaches-part : {A : Type 0} (fuel code : ℕ) (body : ℕ → Head → Walk A) → Behind body → (held : Option A) (n : Next) (at : ℕ) → 16 ≤ at → Reaches at (part fuel code body held n)
+reaches-part : {A : Type 0} (fuel code : ℕ) (body : ℕ → Head → Walk A) → AfterHead body → (held : Option A) (n : Next) (at : ℕ) → 16 ≤ at → Reaches at (part fuel code body held n)
 unfolding part
 reaches-part fuel code body k held n at g =
     reaches-own (eqb (n .head .code) code) held n _ at g
@@ -180,7 +182,7 @@ unfolding delimiter _>>=_ _>>_
 reaches-delimiter h at g = (omega arith, λ _. (omega arith, λ _. (omega arith, λ _. (omega arith, λ _. (omega arith, tt)))))
 
 -- a recording: 100's count of channels and all that was used lie behind its own head
-reaches-recordingBody : (held : Option Held) (h : Head) (at : ℕ) → 16 ≤ at → 16 ≤ span h → Reaches at (recordingBody held h)
+pub reaches-recordingBody : (held : Option Held) (h : Head) (at : ℕ) → 16 ≤ at → 16 ≤ span h → Reaches at (recordingBody held h)
 unfolding signals
 reaches-recordingBody held h at g s =
     rw body-steps (
@@ -231,3 +233,25 @@ unfolding judge
 no-position-cut s k =
     whole-later k (length s) (run (orderOf s) 0 s (file (length s))) _ (spent (file (length s)) (orderOf s) 0 s)
     (rw add-zero at (run-later (orderOf s) k (file (length s)) (length s) 0 s _ (zero-add (length s)) (room (length s)) (reaches-file (length s))))
+
+-- The two that lie further back than their own record are cut off nowhere either. Parts only go on
+part-grows : {A : Type 0} (fuel code : ℕ) (body : ℕ → Head → Walk A) → Rests body → (held : Option A) (n : Next) (L at low : ℕ) → Behind L fuel n at × (low ≤ at) → Stays L at (part fuel code body held n) (λ p e. Behind L fuel (p .next) e × (low ≤ e))
+part-grows fuel code body k held n L at low q = stays-grows (part fuel code body held n) L at low (λ p. Behind L fuel (p .next)) (q .1) (stays-part fuel code body k held n L at (q .0))
+
+-- of a recording that begins at `start`, 100's count of channels is told 36 bytes into it, from behind the head of the 140
+pub count-place : (held : Option Held) (h : Head) (start : ℕ) → 16 ≤ span h → Stays (start + span h) (start + 16) (descriptions held (span h)) (λ t e. e - countBack (span h) (t .events .next .room) ≡ start + 36)
+unfolding descriptions
+count-place held h start s =
+    let L : ℕ = start + span h in
+    let l : start + 16 + (span h - 16) ≡ L = omega arith in
+    let low : ℕ = start + 144 in
+    stays-bind _ _ _ _ _ _ (rw l at (stays-basic (start + 16) (span h - 16)))
+    (λ b e₁ q₁. stays-bind _ _ _ _ _ _ (stays-grows (next (span h) (span h - 144)) L e₁ low (Behind L (span h)) (omega (arith, q₁)) (stays-next (span h) (span h - 144) (span h) L e₁ (omega (arith, q₁)) (omega (arith, q₁)) (omega (arith, q₁))))
+    (λ n e₂ q₂. stays-bind _ _ _ _ _ _ (part-grows (span h) 120 (channels b) (stays-channelsRest b) (heldChannels held) n L e₂ low q₂)
+    (λ c e₃ q₃. stays-bind _ _ _ _ _ _ (part-grows (span h) 130 (items patientCode) (stays-itemsRest patientCode) (heldPatient held) (c .next) L e₃ low q₃)
+    (λ p e₄ q₄. stays-bind _ _ _ _ _ _ (part-grows (span h) 200 (items eventCode) (stays-itemsRest eventCode) (some []) (p .next) L e₄ low q₄)
+    (λ e e₅ q₅. omega (arith, q₅ .0 .2, q₅ .1))))))
+
+-- and all that a recording has used, told from behind its delimiter, begins where it begins
+pub used-place : (start bytes : ℕ) (n : Next) (e : ℕ) → Behind (start + bytes) bytes n e → e - (bytes - (n .room - 16)) ≡ start
+used-place start bytes n e q = omega (arith, q .0, q .1, q .2)

@@ -1,8 +1,7 @@
 -- The rules of the JSSR PSG common format 3.00, as document 01 fixes them: one walk over a file, front to back. It refuses with a number and a
 -- place, or gives the file's reading. A walk knows no positions: the place of a refusal is said by how many bytes back it lies from where the walk stands.
--- Subtraction stops at 0, but no position is ever cut off by it: a refusal or a row never lies back more bytes than were read (theorem
--- `Positions.no-position-cut`). Where a length is subtracted from another, a test before it says that it is not the larger one, or the difference
--- is asked for where one is refused.
+-- Subtraction stops at 0, but no position is cut off by it: neither a refusal nor a row lies back more bytes than were read (theorem
+-- `Positions.no-position-cut`).
 -- Every number is read as an unsigned word; a field that document 01 judges lies in 0 to 2^31 - 1, so a negative one fails its test.
 -- Assumes nothing.
 use mathlib.Core.Bool.{Bool, true, false, _&&_, _||_, not}

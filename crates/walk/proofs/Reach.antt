@@ -12,10 +12,10 @@ use lib.Seq.{length-take-le}
 use Rattle.words.specs.Numbers.{wordIn}
 use Rattle.words.specs.declared.Order.{Order}
 use Rattle.walk.specs.See.{Stays, numbered}
-use Rattle.walk.specs.Walk.{Kind, laid, Event, numeral, piece, blank, row, rows, Row, Walk, give, refuse, check, number, read, skip, list, Outcome, refused, passed, _>>_, _>>=_, logged, run, require}
+use Rattle.walk.specs.Walk.{laid, Event, numeral, piece, blank, row, rows, Row, Walk, give, refuse, check, number, read, skip, list, Outcome, refused, passed, _>>_, _>>=_, logged, run, require}
 use Rattle.walk.proofs.Laid.{length-laid}
 use Rattle.walk.proofs.Laws.{run-read, run-number}
-use Rattle.walk.proofs.Seen.{passes}
+use Rattle.walk.proofs.Seen.{passes, when-then}
 
 -- `at` bytes lie behind the walk: no refusal and no row of it says that it lies more bytes back than that
 module _ {A : Type 0} where
@@ -27,6 +27,16 @@ module _ {A : Type 0} where
   Reaches at (read k n f) = (bs : List ℕ) → length bs ≡ n → Reaches (at + n) (f bs)
   Reaches at (skip n w) = Reaches (at + n) w
   Reaches at (list p l c m w) = (p ≤ at) × Reaches at w
+
+  -- a walk only goes on
+  pub stays-grows : (w : Walk A) (L at low : ℕ) (Q : A → ℕ → Type 0) → low ≤ at → Stays L at w Q → Stays L at w (λ a e. Q a e × (low ≤ e))
+  stays-grows (give x) L at low Q g h = (h, g)
+  stays-grows (refuse n p) L at low Q g h = h
+  stays-grows (check c n p w) L at low Q g h = when-then (numbered n) (λ k e. stays-grows w L at low Q g (k e)) h
+  stays-grows (number n f) L at low Q g h = (h .0, λ v. stays-grows (f v) L (at + n) low Q (omega arith) (h .1 v))
+  stays-grows (read k n f) L at low Q g h = (h .0, λ bs e. stays-grows (f bs) L (at + n) low Q (omega arith) (h .1 bs e))
+  stays-grows (skip n w) L at low Q g h = (h .0, stays-grows w L (at + n) low Q (omega arith) (h .1))
+  stays-grows (list p l c m w) L at low Q g h = stays-grows w L at low Q g h
 
 -- one walk after the other: where it matters where the first one ends, and where it does not
 module _ {A B : Type 0} where
