@@ -1,7 +1,6 @@
 -- One way over the recordings of an accepted file: the one at a byte, its body as a part of the file, and those that are passed and those that are left.
 -- Assumes nothing.
 use mathlib.Core.Path.{_≡_, refl, sym, ap, _∙_}
-use mathlib.Core.Bool.{true}
 use mathlib.Core.List.{List, [], _∷_, _++_, append-assoc, append-nil}
 use mathlib.Core.Option.{Option, none}
 use Prim.Native.Nat.{ℕ, suc, _+_, _-_, _≤_, _<_}
@@ -10,12 +9,11 @@ use native.Mathlib.Numerals.{add-one}
 use native.Mathlib.Omega.{arith}
 use borrow.Author.Tests.{leb-true, eqb-true}
 use lib.Dec.{leb, eqb}
-use lib.ListN.{length, take, drop}
+use lib.ListN.{length, take, drop, length-append}
 use Rattle.words.specs.declared.Order.{Order}
 use Rattle.walk.specs.Walk.{Walk, give, _>>=_}
 use Rattle.walk.specs.See.{stops, goes, see}
 use Rattle.walk.specs.Tell.{tell}
-use Rattle.walk.specs.Trace.{trace}
 use Rattle.walk.proofs.Seen.{stays-goes, see-part, body-length}
 use Rattle.walk.proofs.Went.{goes-same}
 use Rattle.walk.proofs.Told.{tell-part}
@@ -27,7 +25,7 @@ use Rattle.records.proofs.Opened.{Opened, opened, admit-passed, halted}
 use Rattle.judge.specs.Recorded.{leaves}
 use Rattle.judge.proofs.Led.{Led, led}
 use Rattle.children.specs.Children.{Said, said, _then_, Heads, Admits, RecordAt, NoRecord}
-use Rattle.children.specs.Recordings.{allOf, ReadAs}
+use Rattle.children.specs.Recordings.{allOf, ReadAs, UpTo}
 use Rattle.children.proofs.Saying.{nothing, then-assoc, then-nothing, nothing-then, said-bind, said-give, said-gave}
 
 -- a recording that the walk accepted, up to byte e of the file s
@@ -114,10 +112,6 @@ module _ {o : Order} {s : List ℕ} {p n : ℕ} {held : Option Held} {i : ℕ} {
       let r : length s - p - v .one .layout .bytes ≡ length s - v .mid = omega (arith, v .place) in
       said-bind o 0 s p (recording held (length s - p) i) later (v .is) ∙ rw (r, said-give o 0 s (v .mid) others (λ r. v .one ∷ r))
 
-  pub led-events : trace o 0 s p (recordings (suc n) held (length s - p) i) ≡ trace o 0 s p (recording held (length s - p) i) ++ trace o 0 s (v .mid) others
-  unfolding said _then_
-  led-events = ap (λ (l : Said). l .events) led-said
-
 -- the file's recordings are read as ps: i of them are passed, and the walk goes on at byte p
 pub record Passed (o : Order) (s : List ℕ) (count : ℕ) (ps : List Placed) (p i : ℕ) : Type 0 where
   -- what holds for the next recording
@@ -126,6 +120,7 @@ pub record Passed (o : Order) (s : List ℕ) (count : ℕ) (ps : List Placed) (p
   pub done : List Placed
   pub left : List Placed
   pub all : ps ≡ done ++ left
+  pub many : length done ≡ i
   -- what was said up to byte p
   pub tells : Said
   pub end : ℕ
@@ -140,8 +135,8 @@ pub record Onward {o : Order} {s : List ℕ} {count : ℕ} {ps : List Placed} {p
   pub adds : to .tells ≡ v .tells then said o 0 s p (recording (v .held) (length s - p) (i + 1))
 
 module _ {o : Order} {s : List ℕ} {count : ℕ} {ps : List Placed} where
-  unfoldable pub passed-none : {e : ℕ} → ReadAs o s count ps e → Passed o s count ps 32 0
-  passed-none {e} g = record { held = none; done = []; left = ps; all = refl; tells = nothing; end = e; on = rw sub-zero g; says = sym (nothing-then _) ∙ simp sub-zero }
+  unfoldable passed-none : {e : ℕ} → ReadAs o s count ps e → Passed o s count ps 32 0
+  passed-none {e} g = record { held = none; done = []; left = ps; all = refl; many = refl; tells = nothing; end = e; on = rw sub-zero g; says = sym (nothing-then _) ∙ simp sub-zero }
 
   module _ {p i : ℕ} (v : Passed o s count ps p i) where
     module _ (many : i < count) (fit : p ≤ length s) where
@@ -163,6 +158,7 @@ module _ {o : Order} {s : List ℕ} {count : ℕ} {ps : List Placed} where
           done = v .done ++ (x ∷ []);
           left = y .rest;
           all = v .all ∙ rw (y .all, e, append-assoc);
+          many = length-append (v .done) (x ∷ []) ∙ ap (λ (n : ℕ). n + 1) (v .many);
           tells = v .tells then said o 0 s p (recording (v .held) (length s - p) (i + 1));
           end = v .end;
           on = rw (← m, ← e, add-one (i + 1)) (y .on);
@@ -181,12 +177,37 @@ module _ {o : Order} {s : List ℕ} {count : ℕ} {ps : List Placed} where
       none-left : count - i ≡ 0
       none-left = omega arith
 
-      pub passed-done : ps ≡ v .done
+      passed-done : ps ≡ v .done
       unfolding recordings see
       passed-done =
           let l : [] ≡ v .left = goes-same (rw none-left at (v .on)) .0 in
           v .all ∙ (ap (λ (r : List Placed). v .done ++ r) (sym l) ∙ append-nil (v .done))
 
-      pub passed-said : said o 0 s 32 (allOf count s) ≡ v .tells
+      passed-said : said o 0 s 32 (allOf count s) ≡ v .tells
       unfolding recordings
       passed-said = v .says ∙ rw (none-left, said-gave, then-nothing)
+
+-- what a loop says of the recordings that are passed: P, of what holds for the next one, of those passed, and of what was said on the way
+pub record Sofar (o : Order) (s : List ℕ) (count : ℕ) (ps : List Placed) (p i : ℕ) (P : Option Held → List Placed → Said → Type 0) : Type 0 where
+  pub at : Passed o s count ps p i
+  pub is : P (at .held) (at .done) (at .tells)
+
+module _ {o : Order} {s : List ℕ} {count : ℕ} {ps : List Placed} {P : Option Held → List Placed → Said → Type 0} where
+  pub sofar-start : {e : ℕ} → ReadAs o s count ps e → P none [] nothing → Sofar o s count ps 32 0 P
+  unfolding passed-none
+  sofar-start g h = record { at = passed-none g; is = h }
+
+  module _ {p i : ℕ} (v : Sofar o s count ps p i P) where
+    -- the next one, x, ends at q, and P′ holds with it
+    pub sofar-next : {P′ : Option Held → List Placed → Said → Type 0} {q : ℕ} → i < count → p ≤ length s →
+        ((x : Placed) (e : ℕ) → see o 0 s p (recording (v .at .held) (length s - p) (i + 1)) ≡ goes x e →
+        UpTo e q (P′ (leaves x) (v .at .done ++ (x ∷ [])) (v .at .tells then said o 0 s p (recording (v .at .held) (length s - p) (i + 1))))) → Sofar o s count ps q (i + 1) P′
+    sofar-next {P′} {q} many fit step =
+        let y = passed-led (v .at) many fit in
+        let u = step (y .one) (y .mid) (y .is) in
+        let n = passed-next (v .at) many fit (rw (u .ends) at (y .is)) in
+        record { at = n .to; is = rw (n .holds, n .more, n .adds) (u .holds) }
+
+    -- none is left
+    pub sofar-end : count ≤ i → P (v .at .held) ps (said o 0 s 32 (allOf count s))
+    sofar-end few = rw (passed-done (v .at) few, passed-said (v .at) few) (v .is)

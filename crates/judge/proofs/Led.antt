@@ -7,7 +7,7 @@ use Prim.Native.Nat.{ℕ, suc, _+_, _-_, _≤_}
 use native.Mathlib.Omega.{arith}
 use lib.ListN.{length}
 use Rattle.words.specs.declared.Order.{Order}
-use Rattle.walk.specs.See.{stops, goes, see, Goes}
+use Rattle.walk.specs.See.{goes, see, Goes}
 use Rattle.walk.specs.Walk.{Walk, give, _>>=_}
 use Rattle.walk.proofs.Seen.{see-give, stays-goes}
 use Rattle.walk.proofs.Went.{went-first, goes-same}
@@ -41,11 +41,3 @@ module _ (o : Order) (s : List ℕ) (p n : ℕ) (held : Option Held) (i : ℕ) {
       let u : length s - p - x .value .layout .bytes ≡ length s - x .end = omega (arith, z .0) in
       let y = behind o 0 s (x .end) (recordings n (leaves (x .value)) (length s - x .end) (suc i)) (x .value) (rw u at (x .kept)) in
       record { one = x .value; mid = x .end; rest = y .value; is = x .is; place = z .0; on = rw (y .kept .1) at (y .is); all = y .kept .0 }
-
-  -- the first was accepted
-  pub led-stop : see o 0 s p (recordings (suc n) held (length s - p) i) ≡ goes l e → {m q : ℕ} → see o 0 s p (recording held (length s - p) i) ≡ stops m q → ⊥
-  unfolding recordings
-  led-stop g h =
-      let x = went-first o 0 s p (recording held (length s - p) i) _ g .is in
-      let z : _≡_ {A = ℕ} 0 1 = cc in
-      omega arith

@@ -1,19 +1,17 @@
 -- The first maker's record of a recording, and of all recordings of a file, from what the code found in each.
 -- Assumes nothing.
-use mathlib.Core.Path.{_≡_, refl, sym, ap, _∙_}
+use mathlib.Core.Path.{_≡_, sym, ap, _∙_}
 use mathlib.Core.Bool.{false}
-use mathlib.Core.List.{List, _++_}
-use mathlib.Core.Option.{none}
+use mathlib.Core.List.{List}
+use mathlib.Core.Option.{Option, none}
 use Prim.Native.Nat.{ℕ, _+_, _≤_, _<_}
 use lib.ListN.{length}
 use Rattle.words.specs.declared.Order.{Order}
-use Rattle.walk.specs.Walk.{Row}
 use Rattle.rules.specs.declared.Head as At
-use Rattle.rules.specs.Rules.{Placed, makerCode}
+use Rattle.rules.specs.Rules.{Held, Placed, makerCode}
 use Rattle.children.specs.Children.{Said, said, _then_, RecordAt}
-use Rattle.children.specs.Recordings.{ReadAs, OfBody, OfRecording, rowsOf}
-use Rattle.children.proofs.Saying.{nothing}
-use Rattle.children.proofs.Recordings.{bodyOf, within, recording-ends, Passed, passed-none, passed-led, passed-next, passed-said}
+use Rattle.children.specs.Recordings.{OfBody, OfRecording, rowsOf}
+use Rattle.children.proofs.Recordings.{bodyOf, within, recording-ends, Sofar, sofar-next, sofar-end}
 use Rattle.makers.specs.Makers.{firstMaker, found, First}
 use Rattle.makers.specs.declared.MakerField.{MakerField}
 use Rattle.makers.specs.declared.MakerField.the-variants as MakerField
@@ -29,38 +27,26 @@ finds-recording {o} {s} {p} {h} {q} v r finds held i x e g =
     record { ends = m; holds = finds held (y .top) x q (y .fills) (y .body) ∙ sym (ap firstMaker (y .rows) ∙ first-row _ _ c) }
 
 -- no maker's record stands in the recordings that are passed
-pub record Sofar (o : Order) (s : List ℕ) (count : ℕ) (ps : List Placed) (p i : ℕ) : Type 0 where
-  pub at : Passed o s count ps p i
-  pub clear : firstMaker (at .tells .rows) ≡ none
+abbrev pub Clear : Option Held → List Placed → Said → Type 0
+Clear _ _ l = firstMaker (l .rows) ≡ none
 
-module _ {o : Order} {s : List ℕ} {count : ℕ} {ps : List Placed} where
-  pub sofar-start : {e : ℕ} → ReadAs o s count ps e → Sofar o s count ps 32 0
-  unfolding passed-none firstMaker
-  sofar-start g = record { at = passed-none g; clear = refl }
+module _ {o : Order} {s : List ℕ} {count : ℕ} {ps : List Placed} {p i : ℕ} where
+  pub clear-end : Sofar o s count ps p i Clear → count ≤ i → none ≡ firstMaker (rowsOf o s count)
+  unfolding said
+  clear-end g few = sym (sofar-end g few)
 
-  module _ {p i : ℕ} (g : Sofar o s count ps p i) where
-    pub sofar-end : count ≤ i → none ≡ firstMaker (rowsOf o s count)
-    unfolding said
-    sofar-end few = sym (ap (λ (l : Said). firstMaker (l .rows)) (passed-said (g .at) few) ∙ g .clear)
+  -- r is what was found in the next recording, which ends at q
+  module _ (g : Sofar o s count ps p i Clear) (many : i < count) (fit : p ≤ length s) (r : MakerField) (q : ℕ) (finds : OfRecording o s p q (First r)) where
+    next : Sofar o s count ps q (i + 1) (λ _ _ l. firstMaker (l .rows) ≡ found r)
+    unfolding said _then_
+    next =
+        sofar-next g many fit
+        (λ x e h. let u = finds (g .at .held) (i + 1) x e h in record { ends = u .ends; holds = rw (first-append, g .is) (sym (u .holds)) })
 
-    -- r is what was found in the next recording, which ends at q
-    module _ (many : i < count) (fit : p ≤ length s) (r : MakerField) (q : ℕ) (finds : OfRecording o s p q (First r)) where
-      record Next : Type 0 where
-        to : Passed o s count ps q (i + 1)
-        first : firstMaker (to .tells .rows) ≡ found r
+    -- it is the first of all, whatever follows
+    pub clear-found : {k : ℕ} → r ≡ MakerField.At k → found r ≡ firstMaker (rowsOf o s count)
+    unfolding said _then_
+    clear-found e = sym (ap (λ (l : Said). firstMaker (l .rows)) (next .at .says) ∙ rw (first-append, next .is) (first-some (found r) _ (ap found e)))
 
-      next : Next
-      unfolding said _then_
-      next =
-          let y = passed-led (g .at) many fit in
-          let u = finds (g .at .held) (i + 1) (y .one) (y .mid) (y .is) in
-          let n = passed-next (g .at) many fit (rw (u .ends) at (y .is)) in
-          record { to = n .to; first = ap (λ (l : Said). firstMaker (l .rows)) (n .adds) ∙ rw (first-append, g .clear) (sym (u .holds)) }
-
-      -- it is the first of all, whatever follows
-      pub sofar-found : {k : ℕ} → r ≡ MakerField.At k → found r ≡ firstMaker (rowsOf o s count)
-      unfolding said _then_
-      sofar-found e = sym (ap (λ (l : Said). firstMaker (l .rows)) (next .to .says) ∙ rw (first-append, next .first) (first-some (found r) _ (ap found e)))
-
-      pub sofar-next : r ≡ MakerField.Nothing → Sofar o s count ps q (i + 1)
-      sofar-next e = record { at = next .to; clear = next .first ∙ ap found e }
+    pub clear-next : r ≡ MakerField.Nothing → Sofar o s count ps q (i + 1) Clear
+    clear-next e = record { at = next .at; is = next .is ∙ ap found e }

@@ -2,42 +2,39 @@
 -- Assumes nothing.
 use mathlib.Core.Path.{_≡_, refl, sym, ap, _∙_}
 use mathlib.Core.Bool.{Bool, true, false, true≢false}
-use mathlib.Core.List.{List, [], _∷_}
+use mathlib.Core.List.{List, [], _∷_, _++_, append-assoc}
 use mathlib.Core.Option.{Option, none}
 use Prim.Native.Nat.{ℕ, zero, suc, _+_, _-_, _≤_, _<_}
-use native.Mathlib.Nat.{sub-zero}
 use native.Mathlib.Numerals.{add-one}
 use native.Mathlib.Omega.{arith}
-use lib.ListN.{length, getD, drop, List·getD-map, length-map}
-use lib.Seq.{drop-cons}
+use lib.ListN.{length, getD, List·getD-map, length-append, length-map}
+use lib.Seq.{getD-at}
 use Rattle.words.specs.Numbers.{Bytes}
 use Rattle.words.specs.declared.Order.{Order}
-use Rattle.walk.specs.See.{goes, see, Goes}
+use Rattle.walk.specs.See.{goes, see}
 use Rattle.walk.specs.Walk.{pick, refused}
-use Rattle.walk.proofs.Went.{goes-same}
 use Rattle.rules.specs.Rules as R
 use Rattle.rules.specs.Places.{bytesBefore, holder}
 use Rattle.rules.specs.declared.FileHeader.{FileHeader}
-use Rattle.rules.specs.declared.Refusal.{Refusal}
 use Rattle.rules.proofs.Canon.{RecordingsOk, readings, file-ok}
 use Rattle.rules.proofs.Holders.{channels-hold, patient-holds}
 use Rattle.rules.proofs.Renewed.{RecordingOk}
 use Rattle.rules.proofs.Turn.{accepted}
-use Rattle.records.specs.Says.{halts}
 use Rattle.records.proofs.Facts.{between-in}
-use Rattle.descriptions.specs.Tabled.{Room, HeldAs, channelsIn, patientIn}
+use Rattle.descriptions.specs.Tabled.{Room, channelsIn, patientIn}
 use Rattle.descriptions.specs.Tabled as Tabled
 use Rattle.descriptions.specs.declared.Before.{Before}
 use Rattle.descriptions.specs.declared.Before.the-variants as Before
 use Rattle.descriptions.specs.declared.Held.{Held}
 use Rattle.descriptions.specs.declared.Places.{Places}
 use Rattle.judge.specs.Judged.{AcceptedAs}
-use Rattle.judge.specs.Recorded.{placesOf, leaves, Places-of, recorded, Continues}
+use Rattle.judge.specs.Recorded.{placesOf, Continues}
 use Rattle.judge.specs.declared.recording.Recorded.{Recorded}
 use Rattle.judge.specs.declared.recording.Recorded.the-variants as Recorded
-use Rattle.judge.proofs.Led.{Led, led, led-stop}
-use Rattle.judge.proofs.Verdicts.{accepted-seen}
-use Rattle.recordings.specs.Answers.{value, refusal}
+use Rattle.judge.proofs.Accepted.{went}
+use Rattle.children.proofs.Recordings.{passed-next, Sofar, sofar-start}
+use Rattle.children.proofs.Again.{AgainAs, bounds, Knowing, Next, again-stop, again-next}
+use Rattle.recordings.specs.Answers.{refusal}
 use Rattle.recordings.specs.Recordings.{Chosen, heldAt, at120, at130, recordingOf}
 use Rattle.recordings.specs.Found.{placesAt, Standing, Reached, FoundIn}
 use Rattle.recordings.proofs.Chosen.{One, in-between, numbered-in, numbered-out, numbered-one}
@@ -112,17 +109,17 @@ module _ (own : R.Recording → Bool) where
 -- The walk over the recordings, from one of them on
 
 -- i recordings are read: the code has the last of them, or there is none
-abbrev Behind : Order → List ℕ → List R.Placed → ℕ → Before → Type 0
+abbrev pub Behind : Order → List ℕ → List R.Placed → ℕ → Before → Type 0
 Behind o s ps i Before.Nothing = i ≡ 0
 Behind o s ps i (Before.These q) = Standing o s ps i q
 
--- i of the recordings are read, and the walk goes on at byte p of the file
-pub record Going (o : Order) (s : List ℕ) (ps : List R.Placed) (p i : ℕ) (before : Before) : Type 0 where
-  pub held : Option R.Held
-  pub holds : HeldAs o s before held
+-- i of the recordings are passed: where the next one begins, and the places of the last of them
+pub record Came (o : Order) (s : List ℕ) (ps : List R.Placed) (p i : ℕ) (before : Before) : Type 0 where
   pub place : p ≡ 32 + bytesBefore i ps
-  pub walk : see o 0 s p (R.recordings (length ps - i) held (length s - p) (i + 1)) ≡ goes (drop i ps) (length s)
   pub reached : Behind o s ps i before
+
+abbrev pub Going : Order → List ℕ → ℕ → List R.Placed → ℕ → ℕ → Before → Type 0
+Going o s count ps p i before = Sofar o s count ps p i (Knowing o s before (λ _ _. Came o s ps p i before))
 
 tail-one : {A : Type 0} {a x : A} {l : List A} {i : ℕ} → One (a ∷ l) (suc i) x → One l i x
 tail-one o = record { inside = omega (arith, o .inside); is = o .is }
@@ -137,15 +134,9 @@ bytes-more (p ∷ ps) (suc i) x o = rw (bytes-more ps i x (tail-one o)) (omega a
 pub ok-of : (s : List ℕ) → Bytes s → (h : FileHeader) (x : AcceptedAs s h) → RecordingsOk none (readings (x .file .recordings))
 ok-of s b h x = file-ok (length s) (accepted s b (x .judged) .plays) .recordings
 
-pub going-start : (s : List ℕ) (h : FileHeader) (x : AcceptedAs s h) (o : Order) → o ≡ h .order → Going o s (x .file .recordings) 32 0 Before.Nothing
+pub going-start : (s : List ℕ) (h : FileHeader) (x : AcceptedAs s h) (o : Order) → o ≡ h .order → Going o s (h .count) (x .file .recordings) 32 0 Before.Nothing
 unfolding bytesBefore
-going-start s h x o e = record {
-  held = none;
-  holds = tt;
-  place = refl;
-  walk = rw (sub-zero, e ∙ x .order, ← x .count) (accepted-seen s h x .recordings);
-  reached = refl;
-}
+going-start s h x o e = sofar-start {e = length s} (rw e (went s h x)) (record { holds = tt; is = record { place = refl; reached = refl } })
 
 -- the first recording has its own 120 and 130
 first-own : (ps : List R.Placed) (own : R.Recording → Bool) → ((d : R.Recording) → 0 < length (readings ps) → own (getD (readings ps) (holder own d 0 (readings ps)) d) ≡ true) → (k : ℕ) (x : R.Placed) → One ps k x → k ≡ 0 → own (x .recording) ≡ true
@@ -190,62 +181,43 @@ module _ (o : Order) (s : List ℕ) (ps : List R.Placed) (ok : RecordingsOk none
         owned = (stand, room);
       }
 
-module _ {o : Order} {s : List ℕ} {ps : List R.Placed} {p i : ℕ} {before : Before} (g : Going o s ps p i before) (l : i < length ps) (f : p ≤ length s) where
-  next-walk : see o 0 s p (R.recordings (suc (length ps - (i + 1))) (g .held) (length s - p) (i + 1)) ≡ goes (drop i ps) (length s)
-  next-walk = let d : length ps - i ≡ suc (length ps - (i + 1)) = omega arith in rw d at (g .walk)
-
-  pub next-led : Led o s p (length ps - (i + 1)) (g .held) (i + 1) (drop i ps) (length s)
-  next-led = led o s p (length ps - (i + 1)) (g .held) (i + 1) f next-walk
-
-  -- it was accepted
-  pub going-stop : {r : Refusal} → see o 0 s p (R.recording (g .held) (length s - p) (i + 1)) ≡ halts r → ⊥
-  going-stop h = led-stop o s p (length ps - (i + 1)) (g .held) (i + 1) next-walk h
-
-  -- it is the next of the recordings
-  next-one : One ps i (next-led .one)
-  next-one = record { inside = l; is = λ d. let e = drop-cons ps i d l in let k = next-led .all in cc }
-
-  next-rest : drop (i + 1) ps ≡ next-led .rest
-  next-rest = rw add-one (let e = drop-cons ps i (next-led .one) l in let k = next-led .all in cc)
-
-  pub going-on : RecordingsOk none (readings ps) → {q : Places} → Goes (see o 0 s p (R.recording (g .held) (length s - p) (i + 1))) (Places-of o s p before q) → Room (length s) (q .channels) (q .count) → Going o s ps (q .end) (i + 1) (Before.These q)
-  going-on ok {q} h room =
-      let v = goes-same (sym (h .is) ∙ next-led .is) in
-      let one : One ps i (h .value) = rw (v .0) next-one in
-      let m : next-led .mid ≡ q .end = sym (v .1) ∙ h .kept .end in
-      record {
-        held = leaves (h .value);
-        holds = h .kept .held;
-        place = sym m ∙ next-led .place ∙ rw (add-one i, bytes-more ps i (next-led .one) next-one) (omega (arith, g .place));
-        walk = rw (v .0, ← m, add-one (i + 1), next-rest) (next-led .on);
-        reached = next-standing o s ps ok i before (g .reached) (h .value) one p (g .place) q (h .kept .same) (h .kept .held) room;
-      }
-
 -- The answer of the code for recording i
 
-abbrev pub Met : Order → List ℕ → List R.Placed → ℕ → Recorded → Type 0
-Met o s ps i (Recorded.On q) = Going o s ps (q .end) i (Before.These q)
-Met o s ps i (Recorded.Stop r) = ⊥
+abbrev pub Met : Order → List ℕ → ℕ → List R.Placed → ℕ → Recorded → Type 0
+Met o s count ps i (Recorded.On q) = Going o s count ps (q .end) i (Before.These q)
+Met o s count ps i (Recorded.Stop r) = ⊥
 
-module _ {o : Order} {s : List ℕ} {ps : List R.Placed} {p i : ℕ} {before : Before} (g : Going o s ps p i before) (l : i < length ps) (f : p ≤ length s) (ok : RecordingsOk none (readings ps)) where
-  met-next : (a : Recorded) → recorded o s p before (see o 0 s p (R.recording (g .held) (length s - p) (i + 1))) a → Continues p (length s) a → Met o s ps (i + 1) a
-  met-next (Recorded.On q) h k = going-on g l f ok h (k .2)
-  met-next (Recorded.Stop r) h k = absurd (going-stop g l f h)
+module _ {o : Order} {s : List ℕ} {count : ℕ} {ps : List R.Placed} {p i : ℕ} (before : Before) (g : Going o s count ps p i before) (l : i < count) (f : p ≤ length s) where
+  -- the next of the recordings
+  next-one : {x : R.Placed} {q : ℕ} → see o 0 s p (R.recording (g .at .held) (length s - p) (i + 1)) ≡ goes x q → One ps i x
+  next-one {x} h =
+      let n = passed-next (g .at) l f h in
+      let e : ps ≡ g .at .done ++ (x ∷ n .to .left) = n .to .all ∙ rw (n .more, append-assoc) in
+      record { inside = omega (arith, ap length e, length-append (g .at .done) (x ∷ n .to .left), g .at .many); is = λ d. rw e (getD-at (g .at .done) x (n .to .left) d i (g .at .many)) }
+
+  came : RecordingsOk none (readings ps) → {q : Places} {x : R.Placed} → Room (length s) (q .channels) (q .count) → Next o s p i before (g .at .held) q x → Came o s ps (q .end) (i + 1) (Before.These q)
+  came ok {q} {x} room n =
+      let one = next-one (n .is) in
+      record {
+        place = ap (λ (y : Places). y .end) (n .same) ∙ rw (add-one i, bytes-more ps i x one) (omega (arith, g .is .is .place));
+        reached = next-standing o s ps ok i before (g .is .is .reached) x one p (g .is .is .place) q (n .same) (n .stands) room;
+      }
 
   -- by what `recording_again` says of it
-  pub met : (a : Recorded) → ((held : Option R.Held) (j : ℕ) (x : R.Placed) (e : ℕ) → HeldAs o s before held → see o 0 s p (R.recording held (length s - p) j) ≡ goes x e → recorded o s p before (see o 0 s p (R.recording held (length s - p) j)) a) → Continues p (length s) a → Met o s ps (i + 1) a
-  met a h k = let v = next-led g l f in met-next a (h (g .held) (i + 1) (v .one) (v .mid) (g .holds) (v .is)) k
+  pub met : RecordingsOk none (readings ps) → (a : Recorded) → AgainAs o s p before a → Met o s count ps (i + 1) a
+  met ok (Recorded.On q) k = again-next g l f (Recorded.On q) k refl (λ x n. came ok (bounds o s p before (Recorded.On q) k .2) n)
+  met ok (Recorded.Stop r) k = again-stop g l f (Recorded.Stop r) k refl
 
-pub met-reached : (o : Order) (s : List ℕ) (ps : List R.Placed) (n : ℕ) (a : Recorded) → Met o s ps n a → Reached o s ps n a
-met-reached o s ps n (Recorded.On q) g = g .reached
-met-reached o s ps n (Recorded.Stop r) g = g
+pub met-reached : (o : Order) (s : List ℕ) (count : ℕ) (ps : List R.Placed) (n : ℕ) (a : Recorded) → Met o s count ps n a → Reached o s ps n a
+met-reached o s count ps n (Recorded.On q) g = g .is .is .reached
+met-reached o s count ps n (Recorded.Stop r) g = g
 
 -- the code has the answer for recording i, on the way to recording n
 pub record Walked (o : Order) (s : List ℕ) (n i : ℕ) (a : Recorded) : Type 0 where
   pub within : i ≤ n
   pub start : ℕ
   pub bounds : Continues start (length s) a
-  pub meets : (h : FileHeader) (x : AcceptedAs s h) → o ≡ h .order → n ≤ h .count → Met o s (x .file .recordings) i a
+  pub meets : (h : FileHeader) (x : AcceptedAs s h) → o ≡ h .order → n ≤ h .count → Met o s (h .count) (x .file .recordings) i a
 
 -- The recording asked for
 

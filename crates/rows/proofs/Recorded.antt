@@ -1,6 +1,6 @@
 -- The rows of a recording, and of all recordings of a file, from what the code wrote for each.
 -- Assumes nothing.
-use mathlib.Core.Path.{_≡_, sym, subst}
+use mathlib.Core.Path.{_≡_}
 use mathlib.Core.Bool.{Bool}
 use mathlib.Core.List.{List, [], _∷_}
 use mathlib.Core.Option.{Option}
@@ -10,14 +10,13 @@ use lib.IntN.{ℤ}
 use lib.ListN.{length}
 use Rattle.words.specs.declared.Order.{Order}
 use Rattle.rules.specs.declared.Head as At
-use Rattle.rules.specs.Rules.{Placed, span}
+use Rattle.rules.specs.Rules.{Held, Placed, span}
 use Rattle.records.specs.Says.{headOf}
 use Rattle.children.specs.Children.{Said, said, _then_, RecordAt}
-use Rattle.children.specs.Recordings.{ReadAs, OfBody, OfRecording, rowsOf}
-use Rattle.children.proofs.Saying.{nothing}
-use Rattle.children.proofs.Recordings.{bodyOf, within, recording-ends, recording-head, Passed, passed-none, passed-led, passed-next, passed-said}
+use Rattle.children.specs.Recordings.{OfBody, OfRecording}
+use Rattle.children.proofs.Recordings.{bodyOf, within, recording-ends, recording-head, Sofar, sofar-next}
 use Rattle.rows.specs.Rows.{Wrote}
-use Rattle.rows.proofs.Written.{wrote-join, wrote-nothing}
+use Rattle.rows.proofs.Written.{wrote-join}
 
 -- the row of the recording that the cursor found at p, and those of its body
 module _ {o : Order} {s : List ℕ} {p : ℕ} {h : At.Head} {q : ℕ} (v : RecordAt o 0 s p h q) {w : Bool} {out out₁ out₂ : List ℤ} {k k₁ k₂ : ℕ} where
@@ -30,24 +29,13 @@ module _ {o : Order} {s : List ℕ} {p : ℕ} {h : At.Head} {q : ℕ} (v : Recor
       record { ends = m; holds = rw (y .rows) (wrote-join w out out₁ out₂ k k₁ k₂ _ _ f (body held (y .top) x q (y .fills) (y .body))) }
 
 -- the recordings that are passed are listed
-pub record Sofar (o : Order) (s : List ℕ) (w : Bool) (count : ℕ) (out out′ : List ℤ) (ps : List Placed) (p k i : ℕ) : Type 0 where
-  pub at : Passed o s count ps p i
-  pub wrote : Wrote w out out′ 0 k (at .tells .rows)
+abbrev pub Listed : Bool → List ℤ → List ℤ → ℕ → Option Held → List Placed → Said → Type 0
+Listed w out out′ k _ _ l = Wrote w out out′ 0 k (l .rows)
 
-module _ {o : Order} {s : List ℕ} {w : Bool} {count : ℕ} {out : List ℤ} {ps : List Placed} where
-  pub sofar-start : {e : ℕ} → ReadAs o s count ps e → Sofar o s w count out out ps 32 0 0
-  unfolding passed-none
-  sofar-start g = record { at = passed-none g; wrote = wrote-nothing w out 0 }
-
-  module _ {out′ : List ℤ} {p k i : ℕ} (g : Sofar o s w count out out′ ps p k i) where
-    pub sofar-next : {out″ : List ℤ} {p′ k′ : ℕ} → i < count → p ≤ length s → OfRecording o s p p′ (Wrote w out′ out″ k k′) → Sofar o s w count out out″ ps p′ k′ (i + 1)
-    unfolding said _then_
-    sofar-next {out″} {p′} {k′} many fit wrote =
-        let y = passed-led (g .at) many fit in
-        let u = wrote (g .at .held) (i + 1) (y .one) (y .mid) (y .is) in
-        let n = passed-next (g .at) many fit (rw (u .ends) at (y .is)) in
-        record { at = n .to; wrote = subst (λ (l : Said). Wrote w out out″ 0 k′ (l .rows)) (sym (n .adds)) (wrote-join w out out′ out″ 0 k k′ (g .at .tells .rows) _ (g .wrote) (u .holds)) }
-
-    pub sofar-end : count ≤ i → Wrote w out out′ 0 k (rowsOf o s count)
-    unfolding said
-    sofar-end few = subst (λ (l : Said). Wrote w out out′ 0 k (l .rows)) (sym (passed-said (g .at) few)) (g .wrote)
+-- and the one that the code wrote next
+module _ {o : Order} {s : List ℕ} {w : Bool} {count : ℕ} {out out′ : List ℤ} {ps : List Placed} {p k i : ℕ} where
+  pub listed-next : {out″ : List ℤ} {p′ k′ : ℕ} → Sofar o s count ps p i (Listed w out out′ k) → i < count → p ≤ length s → OfRecording o s p p′ (Wrote w out′ out″ k k′) → Sofar o s count ps p′ (i + 1) (Listed w out out″ k′)
+  unfolding said _then_
+  listed-next {out″} {k′ = k′} g many fit wrote =
+      sofar-next g many fit
+      (λ x e h. let u = wrote (g .at .held) (i + 1) x e h in record { ends = u .ends; holds = wrote-join w out out′ out″ 0 k k′ (g .at .tells .rows) _ (g .is) (u .holds) })

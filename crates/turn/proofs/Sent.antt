@@ -4,9 +4,8 @@ use mathlib.Core.Path.{_≡_, refl, sym, ap, subst, _∙_}
 use mathlib.Core.Bool.{true}
 use mathlib.Core.List.{List, [], _∷_, _++_, append-assoc, append-nil}
 use mathlib.Core.Option.{Option, none}
-use Prim.Native.Nat.{ℕ, suc, _+_, _-_, _≤_, _<_}
-use native.Mathlib.Nat.{zero-add, sub-zero}
-use native.Mathlib.Numerals.{add-one}
+use Prim.Native.Nat.{ℕ, _+_, _-_, _≤_, _<_}
+use native.Mathlib.Nat.{zero-add}
 use native.Mathlib.Omega.{arith}
 use borrow.Author.Tests.{eqb-true}
 use lib.Dec.{leb, eqb}
@@ -14,35 +13,34 @@ use lib.ListN.{length, getD, set, take, drop, length-append, length-drop}
 use lib.Seq.{take-add, take-all, drop-drop, length-take-le}
 use Rattle.words.specs.Numbers.{bytesAt}
 use Rattle.words.specs.Runs.{pasted}
-use Rattle.words.specs.declared.Order.{Order}
-use Rattle.words.proofs.Runs.{pasted-pasted, pasted-nothing, set-pasted, more-written}
+use Rattle.words.proofs.Runs.{set-pasted, more-written}
 use Rattle.walk.specs.Walk.{Letter, laid, Walk, _>>=_, _>>_}
-use Rattle.walk.specs.See.{stops, goes, see, Goes, Stays}
+use Rattle.walk.specs.See.{goes, see, Stays}
 use Rattle.walk.specs.Trace.{trace, written}
 use Rattle.walk.proofs.Laid.{laid-text, length-laid}
-use Rattle.walk.proofs.Seen.{see-part, body-length}
+use Rattle.walk.proofs.Seen.{see-part, stays-goes, body-length}
 use Rattle.walk.proofs.Tracing.{written-append, written-none, written-piece}
-use Rattle.walk.proofs.Went.{gate-went, goes-same}
+use Rattle.walk.proofs.Went.{gate-went}
 use Rattle.rules.specs.Rules as R
-use Rattle.rules.specs.Rules.{head, coded, admit, span, recordingBody, recording, recordings, fileHeader}
+use Rattle.rules.specs.Rules.{head, coded, admit, span, recordingBody, recording, fileHeader}
 use Rattle.rules.specs.declared.Channels.{Channels}
 use Rattle.rules.specs.declared.Head.{Head}
-use Rattle.rules.proofs.Room.{stays-recordingBody, stays-recording}
+use Rattle.rules.proofs.Room.{stays-recordingBody, stays-recording, stays-recordings}
 use Rattle.records.specs.Says.{headOf}
-use Rattle.children.specs.Children.{Said, said, Known, knownOf, Inner, Chain, RecordAt, NoRecord}
+use Rattle.children.specs.Children.{Said, said, Known, knownOf, Inner, Chain, RecordAt, NoRecord, _then_}
 use Rattle.children.proofs.Chained.{body-chain}
 use Rattle.children.proofs.Visiting.{chain-parted, chain-closed}
-use Rattle.descriptions.specs.Tabled.{Stand, HeldAs}
+use Rattle.descriptions.specs.Tabled.{Stand}
+use Rattle.children.specs.Recordings.{allOf, ReadAs}
+use Rattle.children.proofs.Saying.{nothing}
 use Rattle.descriptions.specs.declared.Before.{Before}
-use Rattle.descriptions.specs.declared.Before.the-variants as Before
 use Rattle.descriptions.specs.declared.Places.{Places}
-use Rattle.judge.specs.Recorded.{leaves, Places-of}
-use Rattle.judge.proofs.Led.{Led, led, led-stop}
-use Rattle.children.proofs.Recordings.{Begun, begun, led-events}
+use Rattle.children.proofs.Recordings.{Begun, begun}
+use Rattle.children.proofs.Again.{Next}
 use Rattle.rows.proofs.Body.{closed-inside}
 use Rattle.bodies.specs.Copy.{copy, Pastes, Holds}
 use Rattle.bodies.specs.declared.Way.{Way}
-use Rattle.bodies.proofs.Copying.{copy-bind, copy-admit, copy-part, length-copy, holds-join}
+use Rattle.bodies.proofs.Copying.{copy-bind, copy-admit, copy-part, length-copy, holds-join, pastes-join, pastes-nothing}
 use Rattle.transcripts.specs.Transcript.{anew, Copied, Transcribed}
 use Rattle.transcripts.proofs.Transcribing.{inner-140, anew-then, Copying, copying-none, copying-more, closed-bytes}
 use Rattle.turn.specs.Turn.{Subs, FramesSent, ChildSent, LastSent}
@@ -116,63 +114,45 @@ module _ (w : Way) (s : List ℕ) (p q : ℕ) where
       let m : p + length (xs ++ copy w (p + 16) within (p + 16) u) ≤ length out = subst (λ (y : List ℕ). p + length y ≤ length out) (begun-bytes w s p held i v ∙ ap (λ (y : List ℕ). xs ++ y) (sym same)) (omega (arith, n, v .inside)) in
       holds-join out out₁ out₂ p k k xs (copy w (p + 16) within (p + 16) u) (rw zero-add at (first 0 (length s - p))) body m ∙ ap (pasted out p) (ap (λ (y : List ℕ). xs ++ y) same ∙ sym (begun-bytes w s p held i v))
 
--- i of the recordings are written, and the walk goes on at byte p of the file, holding what the code has of the recording before
-pub record Sending (w : Way) (s : List ℕ) (count : ℕ) (out₀ out : List ℕ) (p i : ℕ) (before : Before) : Type 0 where
-  pub held : Option R.Held
-  pub holds : HeldAs (w .from) s before held
-  pub value : List R.Placed
-  pub end : ℕ
-  pub on : see (w .from) 0 s p (recordings (count - i) held (length s - p) (i + 1)) ≡ goes value end
-  pub done : List ℕ
-  pub place : p ≡ 32 + length done
-  pub wrote : out ≡ pasted out₀ 32 done
-  pub rest : copy w 0 s 32 (recordings count none (length s - 32) 1) ≡ done ++ copy w 0 s p (recordings (count - i) held (length s - p) (i + 1))
+-- where there is room, the bytes xs stand behind the file header, and the next go at k
+pub record AfterHeader (out out′ : List ℕ) (k : ℕ) (xs : List ℕ) : Type 0 where
+  pub is : Pastes out out′ 32 k xs
 
-module _ {w : Way} {s : List ℕ} {count : ℕ} {out₀ : List ℕ} where
-  pub sending-start : {l : List R.Placed} {e : ℕ} → see (w .from) 0 s 32 (recordings count none (length s - 32) 1) ≡ goes l e → Sending w s count out₀ out₀ 32 0 Before.Nothing
-  sending-start {l} {e} g = record { held = none; holds = tt; value = l; end = e; on = rw sub-zero g; done = []; place = refl; wrote = sym (pasted-nothing out₀ 32); rest = simp sub-zero }
+module _ {out out₁ : List ℕ} {k : ℕ} {xs : List ℕ} where
+  pub after-more : AfterHeader out out₁ k xs → (out₂ : List ℕ) (k₂ : ℕ) (ys : List ℕ) → Pastes out₁ out₂ k k₂ ys → AfterHeader out out₂ k₂ (xs ++ ys)
+  after-more h out₂ k₂ ys g = record { is = pastes-join out out₁ out₂ 32 k k₂ xs ys (h .is) g }
 
-  module _ {out : List ℕ} {p i : ℕ} {before : Before} (x : Sending w s count out₀ out p i before) (fit : p ≤ length s) where
-    -- the first of the recordings that are left, and the others
-    sending-on : i < count → see (w .from) 0 s p (recordings (suc (count - (i + 1))) (x .held) (length s - p) (i + 1)) ≡ goes (x .value) (x .end)
-    sending-on h = let d : count - i ≡ suc (count - (i + 1)) = omega arith in rw d at (x .on)
+-- a header, which a call wrote as ys into the buffer, and what then came behind it
+pub whole-file : {out₁ out zs : List ℕ} {k : ℕ} → AfterHeader out₁ out k zs → (out₀ ys xs : List ℕ) → 32 ≤ length out₀ → ys ≡ xs → length out₁ ≡ length out₀ → out₁ ≡ ys ++ drop 32 out₀ → 32 + length zs ≤ length out₀ → out ≡ pasted out₀ 0 (xs ++ zs)
+whole-file {out₁} {out} {zs} h out₀ ys xs f e l e₁ room =
+    let m : length ys ≡ 32 = omega (arith, f, l, ap length e₁, length-append ys (drop 32 out₀), length-drop 32 out₀) in
+    h .is (omega (arith, l, room)) .1 ∙ (more-written out₀ out₁ ys zs 32 (e₁ ∙ filled-first out₀ ys 32 m) (sym m) ∙ ap (λ (l : List ℕ). pasted out₀ 0 (l ++ zs)) e)
 
-    pub sending-led : i < count → Led (w .from) s p (count - (i + 1)) (x .held) (i + 1) (x .value) (x .end)
-    sending-led h = led (w .from) s p (count - (i + 1)) (x .held) (i + 1) fit (sending-on h)
+-- what is written of what was said
+module _ (w : Way) where
+  abbrev pub sentOf : Said → List ℕ
+  sentOf l = written (w .keep) (w .to) (l .events)
 
-    -- it was accepted
-    pub sending-stop : {n q : ℕ} → i < count → see (w .from) 0 s p (recording (x .held) (length s - p) (i + 1)) ≡ stops n q → ⊥
-    sending-stop h g = led-stop (w .from) s p (count - (i + 1)) (x .held) (i + 1) (sending-on h) g
+  pub sent-none : (out : List ℕ) → AfterHeader out out 32 (sentOf nothing)
+  sent-none out = record { is = rw (written-none (w .keep) (w .to)) (pastes-nothing out 32) }
 
-    pub sending-next : {q : Places} (out′ : List ℕ) → i < count → 32 ≤ length out₀ → (k : Goes (see (w .from) 0 s p (recording (x .held) (length s - p) (i + 1))) (Places-of (w .from) s p before q)) →
+  module _ {s : List ℕ} {p : ℕ} where
+    -- one recording more: the code has its places q, and wrote it where it stands in the file
+    pub sent-next : {i : ℕ} {before : Before} {held : Option R.Held} {q : Places} {x : R.Placed} → p ≤ length s → Next (w .from) s p i before held q x → {out₀ out : List ℕ} (l : Said) (out′ : List ℕ) →
         ((held : Option R.Held) (j : ℕ) (y : R.Placed) → see (w .from) 0 s p (recording held (length s - p) j) ≡ goes y (q .end) → Stand (w .from) s (q .channels) (q .count) (y .recording .channels) → out′ ≡ pasted out p (copy w 0 s p (recording held (length s - p) j))) →
-        Sending w s count out₀ out′ (q .end) (i + 1) (Before.These q)
-    sending-next {q} out′ h f k copied =
-        let d : count - i ≡ suc (count - (i + 1)) = omega arith in
-        let v = sending-led h in
-        let e : (v .one ≡ k .value) × (v .mid ≡ k .end) = goes-same (sym (v .is) ∙ k .is) in
-        let m : v .mid ≡ q .end = e .1 ∙ k .kept .end in
-        let is : see (w .from) 0 s p (recording (x .held) (length s - p) (i + 1)) ≡ goes (k .value) (q .end) = k .is ∙ ap (λ (j : ℕ). goes (k .value) j) (k .kept .end) in
-        let ys : List ℕ = copy w 0 s p (recording (x .held) (length s - p) (i + 1)) in
-        let c = copied (x .held) (i + 1) (k .value) is (k .kept .held) in
-        let n = length-copy w 0 s (p + (length s - p)) (omega arith) (recording (x .held) (length s - p) (i + 1)) p _ (omega arith) (stays-recording (x .held) (i + 1) p (length s - p)) is in
-        let z = ap (written (w .keep) (w .to)) (led-events v) ∙ written-append (w .keep) (w .to) (trace (w .from) 0 s p (recording (x .held) (length s - p) (i + 1))) (trace (w .from) 0 s (v .mid) (recordings (count - (i + 1)) (leaves (v .one)) (length s - v .mid) (suc (i + 1)))) in
-        let a : ys ++ copy w 0 s (v .mid) (recordings (count - (i + 1)) (leaves (v .one)) (length s - v .mid) (suc (i + 1))) ≡ ys ++ copy w 0 s (q .end) (recordings (count - (i + 1)) (leaves (v .one)) (length s - q .end) (i + 1 + 1)) = rw (← m, add-one (i + 1)) in
-        record {
-          held = leaves (v .one);
-          holds = subst (λ (y : R.Placed). HeldAs (w .from) s (Before.These q) (leaves y)) (sym (e .0)) (k .kept .held);
-          value = v .rest;
-          end = x .end;
-          on = rw (← m, add-one (i + 1)) (v .on);
-          done = x .done ++ ys;
-          place = omega (arith, x .place, n, length-append (x .done) ys);
-          wrote = c ∙ (ap (λ (l : List ℕ). pasted l p ys) (x .wrote) ∙ (ap (λ (j : ℕ). pasted (pasted out₀ 32 (x .done)) j ys) (x .place) ∙ pasted-pasted out₀ 32 (x .done) ys f));
-          rest = x .rest ∙ (ap (λ (j : ℕ). x .done ++ copy w 0 s p (recordings j (x .held) (length s - p) (i + 1))) d ∙ (ap (λ (l : List ℕ). x .done ++ l) (z ∙ a) ∙ sym (append-assoc (x .done) ys _)));
-        }
+        AfterHeader out₀ out p (sentOf l) → AfterHeader out₀ out′ (q .end) (sentOf (l then said (w .from) 0 s p (recording held (length s - p) (i + 1))))
+    unfolding said _then_
+    sent-next {i} {held = held} {q} {x} fit n l out′ copied h =
+        let m = length-copy w 0 s (p + (length s - p)) (omega arith) (recording held (length s - p) (i + 1)) p _ (omega arith) (stays-recording held (i + 1) p (length s - p)) (n .is) in
+        rw (written-append (w .keep) (w .to) (l .events)) (after-more h out′ (q .end) _ (λ _. (sym m, copied held (i + 1) x (n .is) (n .stands))))
 
-    pub sending-end : count ≤ i → out ≡ pasted out₀ 32 (copy w 0 s 32 (recordings count none (length s - 32) 1))
-    unfolding recordings trace
-    sending-end h = let d : count - i ≡ 0 = omega arith in x .wrote ∙ ap (pasted out₀ 32) (sym (x .rest ∙ rw (d, written-none) (append-nil (x .done))))
+  -- all of them are as long as they were
+  pub sent-length : (s : List ℕ) (count : ℕ) {ps : List R.Placed} {e : ℕ} → 32 ≤ length s → ReadAs (w .from) s count ps e → 32 + length (sentOf (said (w .from) 0 s 32 (allOf count s))) ≤ length s
+  unfolding said
+  sent-length s count f g =
+      let stays = stays-recordings count none (length s - 32) 1 (length s) 32 (omega arith) in
+      let m = stays-goes (w .from) 0 s (length s) (omega arith) (allOf count s) 32 _ (omega arith) stays g in
+      omega (arith, length-copy w 0 s (length s) (omega arith) (allOf count s) 32 _ (omega arith) stays g, m)
 
 -- the file header: texts, and the letter
 bytes-split : (n m k : ℕ) (s : List ℕ) → bytesAt (n + m) s k ≡ bytesAt n s k ++ bytesAt m s (k + n)
@@ -203,12 +183,11 @@ module _ (w : Way) (s : List ℕ) (n : ℕ) where
   unfolding fileHeader _>>=_ _>>_
   stays-header = λ _. (omega arith, λ _ _ _. (omega arith, λ _ _ _. (omega arith, λ _ _ _. (omega arith, λ _ _ _. (omega arith, λ _ _ _. (omega arith, λ _ _ _. (omega arith, λ _ _ _. tt)))))))
 
-  -- its first 32 bytes are all that it reads
-  pub header-in : {f : R.FileHeader} → 32 ≤ length s → see (w .from) 0 s 0 (fileHeader n) ≡ goes f 32 →
-      (see (w .from) 0 (take 32 s) 0 (fileHeader n) ≡ goes f 32) × (copy w 0 (take 32 s) 0 (fileHeader n) ≡ copy w 0 s 0 (fileHeader n)) × (length (copy w 0 s 0 (fileHeader n)) ≡ 32)
-  header-in l g =
-      let r = read-part w 0 0 0 32 s (fileHeader n) refl l stays-header g refl in
-      (see-part (w .from) 0 0 0 32 s refl l (fileHeader n) 0 _ (omega arith) stays-header ∙ g, r .0, r .1)
+  -- its first 32 bytes are all that it reads: ys is what a call wrote of them
+  pub header-first : {f : R.FileHeader} (ys : List ℕ) → 32 ≤ length s → see (w .from) 0 s 0 (fileHeader n) ≡ goes f 32 →
+      ((m : ℕ) (y : R.FileHeader) (e : ℕ) → see (w .from) 0 (take 32 s) 0 (fileHeader m) ≡ goes y e → ys ≡ copy w 0 (take 32 s) 0 (fileHeader m)) → ys ≡ copy w 0 s 0 (fileHeader n)
+  header-first {f} ys l g first =
+      first n f 32 (see-part (w .from) 0 0 0 32 s refl l (fileHeader n) 0 _ (omega arith) stays-header ∙ g) ∙ read-part w 0 0 0 32 s (fileHeader n) refl l stays-header g refl .0
 
   -- the code wrote the letter v, and all other bytes as they stand
   pub header-copied : (v : ℕ) {f : R.FileHeader} {e : ℕ} → length s ≡ 32 → laid (w .to) Letter (76 ∷ []) ≡ v ∷ [] → see (w .from) 0 s 0 (fileHeader n) ≡ goes f e → set s 16 v ≡ copy w 0 s 0 (fileHeader n)
@@ -220,13 +199,3 @@ module _ (w : Way) (s : List ℕ) (n : ℕ) where
       let d : take 16 s ++ (v ∷ drop 17 s) ≡ (bytesAt 8 s 0 ++ (bytesAt 6 s 8 ++ bytesAt 2 s 14)) ++ (v ∷ (bytesAt 1 s 17 ++ (bytesAt 4 s 18 ++ bytesAt 10 s 22))) = ap (λ (l : List ℕ). l ++ (v ∷ drop 17 s)) b ∙ ap (λ (l : List ℕ). (bytesAt 8 s 0 ++ (bytesAt 6 s 8 ++ bytesAt 2 s 14)) ++ (v ∷ l)) c in
       let j : (bytesAt 8 s 0 ++ (bytesAt 6 s 8 ++ bytesAt 2 s 14)) ++ (v ∷ (bytesAt 1 s 17 ++ (bytesAt 4 s 18 ++ bytesAt 10 s 22))) ≡ bytesAt 8 s 0 ++ (bytesAt 6 s 8 ++ (bytesAt 2 s 14 ++ (v ∷ (bytesAt 1 s 17 ++ (bytesAt 4 s 18 ++ bytesAt 10 s 22))))) = simp append-assoc in
       set-pasted s 16 v (omega arith) ∙ (d ∙ (j ∙ sym (header-bytes ∙ rw (a, h))))
-
--- the header, and the recordings behind it
-pub file-copied : (w : Way) (s : List ℕ) (n : ℕ) {f : R.FileHeader} → 32 ≤ length s → see (w .from) 0 s 0 (fileHeader n) ≡ goes f 32 → (out₀ out₁ out ys all : List ℕ) →
-    ((m : ℕ) (y : R.FileHeader) (e : ℕ) → see (w .from) 0 (take 32 s) 0 (fileHeader m) ≡ goes y e → ys ≡ copy w 0 (take 32 s) 0 (fileHeader m)) → out₁ ≡ ys ++ drop 32 out₀ → out ≡ pasted out₁ 32 all →
-    out ≡ pasted out₀ 0 (copy w 0 s 0 (fileHeader n) ++ all)
-file-copied w s n {f} l g out₀ out₁ out ys all first e₁ e₂ =
-    let r = header-in w s n l g in
-    let y : ys ≡ copy w 0 s 0 (fileHeader n) = first n f 32 (r .0) ∙ r .1 in
-    let m : length ys ≡ 32 = ap length y ∙ r .2 in
-    e₂ ∙ (more-written out₀ out₁ ys all 32 (e₁ ∙ filled-first out₀ ys 32 m) (sym m) ∙ ap (λ (l : List ℕ). pasted out₀ 0 (l ++ all)) y)

@@ -1,12 +1,13 @@
 -- `recordings::recordings_to` meets its contract: each answer of `recording_again` is that of the next recording.
 -- Assumes nothing.
 use mathlib.Core.Path.{_≡_}
-use Prim.Native.Nat.{_-_, _≤_, _<_}
+use Prim.Native.Nat.{_-_}
 use native.Mathlib.Omega.{arith}
 use denote.Ref.{now}
 use borrow.Author.Needs.{needs}
-use lib.ListN.{length}
+use Rattle.descriptions.specs.declared.Before.the-variants as Before
 use Rattle.words.proofs.Words.{bytes}
+use Rattle.children.proofs.Again.{bounds}
 use Rattle.recordings.proofs.Reach.{Walked, ok-of, going-start, met, met-reached}
 use Rattle.recordings.proofs.recordings_to.Statement.{statement}
 use Rattle.recordings.proofs.recordings_to.Tie as tie
@@ -28,11 +29,10 @@ loop-holds c =
     record {
       within = p .first;
       start = 32;
-      bounds = k .1;
+      bounds = bounds (a .o) (now (a .file)) 32 Before.Nothing (c .recording-again .result) k;
       meets = λ h x e l.
           let b = bytes (now (a .file)) (λ j. omega (arith, c .before .shared-slice-known .given j)) in
-          let m : 0 < length (x .file .recordings) = omega (arith, x .count, l, p .first) in
-          met (going-start (now (a .file)) h x (a .o) e) m (p .header) (ok-of _ b h x) (c .recording-again .result) (k .0) (k .1);
+          met Before.Nothing (going-start (now (a .file)) h x (a .o) e) (omega (arith, l, p .first)) (p .header) (ok-of _ b h x) (c .recording-again .result) k;
     }
 
 returns : tie.Need-returns Inv-loop μ-loop
@@ -54,11 +54,10 @@ loop-again c =
     record {
       within = omega arith;
       start = d .step .given .0 .0 .end;
-      bounds = u .1;
+      bounds = bounds (f .args .o) (now (f .args .file)) (d .step .given .0 .0 .end) (Before.These (d .step .given .0 .0)) (c .recording-again2 .result) u;
       meets = λ h x o l.
           let b = bytes (now (f .args .file)) (λ j. omega (arith, k .before .before .shared-slice-known .given j)) in
-          let m : k .loop .i < length (x .file .recordings) = omega (arith, x .count, l, d .before .before .loop-test .taken) in
-          met (rw (d .step .given .1) at (i .meets h x o l)) m ((rw (d .step .given .1) at (i .bounds)) .1) (ok-of _ b h x) (c .recording-again2 .result) (u .0) (u .1);
+          met (Before.These (d .step .given .0 .0)) (rw (d .step .given .1) at (i .meets h x o l)) (omega (arith, l, d .before .before .loop-test .taken)) ((rw (d .step .given .1) at (i .bounds)) .1) (ok-of _ b h x) (c .recording-again2 .result) u;
     }
 
 returns-2 : tie.Need-returns-2 Inv-loop μ-loop
@@ -66,7 +65,7 @@ returns-2 c =
     let k = c .before .loop in
     let a = c .before .before .before .before .args in
     let d : k .i ≡ a .n = omega (arith, k .inv .within) in
-    λ h x o l. met-reached (a .o) (now (a .file)) (x .file .recordings) (a .n) (k .step) (rw d at (k .inv .meets h x o l))
+    λ h x o l. met-reached (a .o) (now (a .file)) (h .count) (x .file .recordings) (a .n) (k .step) (rw d at (k .inv .meets h x o l))
 
 pub recordings-to-spec : {M : Type 1} → statement M
 recordings-to-spec =

@@ -10,7 +10,10 @@ use lib.ListN.{length}
 use Rattle.words.specs.declared.Order.{Order}
 use Rattle.rules.specs.Rules.{Placed}
 use Rattle.children.specs.Recordings.{ReadAs}
-use Rattle.rows.proofs.Recorded.{Sofar, sofar-start, sofar-next, sofar-end}
+use Rattle.children.specs.Children.{said}
+use Rattle.children.proofs.Recordings.{Sofar, sofar-start, sofar-end}
+use Rattle.rows.proofs.Written.{wrote-nothing}
+use Rattle.rows.proofs.Recorded.{Listed, listed-next}
 use borrow.Author.Needs.{needs}
 use Rattle.rows.proofs.file_rows.Statement.{statement}
 use Rattle.rows.proofs.file_rows.Tie as tie
@@ -20,7 +23,7 @@ record Going (o : Order) (file : List ℕ) (count : ℕ) (out₀ : List ℤ) (wr
   inside : at ≤ length file
   reaches : k ≤ at
   same : length out ≡ length out₀
-  listed : (ps : List Placed) (e : ℕ) → ReadAs o file count ps e → Sofar o file write count out₀ out ps at k i
+  listed : (ps : List Placed) (e : ℕ) → ReadAs o file count ps e → Sofar o file count ps at i (Listed write out₀ out k)
 
 abbrev Inv-loop : tie.InvT-loop
 Inv-loop o file count out₀ write at₀ k₀ i₀ out at k i = Going o file count out₀ write out at k i
@@ -29,7 +32,7 @@ abbrev μ-loop : tie.MeasureT-loop
 μ-loop o file count out₀ write at₀ k₀ i₀ out at k i = count - i
 
 loop-holds : tie.Need-loop-holds Inv-loop μ-loop
-loop-holds c = record { few = omega arith; inside = omega arith; reaches = omega arith; same = refl; listed = λ ps e g. sofar-start g }
+loop-holds c = record { few = omega arith; inside = omega arith; reaches = omega arith; same = refl; listed = λ ps e g. sofar-start g (wrote-nothing _ _ 0) }
 
 loop-again : tie.Need-loop-again Inv-loop μ-loop
 loop-again c =
@@ -41,13 +44,14 @@ loop-again c =
       inside = r .ensures .inside;
       reaches = r .ensures .reaches;
       same = r .kept .1 .1 .1 .0 ∙ inv .same;
-      listed = λ ps e g. sofar-next (inv .listed ps e g) (x .loop-test .taken) (inv .inside) (r .ensures .wrote);
+      listed = λ ps e g. listed-next (inv .listed ps e g) (x .loop-test .taken) (inv .inside) (r .ensures .wrote);
     }
 
 same-length : tie.Need-same-length Inv-loop μ-loop
 same-length c = c .before .loop .inv .same
 
 returns : tie.Need-returns Inv-loop μ-loop
+unfolding said
 returns c =
     let inv = c .before .loop .inv in
     record { reaches = omega (arith, inv .inside, inv .reaches); wrote = λ ps e g. sofar-end (inv .listed ps e g) (c .loop-test .left) }

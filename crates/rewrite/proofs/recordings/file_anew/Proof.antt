@@ -1,4 +1,4 @@
--- `rewrite::recordings::file_anew` meets its contract. The loop's invariant: behind the header stands the canonical form of the recordings read so far.
+-- `rewrite::recordings::file_anew` meets its contract. The loop's invariant: behind the header stands the canonical form of the recordings that are passed.
 -- The measure is how many recordings are left. Assumes nothing.
 use mathlib.Core.Path.{_≡_, refl, sym, _∙_}
 use mathlib.Core.List.{List}
@@ -8,17 +8,25 @@ use denote.Ref.{now}
 use lib.ListN.{length}
 use lib.Seq.{length-take-le}
 use borrow.Author.Needs.{needs}
-use Rattle.rules.specs.Rules.{Placed}
-use Rattle.descriptions.specs.Tabled.{Within}
-use Rattle.children.specs.Recordings.{ReadAs}
-use Rattle.rewrite.proofs.Files.{going-led, going-stop, Written, written-start, written-next, written-end, behind-header}
+use Rattle.walk.specs.Walk.{size, render}
+use Rattle.walk.proofs.Laws.{length-render}
+use Rattle.rules.specs.Canonical as C
+use Rattle.descriptions.specs.declared.Before.{Before}
+use Rattle.children.proofs.Again.{Along, along-start, along-stop, along-fits, along-next, along-end}
+use Rattle.bodies.specs.declared.Way.{Way}
+use Rattle.bodies.proofs.Copying.{pastes-nothing}
+use Rattle.turn.proofs.Sent.{AfterHeader, whole-file}
+use Rattle.rewrite.proofs.Files.{eventsOf, written-next}
 use Rattle.rewrite.proofs.recordings.file_anew.Statement.{statement}
 use Rattle.rewrite.proofs.recordings.file_anew.Tie as tie
 
+record Going (w : Way) (file : List ℕ) (count : ℕ) (out₀ out : List ℕ) (p k : ℕ) (before : Before) (i : ℕ) : Type 0 where
+  fits : k ≤ length out₀
+  same : length out ≡ length out₀
+  along : Along (w .from) file count p i before (λ done _. AfterHeader out₀ out k (render (w .to) (eventsOf 1 done)))
+
 abbrev Inv-loop : tie.InvT-loop
-Inv-loop o file count out₀ w p₀ k₀ before₀ i₀ out p k before i =
-    (i ≤ count) × (p ≤ length file) × (k ≤ length out₀) × (length out ≡ length out₀) × Within (length file) before ×
-    ((ps : List Placed) (e : ℕ) → ReadAs (w .from) file count ps e → Written (w .from) (w .to) file count ps out₀ out p i before k)
+Inv-loop o file count out₀ w p₀ k₀ before₀ i₀ out p k before i = Going w file count out₀ out p k before i
 
 abbrev μ-loop : tie.MeasureT-loop
 μ-loop o file count out₀ w p₀ k₀ before₀ i₀ out p k before i = count - i
@@ -26,9 +34,6 @@ abbrev μ-loop : tie.MeasureT-loop
 -- the start, from behind the header
 abbrev start : tie.After-out Inv-loop μ-loop → tie.Start Inv-loop μ-loop
 start c = c .before .before .before .before .before
-
-slice-relend-prefix-header : tie.Need-slice-relend-prefix-header Inv-loop μ-loop
-slice-relend-prefix-header c = search needs
 
 slice-aggregate-header : tie.Need-slice-aggregate-header Inv-loop μ-loop
 slice-aggregate-header c = sym (length-take-le 32 (c .before .before .before .args .out .now) (omega arith))
@@ -39,77 +44,46 @@ header-requires c κs =
     record { script = z .pre .script; few = omega (arith, z .pre .counts .few); room = length-take-le 32 (z .args .out .now) (omega arith) }
 
 loop-holds : tie.Need-loop-holds Inv-loop μ-loop
+unfolding size render C.recordingEvents
 loop-holds c =
     let z = start (c .before) in
-    (search needs, search needs, omega (arith, c .before .out .given .1, z .pre .header), refl, tt, λ ps e g. written-start g)
-
-recording-again-requires : tie.Need-recording-again-requires Inv-loop μ-loop
-recording-again-requires c κs = search needs
-
-enum-known-step : tie.Need-enum-known-step Inv-loop μ-loop
-enum-known-step c = search needs
-
-enum-told : tie.Need-enum-told Inv-loop μ-loop
-enum-told c = search needs
-
-same-length : tie.Need-same-length Inv-loop μ-loop
-same-length c = search needs
+    record { fits = omega (arith, c .before .out .given .1, z .pre .header); same = refl; along = along-start (z .pre .counts .file .header) (record { is = pastes-nothing _ 32 }) }
 
 returns : tie.Need-returns Inv-loop μ-loop
 returns c =
     let x = c .before .before in
-    let i = x .before .before .loop .inv in
-    λ ps e g room. absurd (let u = i .5 ps e g .at in let v = going-led u (x .before .loop-test .taken) (i .1) in going-stop u (x .before .loop-test .taken) (rw (c .enum-told .given .1) at (x .recording-again .ensures .0 (u .held) _ (v .one) (v .mid) (u .holds) (v .is))))
-
-add-recording : tie.Need-add-recording Inv-loop μ-loop
-add-recording c = search needs
+    λ ps e g room. along-stop (x .before .before .loop .inv .along) (x .before .loop-test .taken) _ (x .recording-again .ensures) (c .enum-told .given .1) g
 
 recording-requires : tie.Need-recording-requires Inv-loop μ-loop
 recording-requires c κs =
     let st = c .before .before in
     let y = st .before .before in
     let l = y .before .before in
-    let x = rw (st .step .given .1) at (y .recording-again .ensures .1) in
+    let x = along-fits (l .loop .inv .along) (y .before .loop-test .taken) _ (y .recording-again .ensures) (st .step .given .1) in
     record {
       source = record { start = x .0; end = x .1; short = start (l .before .before) .pre .counts .file .short; room = x .2 };
-      target = omega (arith, l .loop .inv .2, l .loop .inv .3);
+      target = omega (arith, l .loop .inv .fits, l .loop .inv .same);
     }
-
-add-i : tie.Need-add-i Inv-loop μ-loop
-add-i c = search needs
-
-loop-less : tie.Need-loop-less Inv-loop μ-loop
-loop-less c = search needs
 
 loop-again : tie.Need-loop-again Inv-loop μ-loop
 loop-again c =
     let w = c .before .before in
     let st = w .before .before .before in
     let y = st .before .before in
-    let l = y .before .before in
-    let i = l .loop .inv in
-    let z = start (l .before .before) in
-    let s = st .step .given .1 in
-    let x = rw s at (y .recording-again .ensures .1) in
-    let r = w .recording .ensures in (
-      search needs,
-      x .1,
-      omega (arith, r .inside, i .3),
-      c .before .out2 .given ∙ i .3,
-      x .2,
-      λ ps e g. let u = i .5 ps e g in let v = going-led (u .at) (y .before .loop-test .taken) (i .1) in written-next u _ _ (y .before .loop-test .taken) (i .1) (omega (arith, l .before .before .out .given .1, z .pre .header)) (i .3) (rw s at (y .recording-again .ensures .0 (u .at .held) _ (v .one) (v .mid) (u .at .holds) (v .is))) (r .wrote refl),
-    )
-
-same-length-2 : tie.Need-same-length-2 Inv-loop μ-loop
-same-length-2 c = search needs
+    let i = y .before .before .loop .inv in
+    let r = y .recording-again in
+    let a = w .recording .ensures in
+    record {
+      fits = omega (arith, a .inside, i .same);
+      same = c .before .out2 .given ∙ i .same;
+      along = along-next (i .along) (y .before .loop-test .taken) _ (r .ensures) (st .step .given .1) (λ held done _ x many n h. written-next done many n _ _ _ (a .wrote refl) h);
+    }
 
 returns-2 : tie.Need-returns-2 Inv-loop μ-loop
 returns-2 c =
-    let l = c .before .loop in
     let x = c .before .before .before in
     let z = start x in
-    let n = x .out .given .1 in
-    λ ps e g room. behind-header (now (z .args .out)) _ _ _ _ _ (z .pre .header) (x .before .header .ensures) n refl (written-end (l .inv .5 ps e g) (c .loop-test .left) (omega (arith, room, n)))
+    λ ps e g room. whole-file (along-end (c .before .loop .inv .along) (c .loop-test .left) ps e g) (now (z .args .out)) _ _ (z .pre .header) (x .before .header .ensures) (x .out .given .1) refl (omega (arith, room, length-render (z .args .into) (eventsOf 1 ps)))
 
 pub file-anew-spec : {M : Type 1} → statement M
 file-anew-spec =
@@ -117,19 +91,19 @@ file-anew-spec =
     (tie.spec
     Inv-loop
     μ-loop
-    slice-relend-prefix-header
+    (λ c. search needs)
     slice-aggregate-header
     header-requires
     loop-holds
-    recording-again-requires
-    enum-known-step
-    enum-told
-    same-length
+    (λ c κs. search needs)
+    (λ c. search needs)
+    (λ c. search needs)
+    (λ c. search needs)
     returns
-    add-recording
+    (λ c. search needs)
     recording-requires
-    add-i
-    loop-less
+    (λ c. search needs)
+    (λ c. search needs)
     loop-again
-    same-length-2
+    (λ c. search needs)
     returns-2)

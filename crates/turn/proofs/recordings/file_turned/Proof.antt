@@ -1,38 +1,43 @@
--- `turn::recordings::file_turned` meets its contract. The loop's invariant: what is written of all recordings is what stands before the next one.
+-- `turn::recordings::file_turned` meets its contract. The loop's invariant: the recordings that are passed stand in the buffer, behind the header.
 -- The measure is how many recordings are left. Assumes nothing.
 use mathlib.Core.Path.{_≡_, refl, sym, _∙_}
 use mathlib.Core.Bool.{true}
 use mathlib.Core.List.{List}
-use mathlib.Core.Option.{none}
 use Prim.Native.Nat.{ℕ, _-_, _≤_}
 use native.Mathlib.Omega.{arith}
 use denote.Ref.{now}
 use lib.ListN.{length}
 use lib.Seq.{length-take-le}
-use Rattle.walk.specs.See.{see, goes}
-use Rattle.rules.specs.Rules.{Placed, recordings}
-use Rattle.descriptions.specs.Tabled.{Within}
-use Rattle.turn.proofs.Sent.{Sending, sending-start, sending-led, sending-stop, sending-next, sending-end, file-copied}
+use Rattle.descriptions.specs.declared.Before.{Before}
+use Rattle.children.specs.Children.{said}
+use Rattle.children.proofs.Again.{Along, along-start, along-stop, along-fits, along-next, along-end}
+use Rattle.bodies.specs.declared.Way.{Way}
+use Rattle.turn.proofs.Sent.{AfterHeader, whole-file, sentOf, sent-none, sent-next, sent-length, header-first}
 use borrow.Author.Needs.{needs}
 use Rattle.turn.proofs.recordings.file_turned.Statement.{statement}
 use Rattle.turn.proofs.recordings.file_turned.Tie as tie
 
+record Going (w : Way) (file : List ℕ) (count : ℕ) (out₀ out : List ℕ) (p : ℕ) (before : Before) (i : ℕ) : Type 0 where
+  room : length file ≤ length out₀
+  same : length out ≡ length out₀
+  along : Along (w .from) file count p i before (λ _ l. AfterHeader out₀ out p (sentOf w l))
+
 abbrev Inv-loop : tie.InvT-loop
-Inv-loop o file count out₀ w p₀ before₀ i₀ out p before i =
-    (i ≤ count) × (p ≤ length file) × (length file ≤ length out₀) × (length out ≡ length out₀) × Within (length file) before ×
-    ((l : List Placed) (e : ℕ) → see (w .from) 0 file 32 (recordings count none (length file - 32) 1) ≡ goes l e → Sending w file count out₀ out p i before)
+Inv-loop o file count out₀ w p₀ before₀ i₀ out p before i = Going w file count out₀ out p before i
 
 abbrev μ-loop : tie.MeasureT-loop
 μ-loop o file count out₀ w p₀ before₀ i₀ out p before i = count - i
 
-other-requires : tie.Need-other-requires Inv-loop μ-loop
-other-requires c κs = search needs
+-- the start, from behind the header
+abbrev start : tie.After-out Inv-loop μ-loop → tie.Start Inv-loop μ-loop
+start c = c .before .before .before .before .before .before .before
+
+-- the way from order to order
+abbrev way : tie.After-out Inv-loop μ-loop → Way
+way c = record { from = start c .args .o; to = c .before .before .before .before .other .result; keep = true }
 
 slice-aggregate-header : tie.Need-slice-aggregate-header Inv-loop μ-loop
 slice-aggregate-header c = sym (length-take-le 32 (c .before .before .before .before .args .file .now) (omega arith))
-
-slice-relend-prefix-header : tie.Need-slice-relend-prefix-header Inv-loop μ-loop
-slice-relend-prefix-header c = search needs
 
 slice-aggregate-header-2 : tie.Need-slice-aggregate-header-2 Inv-loop μ-loop
 slice-aggregate-header-2 c = sym (length-take-le 32 (c .before .before .before .before .before .args .out .now) (omega arith))
@@ -42,66 +47,44 @@ header-requires c κs = (length-take-le 32 (c .before .before .before .before .b
 
 loop-holds : tie.Need-loop-holds Inv-loop μ-loop
 loop-holds c =
-    let z = c .before .before .before .before .before .before .before .before in
-    (search needs, search needs, omega (arith, c .before .out .given .1, z .pre .2), refl, tt, λ l e g. sending-start g)
-
-recording-again-requires : tie.Need-recording-again-requires Inv-loop μ-loop
-recording-again-requires c κs = search needs
-
-enum-known-step : tie.Need-enum-known-step Inv-loop μ-loop
-enum-known-step c = search needs
-
-enum-told : tie.Need-enum-told Inv-loop μ-loop
-enum-told c = search needs
-
-same-length : tie.Need-same-length Inv-loop μ-loop
-same-length c = search needs
+    let z = start (c .before) in
+    record { room = omega (arith, c .before .out .given .1, z .pre .2); same = refl; along = along-start (z .pre .0) (sent-none (way (c .before)) _) }
 
 returns : tie.Need-returns Inv-loop μ-loop
 returns c =
     let x = c .before .before in
-    let l = x .before .before .loop in
-    λ f ps e h g. absurd (let u = l .inv .5 ps e g in let v = sending-led u (l .inv .1) (x .before .loop-test .taken) in sending-stop u (l .inv .1) (x .before .loop-test .taken) (rw (c .enum-told .given .1) at (x .recording-again .ensures .0 (u .held) _ (v .one) (v .mid) (u .holds) (v .is))))
+    λ f ps e h g. along-stop (x .before .before .loop .inv .along) (x .before .loop-test .taken) _ (x .recording-again .ensures) (c .enum-told .given .1) g
 
 recording-requires : tie.Need-recording-requires Inv-loop μ-loop
 recording-requires c κs =
-    let z = c .before .before .before .before .before .before .before .before .before .before .before .before .before .before .before in
-    let l = c .before .before .before .before .before .before .loop in
-    let x = rw (c .before .before .step .given .1) at (c .before .before .before .before .recording-again .ensures .1) in
-    (x .0, x .1, z .pre .1, omega (arith, l .inv .2, l .inv .3), x .2)
-
-add-i : tie.Need-add-i Inv-loop μ-loop
-add-i c = search needs
-
-loop-less : tie.Need-loop-less Inv-loop μ-loop
-loop-less c = search needs
+    let st = c .before .before in
+    let y = st .before .before in
+    let l = y .before .before in
+    let x = along-fits (l .loop .inv .along) (y .before .loop-test .taken) _ (y .recording-again .ensures) (st .step .given .1) in
+    (x .0, x .1, start (l .before .before) .pre .1, omega (arith, l .loop .inv .room, l .loop .inv .same), x .2)
 
 loop-again : tie.Need-loop-again Inv-loop μ-loop
 loop-again c =
-    let y = c .before .before .before .before .before .before .before in
-    let l = y .before .before .loop in
-    let i = l .inv in
-    let z = c .before .before .before .before .before .before .before .before .before .before .before .before .before .before .before .before .before .before in
-    let s = c .before .before .before .before .before .step .given .1 in
-    let x = rw s at (y .recording-again .ensures .1) in (
-      search needs,
-      x .1,
-      i .2,
-      c .before .out2 .given ∙ i .3,
-      x .2,
-      λ ps e g. let u = i .5 ps e g in let v = sending-led u (i .1) (y .before .loop-test .taken) in sending-next u (i .1) _ (y .before .loop-test .taken) (omega (arith, i .2, z .pre .0)) (rw s at (y .recording-again .ensures .0 (u .held) _ (v .one) (v .mid) (u .holds) (v .is))) (c .before .before .recording .ensures),
-    )
-
-same-length-2 : tie.Need-same-length-2 Inv-loop μ-loop
-same-length-2 c = search needs
+    let w = c .before .before in
+    let y = w .before .before .before .before .before in
+    let l = y .before .before in
+    let i = l .loop .inv in
+    let r = y .recording-again in
+    record {
+      room = i .room;
+      same = c .before .out2 .given ∙ i .same;
+      along = along-next (i .along) (y .before .loop-test .taken) _ (r .ensures) (w .before .before .before .step .given .1) (λ held done m x many n h. sent-next (way (l .before .before)) (i .along .inside) n m _ (w .recording .ensures) h);
+    }
 
 returns-2 : tie.Need-returns-2 Inv-loop μ-loop
+unfolding said
 returns-2 c =
-    let l = c .before .loop in
-    let x = c .before .before .before .before in
-    let z = x .before .before .before .before .before .before in
-    let a = z .args in
-    λ f ps e h g. rw (← x .before .before .before .other .ensures) (file-copied (record { from = a .o; to = x .before .before .before .other .result; keep = true }) (now (a .file)) (length (now (a .file))) (z .pre .0) h (now (a .out)) _ _ _ _ (x .header .ensures) refl (sending-end (l .inv .5 ps e g) (l .inv .1) (c .loop-test .left)))
+    let x = c .before .before .before in
+    let z = start x in
+    let s = now (z .args .file) in
+    λ f ps e h g. rw (← x .before .before .before .before .other .ensures)
+    (whole-file (along-end (c .before .loop .inv .along) (c .loop-test .left) ps e g) (now (z .args .out)) _ _ (omega (arith, z .pre .0, z .pre .2)) (header-first (way x) s (length s) _ (z .pre .0) h (x .before .header .ensures)) (x .out .given .1) refl
+    (omega (arith, z .pre .2, sent-length (way x) s (z .args .count) (z .pre .0) g)))
 
 pub file-turned-spec : {M : Type 1} → statement M
 file-turned-spec =
@@ -109,20 +92,20 @@ file-turned-spec =
     (tie.spec
     Inv-loop
     μ-loop
-    other-requires
+    (λ c κs. search needs)
     slice-aggregate-header
-    slice-relend-prefix-header
+    (λ c. search needs)
     slice-aggregate-header-2
     header-requires
     loop-holds
-    recording-again-requires
-    enum-known-step
-    enum-told
-    same-length
+    (λ c κs. search needs)
+    (λ c. search needs)
+    (λ c. search needs)
+    (λ c. search needs)
     returns
     recording-requires
-    add-i
-    loop-less
+    (λ c. search needs)
+    (λ c. search needs)
     loop-again
-    same-length-2
+    (λ c. search needs)
     returns-2)
