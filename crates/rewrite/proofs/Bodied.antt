@@ -109,7 +109,7 @@ module _ (w : Way) {b : ℕ} {s : List ℕ} {x : Placed} (v : Accepted (w .from)
       let i : v .at ≡ d₁ .to = omega (arith, d₁ .end) in
       let z : List ℕ = render o delimiterEvents in
       let c₂ = leads-written q (b + q) (next (v .fuel) (length s - q)) d₂ (makerEvents (v .after .makers)) (next-bare (w .from) b s (v .fuel) (length s - q) (b + q + (length s - q)) (b + q) (v .after) (v .end) (omega arith) refl (v .behind) .0) z
-          (last (record { head = v .after .head; stands = d₂ .stands .heads; code = ap (λ (h : Head). h .code) (v .closes); is = delimiter-bytes o })) in
+      (last (record { head = v .after .head; stands = d₂ .stands .heads; code = ap (λ (h : Head). h .code) (v .closes); is = delimiter-bytes o })) in
       let c₁ : Renewal w b s (x .recording) (v .at) (render o (signalsEvents (x .recording)) ++ (render o (makerEvents (v .after .makers)) ++ z)) =
       more (v .top) _ _ (v .stands) (signals (is140 (v .code) (record { value = v .value; end = _; is = v .went; says = refl })) (v .code) refl) c₂ refl in
       rw (v .events, render-append o (tablesEvents (v .before)), render-append o (signalsEvents (x .recording)), render-append o (makerEvents (v .after .makers)))

@@ -87,7 +87,15 @@ fn frames_body(
 }
 
 // The 140 of a recording of this measure, whose body is s: where the next bytes go.
-pub fn frames(w: Way, file: &[u8], cs: Channels, f: Measure, s: &[u8], out: &mut [u8], k: usize) -> usize
+pub fn frames(
+    w: Way,
+    file: &[u8],
+    cs: Channels,
+    f: Measure,
+    s: &[u8],
+    out: &mut [u8],
+    k: usize,
+) -> usize
     requires { ⌜ SignalsFit (now file) (now s) (now out) cs f k ⌝ }
     ensures { λ r. ⌜ SignalsAnew w (now (file .entry)) (now (s .entry)) cs f (now (out .entry)) (now (out .exit)) k r ⌝ }
 {
