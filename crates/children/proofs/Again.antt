@@ -15,26 +15,13 @@ use Rattle.descriptions.specs.Tabled.{Within, HeldAs}
 use Rattle.descriptions.specs.declared.Before.{Before}
 use Rattle.descriptions.specs.declared.Before.the-variants as Before
 use Rattle.descriptions.specs.declared.Places.{Places}
-use Rattle.judge.specs.Recorded.{placesOf, leaves, Places-of, recorded, Continues}
+use Rattle.judge.specs.Recorded.{placesOf, leaves, Places-of, Continues, RecordingAgain}
 use Rattle.judge.specs.declared.recording.Recorded.{Recorded}
 use Rattle.judge.specs.declared.recording.Recorded.the-variants as Recorded
 use Rattle.children.specs.Children.{Said, said, _then_}
 use Rattle.children.specs.Recordings.{allOf, ReadAs}
 use Rattle.children.proofs.Saying.{nothing}
 use Rattle.children.proofs.Recordings.{passed-led, passed-stop, Sofar, sofar-start, sofar-next, sofar-end}
-
--- what `recording_again` ensures of its answer for the recording at byte p, where the code has the one before: its verdict where the recording is accepted, and bounds
-abbrev pub AgainAs : Order → List ℕ → ℕ → Before → Recorded → Type 0
-AgainAs o s p before a = ((held : Option Held) (i : ℕ) (x : Placed) (e : ℕ) → HeldAs o s before held → see o 0 s p (recording held (length s - p) i) ≡ goes x e →
-    recorded o s p before (see o 0 s p (recording held (length s - p) i)) a) × Continues p (length s) a
-
--- the two, read here alone
-module _ (o : Order) (s : List ℕ) (p : ℕ) (before : Before) (a : Recorded) (k : AgainAs o s p before a) where
-  verdict : (held : Option Held) (i : ℕ) {x : Placed} {e : ℕ} → HeldAs o s before held → see o 0 s p (recording held (length s - p) i) ≡ goes x e → recorded o s p before (see o 0 s p (recording held (length s - p) i)) a
-  verdict held i {x} {e} h g = k .0 held i x e h g
-
-  pub bounds : Continues p (length s) a
-  bounds = k .1
 
 -- the code has what holds for the next recording from the one before, and Q holds of those that are passed
 pub record Knowing (o : Order) (s : List ℕ) (before : Before) (Q : List Placed → Said → Type 0) (held : Option Held) (done : List Placed) (l : Said) : Type 0 where
@@ -56,18 +43,18 @@ next-of {q = q} x e g k =
     (m, record { is = rw m at g; same = rw (v .0) at (k .kept .same); stands = rw (v .0) at (k .kept .held) })
 
 -- the step, from what `recording_again` answers
-module _ {o : Order} {s : List ℕ} {count : ℕ} {ps : List Placed} {p i : ℕ} {before : Before} {Q : List Placed → Said → Type 0} (v : Sofar o s count ps p i (Knowing o s before Q)) (many : i < count) (fit : p ≤ length s) (a : Recorded) (k : AgainAs o s p before a) where
+module _ {o : Order} {s : List ℕ} {count : ℕ} {ps : List Placed} {p i : ℕ} {before : Before} {Q : List Placed → Said → Type 0} (v : Sofar o s count ps p i (Knowing o s before Q)) (many : i < count) (fit : p ≤ length s) (a : Recorded) (k : RecordingAgain o s p before a) where
   -- it refuses none
   pub again-stop : {X : Type 0} {r : Refusal} → a ≡ Recorded.Stop r → X
   again-stop e =
-      passed-stop (v .at) many fit (rw e at (verdict o s p before a k (v .at .held) (i + 1) (v .is .holds) (passed-led (v .at) many fit .is)))
+      passed-stop (v .at) many fit (rw e at (k .told (v .at .held) (i + 1) _ _ (v .is .holds) (passed-led (v .at) many fit .is)))
 
   pub again-next : {q : Places} {Q′ : List Placed → Said → Type 0} → a ≡ Recorded.On q →
       ((x : Placed) → Next o s p i before (v .at .held) q x → Q′ (v .at .done ++ (x ∷ [])) (v .at .tells then said o 0 s p (recording (v .at .held) (length s - p) (i + 1)))) →
       Sofar o s count ps (q .end) (i + 1) (Knowing o s (Before.These q) Q′)
   again-next h step =
       sofar-next v many fit
-      (λ x e g. let n = next-of x e g (rw h at (verdict o s p before a k (v .at .held) (i + 1) (v .is .holds) g)) in record { ends = n .0; holds = record { holds = n .1 .stands; is = step x (n .1) } })
+      (λ x e g. let n = next-of x e g (rw h at (k .told (v .at .held) (i + 1) _ _ (v .is .holds) g)) in record { ends = n .0; holds = record { holds = n .1 .stands; is = step x (n .1) } })
 
 -- the loop: it stands at byte p, i of the recordings are passed, the code has the places of the last of them, and where the file's recordings are read Q holds of those passed
 pub record Along (o : Order) (s : List ℕ) (count p i : ℕ) (before : Before) (Q : List Placed → Said → Type 0) : Type 0 where
@@ -81,12 +68,12 @@ module _ {o : Order} {s : List ℕ} {count : ℕ} {Q : List Placed → Said → 
   along-start fit h = record { few = omega arith; inside = fit; room = tt; sofar = λ ps e g. sofar-start g (record { holds = tt; is = h }) }
 
   module _ {p i : ℕ} {before : Before} (v : Along o s count p i before Q) where
-    module _ (many : i < count) (a : Recorded) (k : AgainAs o s p before a) where
+    module _ (many : i < count) (a : Recorded) (k : RecordingAgain o s p before a) where
       pub along-stop : {X : Type 0} {r : Refusal} → a ≡ Recorded.Stop r → {ps : List Placed} {e : ℕ} → ReadAs o s count ps e → X
       along-stop h g = again-stop (v .sofar _ _ g) many (v .inside) a k h
 
       pub along-fits : {q : Places} → a ≡ Recorded.On q → Continues p (length s) (Recorded.On q)
-      along-fits h = rw h at (bounds o s p before a k)
+      along-fits h = rw h at (k .continues)
 
       pub along-next : {q : Places} {Q′ : List Placed → Said → Type 0} → a ≡ Recorded.On q →
           ((held : Option Held) (done : List Placed) (l : Said) (x : Placed) → length done ≡ i → Next o s p i before held q x → Q done l → Q′ (done ++ (x ∷ [])) (l then said o 0 s p (recording held (length s - p) (i + 1)))) →
@@ -95,8 +82,8 @@ module _ {o : Order} {s : List ℕ} {count : ℕ} {Q : List Placed → Said → 
           let u = along-fits h in
           record {
             few = omega arith;
-            inside = u .1;
-            room = u .2;
+            inside = u .end;
+            room = u .channels;
             sofar = λ ps e g. let u = v .sofar ps e g in again-next u many (v .inside) a k h (λ x n. step (u .at .held) (u .at .done) (u .at .tells) x (u .at .many) n (u .is .is));
           }
 

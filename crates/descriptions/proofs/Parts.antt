@@ -18,7 +18,7 @@ use Rattle.rules.specs.declared.Head.{Head}
 use Rattle.rules.specs.declared.Refusal.{Refusal}
 use Rattle.rules.proofs.Room.{Rests}
 use Rattle.records.specs.Says.{halts, headOf, headroom, Headroom}
-use Rattle.descriptions.specs.Tabled.{lacking, followed, Follows, Stood, Judges}
+use Rattle.descriptions.specs.Tabled.{lacking, Follows, There, Stood, Meets, Judges, Behind}
 use Rattle.descriptions.specs.declared.Held.{Held}
 use Rattle.descriptions.specs.declared.Held.the-variants as Held
 use Rattle.descriptions.specs.declared.Parted.{Parted}
@@ -54,18 +54,18 @@ module _ {A : Type 0} (fuel code : ℕ) (body : ℕ → R.Head → Walk A) (n : 
 
 module _ {A : Type 0} (o : Order) (base : ℕ) (s : List ℕ) (code : ℕ) (body : ℕ → R.Head → Walk A) (K : A → Type 0) (h : Head) where
   pub judges-absent : (held : Held) → eqb (h .code) code ≡ false → Judges o base s code body K h held (lacking base h held)
-  judges-absent Held.Nothing e none n fuel i d r f =
-      let c : eqb (n .head .code) code ≡ false = rw d e in
+  judges-absent Held.Nothing e none n fuel m =
+      let c : eqb (n .head .code) code ≡ false = rw (m .head) e in
       rw (part-none fuel code body n c, see-refuse) (ap (λ (x : ℕ). stops 9 x) (omega arith))
-  judges-absent Held.Nothing e (some a) n fuel i d r f = absurd i
-  judges-absent (Held.At p) e none n fuel i d r f = absurd i
-  judges-absent (Held.At p) e (some a) n fuel i d r f =
-      let c : eqb (n .head .code) code ≡ false = rw d e in
+  judges-absent Held.Nothing e (some a) n fuel m = absurd (m .holds)
+  judges-absent (Held.At p) e none n fuel m = absurd (m .holds)
+  judges-absent (Held.At p) e (some a) n fuel m =
+      let c : eqb (n .head .code) code ≡ false = rw (m .head) e in
       record {
         value = record { own = false; value = a; next = record { makers = []; head = n .head; room = n .room } };
         end = base + (h .at + 16);
         is = rw (part-held fuel code body n a c, see-give);
-        kept = record { own = refl; place = refl; value = refl; head = d; room = r; end = refl };
+        kept = record { own = refl; place = refl; value = refl; head = m .head; room = m .room; end = refl };
       }
 
   module _ (held : Held) (same : eqb (h .code) code ≡ true) where
@@ -74,9 +74,9 @@ module _ {A : Type 0} (o : Order) (base : ℕ) (s : List ℕ) (code : ℕ) (body
     rest = see o base s (base + (h .at + 16)) (body (length s - h .at) (headOf h))
 
     pub judges-stop : (r : Refusal) → ends rest ≡ halts r → Judges o base s code body K h held (Parted.Stop r)
-    judges-stop x k hv n fuel i d r f =
-        let c : eqb (n .head .code) code ≡ true = rw d same in
-        rw (part-own fuel code body n hv c, d, r) (bind-stops o base s _ _ _ (stopped (λ _. tt) rest k))
+    judges-stop x k hv n fuel m =
+        let c : eqb (n .head .code) code ≡ true = rw (m .head) same in
+        rw (part-own fuel code body n hv c, m .head, m .room) (bind-stops o base s _ _ _ (stopped (λ _. tt) rest k))
 
     module _ (rests : Rests body) (q : ℕ) (fits : h .at + 16 ≤ length s) (inside : q ≤ length s) (k : ends rest ≡ goes tt (base + q)) (keeps : (x : A) → rest ≡ goes x (base + q) → K x) where
       went-on : Goes rest (λ _ e. e ≡ base + q)
@@ -91,25 +91,26 @@ module _ {A : Type 0} (o : Order) (base : ℕ) (s : List ℕ) (code : ℕ) (body
           omega arith
 
       -- what follows the record
-      follows : (n : R.Next) (fuel : ℕ) (hv : Option A) → n .head ≡ headOf h → n .room ≡ length s - h .at → see o base s (base + (h .at + 16)) (part fuel code body hv n) ≡ see o base s (base + q) (R.next fuel (length s - q) >>= λ m. give (record { own = true; value = went-on .value; next = m }))
-      follows n fuel hv d r =
-          let c : eqb (n .head .code) code ≡ true = rw d same in
-          rw (part-own fuel code body n hv c, d, r, ← left) (bind-goes o base s _ _ _ goes-on)
+      follows : {n : R.Next} {fuel : ℕ} {hv : Option A} → Meets s h held hv n fuel → see o base s (base + (h .at + 16)) (part fuel code body hv n) ≡ see o base s (base + q) (R.next fuel (length s - q) >>= λ m. give (record { own = true; value = went-on .value; next = m }))
+      follows {n} {fuel} {hv} m =
+          let c : eqb (n .head .code) code ≡ true = rw (m .head) same in
+          rw (part-own fuel code body n hv c, m .head, m .room, ← left) (bind-goes o base s _ _ _ goes-on)
 
-      pub judges-behind : (a : Parted) → ((fuel : ℕ) → length s < q + fuel → over headroom (see o base s (base + q) (R.next fuel (length s - q))) ≡ followed base (length s) a) → Stood (base + h .at) q (length s) a → Judges o base s code body K h held a
-      judges-behind (Parted.Stop x) m st hv n fuel i d r f =
-          follows n fuel hv d r ∙ bind-stops o base s _ _ _ (stopped headroom (see o base s (base + q) (R.next fuel (length s - q))) (m fuel (omega arith)))
-      judges-behind (Parted.On t) m st hv n fuel i d r f =
+      pub judges-behind : (a : Parted) → Behind o base s (h .at) q a → Judges o base s code body K h held a
+      judges-behind (Parted.Stop x) b hv n fuel m =
+          follows m ∙ bind-stops o base s _ _ _ (stopped headroom (see o base s (base + q) (R.next fuel (length s - q))) (b .seen fuel (omega (arith, m .enough))))
+      judges-behind (Parted.On t) b hv n fuel m =
           let v : Verdict R.Next = see o base s (base + q) (R.next fuel (length s - q)) in
-          let g : Goes v (λ x e. (headroom x ≡ record { head = headOf (t .next); room = length s - t .next .at }) × (e ≡ base + (t .next .at + 16))) = went headroom v (m fuel (omega arith)) in
+          let g : Goes v (λ x e. (headroom x ≡ record { head = headOf (t .next); room = length s - t .next .at }) × (e ≡ base + (t .next .at + 16))) = went headroom v (b .seen fuel (omega (arith, m .enough))) in
+          let st : There (base + h .at) q (length s) t = b .stands in
           record {
             value = record { own = true; value = went-on .value; next = g .value };
             end = g .end;
-            is = follows n fuel hv d r ∙ bind-goes o base s _ _ _ (g .is) ∙ see-give o base s _ _;
+            is = follows m ∙ bind-goes o base s _ _ _ (g .is) ∙ see-give o base s _ _;
             kept = record {
-              own = sym (st .0);
-              place = rw (st .0) (st .1);
-              value = rw (st .0) (keeps (went-on .value) goes-on);
+              own = sym (st .own);
+              place = rw (st .own) (st .place);
+              value = rw (st .own) (keeps (went-on .value) goes-on);
               head = ap (λ (x : Headroom). x .head) (g .kept .0);
               room = ap (λ (x : Headroom). x .room) (g .kept .0);
               end = g .kept .1;
@@ -119,8 +120,8 @@ module _ {A : Type 0} (o : Order) (base : ℕ) (s : List ℕ) (code : ℕ) (body
 -- where the next head stands, in a part that is absent and in one that is there
 pub follows-lacking : (base n : ℕ) (h : Head) (held : Held) → h .at + 16 ≤ n → Follows (h .at) n (lacking base h held)
 follows-lacking base n h Held.Nothing f = tt
-follows-lacking base n h (Held.At p) f = (omega arith, f)
+follows-lacking base n h (Held.At p) f = record { low = omega arith; inside = f }
 
 pub follows-stood : (at p q n : ℕ) (a : Parted) → p ≤ q → Stood at q n a → Follows p n a
 follows-stood at p q n (Parted.Stop r) l k = tt
-follows-stood at p q n (Parted.On t) l k = (omega (arith, k .2), k .3)
+follows-stood at p q n (Parted.On t) l k = record { low = omega (arith, k .next .low); inside = k .next .inside }

@@ -16,16 +16,22 @@ use Rattle.walk.specs.See.{goes, see, Yields}
 use Rattle.walk.proofs.Seen.{yields, yields-bind, part-bytes}
 use Rattle.rules.specs.Rules as R
 use Rattle.rules.specs.Rules.{fixed, head, admit, basicBody, channels, channelsBody, channel, series}
-use Rattle.records.specs.Says.{Kept}
+use Rattle.records.specs.Says.{Kept, subsAt, ChannelsIn, ChannelsStand}
 use Rattle.records.proofs.Facts.{between-in}
 use Rattle.records.proofs.Steps.{yields-channels}
-use Rattle.descriptions.specs.Tabled.{HeldIs, HeldAs, Within, Stand, Room, Owned, Value, heldAt, channelsIn, countIn}
+use Rattle.descriptions.specs.Tabled.{HeldIs, HeldAs, Within, Owned, Value, heldAt, channelsIn, countIn}
 use Rattle.descriptions.specs.declared.Before.{Before}
 use Rattle.descriptions.specs.declared.Before.the-variants as Before
 
-pub yields-basic : (o : Order) (b : ℕ) (s : List ℕ) (room at : ℕ) → Yields o b s at (R.basic room) (λ x e. (1 ≤ x .channels) × (x .channels ≤ 128) × (x .frames ≤ 1000000))
+-- a 100 that passed counts so many
+pub record Counted (channels frames : ℕ) : Type 0 where
+  pub one : 1 ≤ channels
+  pub few : channels ≤ 128
+  pub short : frames ≤ 1000000
+
+pub yields-basic : (o : Order) (b : ℕ) (s : List ℕ) (room at : ℕ) → Yields o b s at (R.basic room) (λ x e. Counted (x .channels) (x .frames))
 unfolding fixed head admit basicBody _>>=_ _>>_
-yields-basic o b s room at _ _ _ _ _ _ c f _ _ _ _ _ _ _ = (between-in 1 128 _ c .0, between-in 1 128 _ c .1, between-in 1 1000000 _ f .1)
+yields-basic o b s room at _ _ _ _ _ _ c f _ _ _ _ _ _ _ = record { one = between-in 1 128 _ c .0; few = between-in 1 128 _ c .1; short = between-in 1 1000000 _ f .1 }
 
 -- less may be said of the answer
 pub yields-weaken : {A : Type 0} (o : Order) (b : ℕ) (s : List ℕ) (w : Walk A) (at : ℕ) (Q R : A → ℕ → Type 0) → ((a : A) (e : ℕ) → Q a e → R a e) → Yields o b s at w Q → Yields o b s at w R
@@ -51,8 +57,13 @@ yields-any o b s (list p l c m w) at = yields-any o b s w at
 pub yields-past : {A B : Type 0} (o : Order) (b : ℕ) (s : List ℕ) (w : Walk A) (k : A → Walk B) (at : ℕ) (R : B → ℕ → Type 0) → ((a : A) (e : ℕ) → Yields o b s e (k a) R) → Yields o b s at (w >>= k) R
 yields-past o b s w k at R g = yields-bind o b s w k at (λ _ _. Unit {0}) R (yields-any o b s w at) (λ a e _. g a e)
 
--- the rest of the 120 at byte p
-yields-rest : (o : Order) (b : ℕ) (s : List ℕ) (x : R.Basic) (room : ℕ) (h : R.Head) (p : ℕ) → Yields o b s (b + (p + 16)) (channels x room h) (λ cs e. Stand o s p (x .channels) cs × (x .channels ≤ 128) × (e ≡ b + (p + 32 + 256 * x .channels)))
+-- the rest of the 120 at byte p, which stops at e
+record Ends (o : Order) (b : ℕ) (s : List ℕ) (p m : ℕ) (cs : List R.Channel) (e : ℕ) : Type 0 where
+  stand : ChannelsStand o s (subsAt p m) cs
+  few : m ≤ 128
+  end : e ≡ b + (p + 32 + 256 * m)
+
+yields-rest : (o : Order) (b : ℕ) (s : List ℕ) (x : R.Basic) (room : ℕ) (h : R.Head) (p : ℕ) → Yields o b s (b + (p + 16)) (channels x room h) (Ends o b s p (x .channels))
 unfolding channels channelsBody admit _>>=_ _>>_
 yields-rest o b s x room h p _ _ _ c₁ c₂ _ _ =
     let m : ℕ = numberAt o 4 s (b + (p + 16) - b) in
@@ -60,14 +71,14 @@ yields-rest o b s x room h p _ _ _ c₁ c₂ _ _ =
     let l : m ≤ 128 = between-in 1 128 m c₁ .1 in
     let z : b + (p + 16) + 4 + 4 + 8 ≡ b + (p + 32) = omega arith in
     rw z (yields-weaken o b s (series m 1 256 (R.span h - 32) channel) (b + (p + 32)) _ _
-    (λ cs e q. ((q .1 ∙ d, q .0), omega arith, rw d at (q .2)))
+    (λ cs e q. record { stand = record { count = q .1 ∙ d; kept = q .0 }; few = omega arith; end = rw d at (q .2) })
     (yields-channels o b s (R.span h - 32) m 1 (p + 32)))
 
 -- so of the channels that the walk gives, where it ends at byte q
 pub owned : (o : Order) (b : ℕ) (s : List ℕ) (x : R.Basic) (room : ℕ) (h : R.Head) (p q m : ℕ) → x .channels ≡ m → q ≤ length s → (cs : List R.Channel) → see o b s (b + (p + 16)) (channels x room h) ≡ goes cs (b + q) → Owned o s p m cs
 owned o b s x room h p q m i l cs k =
-    let y : Stand o s p (x .channels) cs × (x .channels ≤ 128) × (b + q ≡ b + (p + 32 + 256 * x .channels)) = yields o b s (channels x room h) (b + (p + 16)) _ (yields-rest o b s x room h p) k in
-    rw (← i) (y .0, (omega (arith, y .2), y .1))
+    let y : Ends o b s p (x .channels) cs (b + q) = yields o b s (channels x room h) (b + (p + 16)) _ (yields-rest o b s x room h p) k in
+    rw (← i) (record { stand = y .stand; room = record { inside = omega (arith, y .end); few = y .few } })
 
 -- what stands in a part of the file stands in the file
 module _ (o : Order) (base n : ℕ) (s file : List ℕ) (is : s ≡ take n (drop base file)) where
@@ -82,13 +93,13 @@ module _ (o : Order) (base n : ℕ) (s file : List ℕ) (is : s ≡ take n (drop
   kept-part p (c ∷ cs) l k =
       (k .0 ∙ number-part p 20 (omega arith), k .1 ∙ number-part p 28 (omega arith), k .2 ∙ number-part p 32 (omega arith), rw (add-assoc base p 256) (kept-part (p + 256) cs (omega arith) (k .3)))
 
-  stand-part : (p m : ℕ) (cs : List R.Channel) → p + 32 + 256 * m ≤ n → Stand o s p m cs → Stand o file (base + p) m cs
-  stand-part p m cs l k = (k .0, rw (add-assoc base p 32) (kept-part (p + 32) cs (rw (k .0) l) (k .1)))
+  stand-part : (p m : ℕ) (cs : List R.Channel) → p + 32 + 256 * m ≤ n → ChannelsStand o s (subsAt p m) cs → ChannelsStand o file (subsAt (base + p) m) cs
+  stand-part p m cs l k = record { count = k .count; kept = rw (add-assoc base p 32) (kept-part (p + 32) cs (rw (k .count) l) (k .kept)) }
 
 -- the channels that hold: own ones, or those of the recording before
 module _ (o : Order) (base : ℕ) (s : List ℕ) (p m : ℕ) where
-  pub stand : (file : List ℕ) (before : Before) (held : Option R.Held) (own : Bool) (at : ℕ) (cs : List R.Channel) → s ≡ take (length s) (drop base file) → HeldAs o file before held → Value (Owned o s p m) (R.heldChannels held) own cs → at ≡ pick own (base + p) (heldAt (channelsIn before)) → Stand o file at (pick own m (countIn before)) cs
-  stand file before held true at cs is h v e = rw e (stand-part o base (length s) s file is p m cs (v .1 .0) (v .0))
+  pub stand : (file : List ℕ) (before : Before) (held : Option R.Held) (own : Bool) (at : ℕ) (cs : List R.Channel) → s ≡ take (length s) (drop base file) → HeldAs o file before held → Value (Owned o s p m) (R.heldChannels held) own cs → at ≡ pick own (base + p) (heldAt (channelsIn before)) → ChannelsStand o file (subsAt at (pick own m (countIn before))) cs
+  stand file before held true at cs is h v e = rw e (stand-part o base (length s) s file is p m cs (v .room .inside) (v .stand))
   stand file Before.Nothing none false at cs is h v e = absurd (let z : _≡_ {A = ℕ} 0 1 = cc in omega arith)
   stand file Before.Nothing (some x) false at cs is h v e = absurd h
   stand file (Before.These q) none false at cs is h v e = absurd h
@@ -96,8 +107,8 @@ module _ (o : Order) (base : ℕ) (s : List ℕ) (p m : ℕ) where
       let d : cs ≡ x .channels = cc in
       rw (e, d) h
 
-  pub room : (before : Before) (hv : Option (List R.Channel)) (own : Bool) (at : ℕ) (cs : List R.Channel) → HeldIs (channelsIn before) hv → Value (Owned o s p m) hv own cs → at ≡ pick own (base + p) (heldAt (channelsIn before)) → (L : ℕ) → base + length s ≤ L → Within L before → Room L at (pick own m (countIn before))
-  room before hv true at cs i v e L l w = (omega (arith, v .1 .0), v .1 .1)
+  pub room : (before : Before) (hv : Option (List R.Channel)) (own : Bool) (at : ℕ) (cs : List R.Channel) → HeldIs (channelsIn before) hv → Value (Owned o s p m) hv own cs → at ≡ pick own (base + p) (heldAt (channelsIn before)) → (L : ℕ) → base + length s ≤ L → Within L before → ChannelsIn L (subsAt at (pick own m (countIn before)))
+  room before hv true at cs i v e L l w = record { inside = omega (arith, v .room .inside); few = v .room .few }
   room Before.Nothing none false at cs i v e L l w = absurd (let z : _≡_ {A = ℕ} 0 1 = cc in omega arith)
   room Before.Nothing (some x) false at cs i v e L l w = absurd i
   room (Before.These q) hv false at cs i v e L l w = rw e w

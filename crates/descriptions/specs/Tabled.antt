@@ -4,19 +4,22 @@ use mathlib.Core.Path.{_≡_}
 use mathlib.Core.Bool.{Bool, true, false}
 use mathlib.Core.List.{List}
 use mathlib.Core.Option.{Option, none, some}
-use Prim.Native.Nat.{ℕ, _+_, _*_, _-_, _≤_, _<_}
-use lib.ListN.{length}
+use Prim.Native.Nat.{ℕ, _+_, _-_, _≤_, _<_}
+use lib.ListN.{length, take, drop}
+use Rattle.words.specs.Sizes.{Addressable}
 use Rattle.words.specs.declared.Order.{Order}
 use Rattle.walk.specs.Walk.{pick, Walk}
-use Rattle.walk.specs.See.{Verdict, goes, see, Goes}
+use Rattle.walk.specs.See.{Verdict, goes, see, Goes, over}
 use Rattle.rules.specs.Rules as R
 use Rattle.rules.specs.declared.Head.{Head}
+use Rattle.rules.specs.declared.Kind.{Kind}
+use Rattle.rules.specs.declared.Kind.the-variants as Kind
 use Rattle.rules.specs.declared.Refusal.{Refusal}
 use Rattle.records.specs.declared.basic.Basiced.{Basiced}
 use Rattle.records.specs.declared.basic.Basiced.the-variants as Basiced
 use Rattle.records.specs.declared.items.Holder.{Holder}
 use Rattle.records.specs.declared.items.Holder.the-variants as Holder
-use Rattle.records.specs.Says.{halts, headOf, Headroom, Kept}
+use Rattle.records.specs.Says.{halts, headOf, basicOf, okOf, Headroom, headroom, HeadFrom, subsAt, ChannelsIn, ChannelsStand}
 use Rattle.descriptions.specs.declared.Before.{Before}
 use Rattle.descriptions.specs.declared.Before.the-variants as Before
 use Rattle.descriptions.specs.declared.Held.{Held}
@@ -62,6 +65,9 @@ abbrev pub codeOf : Holder → ℕ
 codeOf Holder.Patient = 130
 codeOf Holder.Event = 200
 
+abbrev pub kindOf : Holder → Kind
+kindOf k = Kind.Items (codeOf k)
+
 -- the walk holds a value just where the code holds a place
 abbrev pub HeldIs : {A : Type 0} → Held → Option A → Type 0
 HeldIs Held.Nothing none = Unit {0}
@@ -69,26 +75,23 @@ HeldIs Held.Nothing (some a) = ⊥
 HeldIs (Held.At p) none = ⊥
 HeldIs (Held.At p) (some a) = Unit {0}
 
--- channels that stand in a 120 at a place, and that there is room for so many
-abbrev pub Stand : Order → List ℕ → ℕ → ℕ → List R.Channel → Type 0
-Stand o s at count cs = (length cs ≡ count) × Kept o s (at + 32) cs
+-- so many channels are those of the 120 at this byte of s
+pub record Owned (o : Order) (s : List ℕ) (at count : ℕ) (ch : List R.Channel) : Type 0 where
+  -- they stand in its records 125
+  pub stand : ChannelsStand o s (subsAt at count) ch
+  -- for which there is room
+  pub room : ChannelsIn (length s) (subsAt at count)
 
-abbrev pub Room : ℕ → ℕ → ℕ → Type 0
-Room n at count = (at + 32 + 256 * count ≤ n) × (count ≤ 128)
-
-abbrev pub Owned : Order → List ℕ → ℕ → ℕ → List R.Channel → Type 0
-Owned o s at count cs = Stand o s at count cs × Room (length s) at count
-
--- the recording before, in a file of n bytes; and what the walk holds of it
+-- the records 125 that hold behind the recording before, in a file of n bytes; and what the walk holds of it
 abbrev pub Within : ℕ → Before → Type 0
 Within n Before.Nothing = Unit {0}
-Within n (Before.These p) = Room n (p .channels) (p .count)
+Within n (Before.These p) = ChannelsIn n (subsAt (p .channels) (p .count))
 
 abbrev pub HeldAs : Order → List ℕ → Before → Option R.Held → Type 0
 HeldAs o file Before.Nothing none = Unit {0}
 HeldAs o file Before.Nothing (some v) = ⊥
 HeldAs o file (Before.These p) none = ⊥
-HeldAs o file (Before.These p) (some v) = Stand o file (p .channels) (p .count) (v .channels)
+HeldAs o file (Before.These p) (some v) = ChannelsStand o file (subsAt (p .channels) (p .count)) (v .channels)
 
 -- a part that is absent
 abbrev pub lacking : ℕ → Head → Held → Parted
@@ -102,12 +105,18 @@ followed base n (Parted.Stop r) = halts r
 
 -- it stands at or after this byte
 abbrev pub Follows : ℕ → ℕ → Parted → Type 0
-Follows p n (Parted.On t) = (p ≤ t .next .at) × (t .next .at + 16 ≤ n)
+Follows p n (Parted.On t) = HeadFrom p n (t .next)
 Follows p n (Parted.Stop r) = Unit {0}
 
--- behind a part that is there, at this place
+-- a part that is there, at this place, and stops at byte p of n
+pub record There (at p n : ℕ) (t : Part) : Type 0 where
+  pub own : t .own ≡ true
+  pub place : t .at ≡ at
+  -- the head behind it
+  pub next : HeadFrom p n (t .next)
+
 abbrev pub Stood : ℕ → ℕ → ℕ → Parted → Type 0
-Stood at p n (Parted.On t) = (t .own ≡ true) × (t .at ≡ at) × (p ≤ t .next .at) × (t .next .at + 16 ≤ n)
+Stood at p n (Parted.On t) = There at p n t
 Stood at p n (Parted.Stop r) = Unit {0}
 
 -- the value of a part: K holds of its own, and another is what is held
@@ -128,9 +137,18 @@ abbrev pub parted : {A : Type 0} → (A → Type 0) → Option A → ℕ → ℕ
 parted K hv base n h held (Parted.On t) v = Goes v (Parts K hv base n h held t)
 parted K hv base n h held (Parted.Stop r) v = v ≡ halts r
 
--- a part with this code and body, whatever holds in its place: the walk stands behind the head h
+-- the walk stands behind the head h, which it found in the part s, and holds a value where the code holds a place
+pub record Meets {A : Type 0} (s : List ℕ) (h : Head) (held : Held) (hv : Option A) (n : R.Next) (fuel : ℕ) : Type 0 where
+  pub holds : HeldIs held hv
+  pub head : n .head ≡ headOf h
+  pub room : n .room ≡ length s - h .at
+  -- for the makers' records that follow
+  pub enough : length s < fuel
+
+-- a part with this code and body, whatever holds in its place
 abbrev pub Judges : {A : Type 0} → Order → ℕ → List ℕ → ℕ → (ℕ → R.Head → Walk A) → (A → Type 0) → Head → Held → Parted → Type 0
-Judges o base s code body K h held a = (hv : Option _) (n : R.Next) (fuel : ℕ) → HeldIs held hv → n .head ≡ headOf h → n .room ≡ length s - h .at → length s < fuel → parted K hv base (length s) h held a (see o base s (base + (h .at + 16)) (R.part fuel code body hv n))
+Judges o base s code body K h held a = (hv : Option _) (n : R.Next) (fuel : ℕ) → Meets s h held hv n fuel →
+    parted K hv base (length s) h held a (see o base s (base + (h .at + 16)) (R.part fuel code body hv n))
 
 -- the place of the record with so much room from its start on, in a recording whose body of n bytes stands at `base`
 abbrev pub placeOf : ℕ → ℕ → ℕ → ℕ
@@ -138,8 +156,7 @@ placeOf base n room = base - 16 + (16 + n - room)
 
 -- what the code keeps of the tables
 pub record Keeps (o : Order) (file : List ℕ) (base n : ℕ) (before : Before) (t : Tables) (x : R.Descriptions) (e : ℕ) : Type 0 where
-  pub channels : x .basic .channels ≡ t .basic .channels
-  pub frames : x .basic .frames ≡ t .basic .frames
+  pub basic : basicOf (x .basic) ≡ t .basic
   pub own : x .channels .own ≡ t .own
   pub has-events : x .events .own ≡ t .«has_events»
   pub head : x .events .next .head ≡ headOf (t .next)
@@ -148,7 +165,7 @@ pub record Keeps (o : Order) (file : List ℕ) (base n : ℕ) (before : Before) 
   pub channels-at : t .channels ≡ pick (t .own) (placeOf base n (x .next .room)) (heldAt (channelsIn before))
   pub patient-at : t .patient ≡ pick (x .patient .own) (placeOf base n (x .channels .next .room)) (heldAt (patientIn before))
   pub events-at : t .events ≡ pick (t .«has_events») (placeOf base n (x .patient .next .room)) 0
-  pub stand : Stand o file (t .channels) (t .count) (x .channels .value)
+  pub stand : ChannelsStand o file (subsAt (t .channels) (t .count)) (x .channels .value)
 
 abbrev pub tabled : Order → List ℕ → ℕ → Option R.Held → List ℕ → Before → Tabled → Type 0
 tabled o file base held s before (Tabled.On t) = Goes (see o base s base (R.descriptions held (16 + length s))) (Keeps o file base (length s) before t)
@@ -161,8 +178,49 @@ pub record Bounds (base n : ℕ) (before : Before) (t : Tables) : Type 0 where
   pub one : 1 ≤ t .basic .channels
   pub few : t .basic .channels ≤ 128
   pub short : t .basic .frames ≤ 1000000
-  pub room : (L : ℕ) → base + n ≤ L → Within L before → Room L (t .channels) (t .count)
+  pub room : (L : ℕ) → base + n ≤ L → Within L before → ChannelsIn L (subsAt (t .channels) (t .count))
 
 abbrev pub Ready : ℕ → ℕ → Before → Tabled → Type 0
 Ready base n before (Tabled.On t) = Bounds base n before t
 Ready base n before (Tabled.Stop r) = Unit {0}
+
+-- what the functions ask
+
+-- a head in the part s, which stands at `base` in the file
+pub record HeadIn (base : ℕ) (s : List ℕ) (h : Head) : Type 0 where
+  pub inside : h .at + 16 ≤ length s
+  pub short : Addressable (base + length s)
+
+-- a record from byte `at` up to `end` of it
+pub record RecordIn (base : ℕ) (s : List ℕ) (at end : ℕ) : Type 0 where
+  pub start : at ≤ end
+  pub inside : end ≤ length s
+  pub short : Addressable (base + length s)
+
+-- it is a recording's body
+pub record BodyAt (base : ℕ) (s : List ℕ) : Type 0 where
+  -- the recording's head stands before it
+  pub headed : 16 ≤ base
+  pub short : Addressable (base + length s)
+
+-- and what they promise. `seen`, `told`: the answer is what the rules' walk comes to; `stands`, `follows`, `bounds`: where it lies, whatever the walk holds
+
+-- the head behind the record from byte `at` up to `end`
+pub record Behind (o : Order) (base : ℕ) (s : List ℕ) (at end : ℕ) (a : Parted) : Type 0 where
+  pub seen : (fuel : ℕ) → length s < end + fuel → over headroom (see o base s (base + end) (R.next fuel (length s - end))) ≡ followed base (length s) a
+  pub stands : Stood (base + at) end (length s) a
+
+-- the 120, or what holds in its place, for any 100 with so many channels
+pub record ChannelsPart (o : Order) (base : ℕ) (s : List ℕ) (h : Head) (channels : ℕ) (held : Held) (a : Parted) : Type 0 where
+  pub told : (b : R.Basic) → b .channels ≡ channels → Judges o base s 120 (R.channels b) (Owned o s (h .at) channels) h held a
+  pub follows : Follows (h .at) (length s) a
+
+-- the 130 or the 200, or what holds in its place
+pub record ItemsPart (o : Order) (k : Holder) (base : ℕ) (s : List ℕ) (h : Head) (held : Held) (a : Parted) : Type 0 where
+  pub told : Judges o base s (codeOf k) (R.items (okOf k)) (λ _. Unit {0}) h held a
+  pub follows : Follows (h .at) (length s) a
+
+-- the tables of the recording whose body is s, for any file that it stands in, where the code and the walk hold the same of the recording before
+pub record TablesOf (o : Order) (base : ℕ) (s : List ℕ) (before : Before) (a : Tabled) : Type 0 where
+  pub told : (file : List ℕ) (held : Option R.Held) → s ≡ take (length s) (drop base file) → HeldAs o file before held → tabled o file base held s before a
+  pub bounds : Ready base (length s) before a

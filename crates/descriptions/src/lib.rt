@@ -1,24 +1,21 @@
 // The tables of a recording: record 100, and 120, 130 and 200, each of which may be absent.
 ghost use mathlib.Core.Path.{_≡_};
-ghost use mathlib.Core.List.{List};
-ghost use mathlib.Core.Option.{Option};
-ghost use Prim.Native.Nat.{ℕ, _+_, _-_, _≤_, _<_};
-ghost use lib.ListN.{length, take, drop};
+ghost use Prim.Native.Nat.{_+_, _<_};
 ghost use Rattle.words.specs.Sizes.{Addressable};
 ghost use Rattle.walk.specs.Walk.{pick};
-ghost use Rattle.walk.specs.See.{see, over};
-ghost use Rattle.rules.specs.Rules as R;
-ghost use Rattle.records.specs.Says.{headroom, okOf};
-ghost use Rattle.descriptions.specs.Tabled.{refusalBasic, refusalPart, refusalTables, channelsIn, patientIn, countIn};
-ghost use Rattle.descriptions.specs.Tabled.{codeOf, Owned, HeldAs, lacking, followed, Follows, Stood, Judges, tabled, Ready};
+ghost use Rattle.records.specs.Says.{subsAt};
+ghost use Rattle.descriptions.specs.Tabled.{refusalBasic, refusalPart, refusalTables, channelsIn, patientIn, countIn, kindOf, lacking};
+ghost use Rattle.descriptions.specs.Tabled.{HeadIn, RecordIn, BodyAt, Behind, ChannelsPart, ItemsPart, TablesOf};
 use records::Headed;
 use records::Step;
 use records::basic::Basiced;
 use records::items::Holder;
+use records::kinds::has_code;
 use rules::Basic;
 use rules::Channels;
 use rules::Events;
 use rules::Head;
+use rules::Kind;
 use rules::Patient;
 use rules::Refusal;
 use words::Order;
@@ -143,12 +140,12 @@ fn count_of(own: bool, channels: u32, before: Before) -> u32
     held_count(before)
 }
 
-fn items_code(k: Holder) -> u32
-    ensures { λ r. ⌜ r ≡ codeOf k ⌝ }
+fn kind_of(k: Holder) -> Kind
+    ensures { λ r. ⌜ r ≡ kindOf k ⌝ }
 {
     match k {
-        Holder::Patient => Patient::CODE,
-        Holder::Event => Events::CODE,
+        Holder::Patient => Kind::Items(Patient::CODE),
+        Holder::Event => Kind::Items(Events::CODE),
     }
 }
 
@@ -169,10 +166,8 @@ fn absent(base: usize, h: Head, held: Held) -> Parted
 
 // A part that stands at byte `at` and stops at byte `end`: the head of the next record.
 fn behind(o: Order, s: &[u8], base: usize, at: usize, end: usize) -> Parted
-    requires { ⌜ (at ≤ end) × (end ≤ length (now s)) × Addressable (base + length (now s)) ⌝ }
-    ensures { λ a. ⌜ ((fuel : ℕ) → length (now (s .entry)) < end + fuel →
-        over headroom (see o base (now (s .entry)) (base + end) (R.next fuel (length (now (s .entry)) - end)))
-        ≡ followed base (length (now (s .entry))) a) × Stood (base + at) end (length (now (s .entry))) a ⌝ }
+    requires { ⌜ RecordIn base (now s) at end ⌝ }
+    ensures { λ a. ⌜ Behind o base (now (s .entry)) at end a ⌝ }
 {
     let found = records::makers::next_head(o, s, base, end);
     let Headed::At(next) = found else {
@@ -186,12 +181,10 @@ fn behind(o: Order, s: &[u8], base: usize, at: usize, end: usize) -> Parted
 }
 
 fn channels_part(o: Order, s: &[u8], base: usize, h: Head, channels: u32, held: Held) -> Parted
-    requires { ⌜ (h .at + 16 ≤ length (now s)) × Addressable (base + length (now s)) ⌝ }
-    ensures { λ a. ⌜ ((b : R.Basic) → b .channels ≡ channels →
-        Judges o base (now (s .entry)) 120 (R.channels b) (Owned o (now (s .entry)) (h .at) channels) h held a) ×
-        Follows (h .at) (length (now (s .entry))) a ⌝ }
+    requires { ⌜ HeadIn base (now s) h ⌝ }
+    ensures { λ a. ⌜ ChannelsPart o base (now (s .entry)) h channels held a ⌝ }
 {
-    if h.code != Channels::CODE {
+    if !has_code(Kind::Channels, h.code) {
         return absent(base, h, held);
     }
     let step = records::channels::channels_at(o, s, base, h, channels);
@@ -202,10 +195,10 @@ fn channels_part(o: Order, s: &[u8], base: usize, h: Head, channels: u32, held: 
 }
 
 fn items_part(o: Order, k: Holder, s: &[u8], base: usize, h: Head, held: Held) -> Parted
-    requires { ⌜ (h .at + 16 ≤ length (now s)) × Addressable (base + length (now s)) ⌝ }
-    ensures { λ a. ⌜ Judges o base (now (s .entry)) (codeOf k) (R.items (okOf k)) (λ _. Unit {0}) h held a × Follows (h .at) (length (now (s .entry))) a ⌝ }
+    requires { ⌜ HeadIn base (now s) h ⌝ }
+    ensures { λ a. ⌜ ItemsPart o k base (now (s .entry)) h held a ⌝ }
 {
-    if h.code != items_code(k) {
+    if !has_code(kind_of(k), h.code) {
         return absent(base, h, held);
     }
     let step = records::items::items_at(o, k, s, base, h);
@@ -217,9 +210,8 @@ fn items_part(o: Order, k: Holder, s: &[u8], base: usize, h: Head, held: Held) -
 
 // The tables of the recording whose body is s, which stands at `base` in the file.
 pub fn read_tables(o: Order, s: &[u8], base: usize, before: Before) -> Tabled
-    requires { ⌜ (16 ≤ base) × Addressable (base + length (now s)) ⌝ }
-    ensures { λ a. ⌜ ((file : List ℕ) (held : Option R.Held) → now (s .entry) ≡ take (length (now (s .entry))) (drop base file) →
-        HeldAs o file before held → tabled o file base held (now (s .entry)) before a) × Ready base (length (now (s .entry))) before a ⌝ }
+    requires { ⌜ BodyAt base (now s) ⌝ }
+    ensures { λ a. ⌜ TablesOf o base (now (s .entry)) before a ⌝ }
 {
     let first = records::basic::basic_at(o, s, base, 0);
     let Basiced::Holds(basic) = first else {
@@ -257,7 +249,7 @@ pub fn read_tables(o: Order, s: &[u8], base: usize, before: Before) -> Tabled
 // The channels of a recording: its own, or those taken over.
 pub fn channels_of(t: Tables) -> Channels
     requires { ⌜ t .channels + 32 < 18446744073709551616 ⌝ }
-    ensures { λ r. ⌜ (r .subs ≡ t .channels + 32) × (r .count ≡ t .count) ⌝ }
+    ensures { λ r. ⌜ r ≡ subsAt (t .channels) (t .count) ⌝ }
 {
     Channels {
         subs: t.channels + Channels::SUBS,

@@ -1,41 +1,44 @@
 -- A recording: what the walk comes to, from what the code finds of its head, its descriptions and its signals.
 -- Assumes nothing.
-use mathlib.Core.Path.{_≡_, refl, sym, ap, _∙_}
-use mathlib.Core.Bool.{Bool, true, _&&_}
+use mathlib.Core.Path.{_≡_, refl, sym, ap, subst, _∙_}
+use mathlib.Core.Bool.{Bool}
 use mathlib.Core.List.{List}
 use mathlib.Core.Option.{Option}
-use Prim.Native.Nat.{ℕ, _+_, _*_, _-_, _≤_, _<_}
+use Prim.Native.Nat.{ℕ, _+_, _-_, _≤_, _<_}
 use native.Mathlib.Nat.{zero-add}
 use native.Mathlib.Omega.{arith}
-use borrow.Author.Tests.{leb-true, eqb-true, eq-eqb, ne-eqb}
-use lib.Dec.{leb, ltb, eqb}
+use lib.Dec.{leb, eqb}
 use lib.ListN.{length, take, drop, length-drop}
 use lib.Seq.{length-take-le}
-use Rattle.words.specs.Sizes.{Addressable}
 use Rattle.words.specs.Numbers.{numberAt}
 use Rattle.words.specs.declared.Order.{Order}
-use Rattle.walk.specs.Walk.{pick, _>>=_, _>>_}
-use Rattle.walk.specs.See.{Verdict, stops, goes, gate, see, Goes, onward}
-use Rattle.walk.proofs.Seen.{and-left, and-right, see-part, body-length, see-bind, see-after, see-check, see-give, then-gate, gate-true, gate-false, stays-goes, yields}
-use Rattle.walk.proofs.Went.{goes-same, gate-went, onward-went}
+use Rattle.walk.specs.Walk.{pick, give, _>>=_, _>>_}
+use Rattle.walk.specs.See.{Verdict, stops, goes, see, Goes, onward}
+use Rattle.walk.proofs.Seen.{walks, gates, see-part, body-length, see-bind, see-give, stays-goes, yields}
+use Rattle.walk.proofs.Went.{goes-same, went-first, onward-went}
 use Rattle.rules.specs.Rules as R
-use Rattle.rules.specs.Rules.{admit, recording}
+use Rattle.rules.specs.Rules.{recording}
+use Rattle.rules.specs.declared.Basic.{Basic}
 use Rattle.rules.specs.declared.Channels.{Channels}
 use Rattle.rules.specs.declared.Frames.{Frames}
+use Rattle.rules.specs.declared.Head.{Head}
+use Rattle.rules.specs.declared.Kind.the-variants as Kind
 use Rattle.rules.specs.declared.Refusal.{Refusal}
 use Rattle.rules.proofs.Room.{stays-recordingBody}
-use Rattle.records.specs.Says.{halts}
-use Rattle.records.proofs.Opened.{admit-passed}
-use Rattle.descriptions.specs.Tabled.{Within, Room, placeOf, channelsIn, patientIn, heldAt, Keeps, Bounds, tabled}
+use Rattle.records.specs.Says.{halts, headOf, subsAt, ChannelsIn, opened, OpenAt}
+use Rattle.records.specs.declared.kinds.Opened.the-variants as Opened
+use Rattle.records.proofs.Bodies.{body-opened}
+use Rattle.records.proofs.Opened.{halted, require-went, admit-went, admit-passed}
+use Rattle.descriptions.specs.Tabled.{Within, placeOf, channelsIn, patientIn, heldAt, Keeps, Bounds, tabled, TablesOf}
 use Rattle.descriptions.specs.declared.Before.{Before}
 use Rattle.descriptions.specs.declared.Places.{Places}
 use Rattle.descriptions.specs.declared.Tabled.the-variants as Tabled
 use Rattle.descriptions.specs.declared.Tables.{Tables}
-use Rattle.signals.specs.Signaled.{Known, Whole, Signaled}
-use Rattle.signals.specs.declared.frames.Framed.{Framed}
+use Rattle.signals.specs.Framed.{SignalsIn}
+use Rattle.signals.specs.Signaled.{Known, Whole, WholeAt, SignalsOf}
 use Rattle.signals.specs.declared.frames.Framed.the-variants as Framed
 use Rattle.signals.proofs.Signaled.{yields-signals}
-use Rattle.judge.specs.Recorded.{placesOf, placesFor, Places-of, recorded, Continues}
+use Rattle.judge.specs.Recorded.{placesOf, placesFor, Places-of, recorded, PlacedIn, RecordingIn, BodyIn, BodyJudged, RecordingAt, BodyAgain, RecordingAgain}
 use Rattle.judge.specs.declared.recording.Recorded.{Recorded}
 use Rattle.judge.specs.declared.recording.Recorded.the-variants as Recorded
 
@@ -51,10 +54,6 @@ frames-place start n room bytes at p e d r l = omega arith
 picked : (x y : Bool) (v a b other : ℕ) → v ≡ pick x a other → y ≡ x → a ≡ b → v ≡ pick y b other
 picked x y v a b other k e d = rw (e, ← d) k
 
--- what `channels_of` says
-abbrev ChannelsOf : Tables → Channels → Type 0
-ChannelsOf t cs = (cs .subs ≡ t .channels + 32) × (cs .count ≡ t .count)
-
 -- places that agree in each field
 alike : {a a' b b' c c' d d' e e' g g' k k' l l' m m' n n' : ℕ} {x x' : Bool} → a ≡ a' → b ≡ b' → c ≡ c' → d ≡ d' → e ≡ e' → x ≡ x' → g ≡ g' → k ≡ k' → l ≡ l' → m ≡ m' → n ≡ n' →
     _≡_ {A = Places} (record { start = a; end = b; channels = c; count = d; patient = e; «has_events» = x; events = g; frames = k; frame = l; total = m; seconds = n }) (record { start = a'; end = b'; channels = c'; count = d'; patient = e'; «has_events» = x'; events = g'; frames = k'; frame = l'; total = m'; seconds = n' })
@@ -68,8 +67,8 @@ places-same o file at n before t f X e h x k w s l =
     let at130 : x .layout .at130 ≡ R.span h - X .channels .next .room = ap (λ (y : R.Layout). y .at130) (w .layout) in
     let at200 : x .layout .at200 ≡ R.span h - X .patient .next .room = ap (λ (y : R.Layout). y .at200) (w .layout) in
     let at140 : x .layout .at140 ≡ R.span h - X .events .next .room = ap (λ (y : R.Layout). y .at140) (w .layout) in
-    let total : x .recording .basic .frames ≡ t .basic .frames = ap (λ (y : R.Basic). y .frames) (w .basic) ∙ k .frames in
-    let count : length (x .recording .channels) ≡ t .count = ap length (w .channels) ∙ k .stand .0 in
+    let total : x .recording .basic .frames ≡ t .basic .frames = ap (λ (y : R.Basic). y .frames) (w .basic) ∙ ap (λ (y : Basic). y .frames) (k .basic) in
+    let count : length (x .recording .channels) ≡ t .count = ap length (w .channels) ∙ k .stand .count in
     alike
     refl
     (omega (arith, bytes, s))
@@ -83,53 +82,47 @@ places-same o file at n before t f X e h x k w s l =
     (sym total)
     (sym (w .seconds))
 
--- what `signals` says of the tables t, in a body s that stands behind the head at `at`
-abbrev Signals : Order → List ℕ → ℕ → List ℕ → ℕ → Tables → Channels → Framed → Type 0
-Signals o file at s m t cs a = (X : R.Descriptions) (r : R.Head) → Known o file cs (t .own) (t .basic) (t .next) s m X r → Signaled (see o (at + 16) s (at + 16 + (t .next .at + 16)) (R.signals X r)) (at + 16 + length s) X r a
-
 -- the body of a recording with the head h
 module _ (o : Order) (file : List ℕ) (at : ℕ) (s : List ℕ) (before : Before) (held : Option R.Held) (h : R.Head) (fills : R.span h ≡ 16 + length s) where
   abbrev body : Verdict R.Placed
   body = see o (at + 16) s (at + 16) (R.recordingBody held h)
 
-  opened : body ≡ onward (see o (at + 16) s (at + 16) (R.descriptions held (16 + length s))) (λ t e. see o (at + 16) s e (R.signals t h))
+  halves : body ≡ onward (see o (at + 16) s (at + 16) (R.descriptions held (16 + length s))) (λ t e. see o (at + 16) s e (R.signals t h))
   unfolding R.recordingBody
-  opened =
+  halves =
       see-bind o (at + 16) s (at + 16) (R.descriptions held (R.span h)) (λ t. R.signals t h)
       ∙ ap (λ (n : ℕ). onward (see o (at + 16) s (at + 16) (R.descriptions held n)) (λ t e. see o (at + 16) s e (R.signals t h))) fills
 
-  pub tables-stop : {r : Refusal} → tabled o file (at + 16) held s before (Tabled.Stop r) → body ≡ halts r
-  tables-stop k = opened ∙ rw k
+  tables-stop : {r : Refusal} → tabled o file (at + 16) held s before (Tabled.Stop r) → body ≡ halts r
+  tables-stop k = halves ∙ rw k
 
   module _ {t : Tables} (kept : tabled o file (at + 16) held s before (Tabled.On t)) where
     reached : body ≡ see o (at + 16) s (at + 16 + (t .next .at + 16)) (R.signals (kept .value) h)
-    reached = opened ∙ rw (kept .is, kept .kept .end)
+    reached = halves ∙ rw (kept .is, kept .kept .end)
 
     -- the second half is whole, with a 140 of which the code keeps f
     placed : (f : Frames) {x : R.Placed} {e : ℕ} → body ≡ goes x e → e ≡ at + 16 + length s → Whole (kept .value) h f x → t .next .at + 16 ≤ length s → Goes body (Places-of o file at before (placesFor at (length s) t (f .size) (f .seconds)))
     placed f {x} {e} g i w l = record { value = x; end = e; is = g; kept = record { end = i; same = places-same o file at (length s) before t f (kept .value) (kept .end) h x (kept .kept) w fills l; held = rw (w .channels) (kept .kept .stand) } }
 
-    module _ {cs : Channels} {m : ℕ} (chan : ChannelsOf t cs) (times : h .multiplier ≡ m) where
+    module _ {cs : Channels} {m : ℕ} (chan : cs ≡ subsAt (t .channels) (t .count)) (times : h .multiplier ≡ m) where
       known : Known o file cs (t .own) (t .basic) (t .next) s m (kept .value) h
       known = record {
-        channels = kept .kept .channels;
-        frames = kept .kept .frames;
+        basic = kept .kept .basic;
         own = kept .kept .own;
-        count = kept .kept .stand .0 ∙ sym (chan .1);
-        kept = rw (chan .0) (kept .kept .stand .1);
+        channels = rw chan (kept .kept .stand);
         head = kept .kept .head;
         room = kept .kept .room;
         bytes = fills;
         multiplier = times;
       }
 
-      pub signals-stop : {r : Refusal} → Signals o file at s m t cs (Framed.Stop r) → body ≡ halts r
+      signals-stop : {r : Refusal} → SignalsOf o file cs (t .own) (t .basic) (t .next) (at + 16) s m (Framed.Stop r) → body ≡ halts r
       signals-stop k = reached ∙ k (kept .value) h known
 
-      pub body-holds : {f : Frames} (q : ℕ) → Signals o file at s m t cs (Framed.On f q) → t .next .at + 16 ≤ length s → Goes body (Places-of o file at before (placesFor at (length s) t (f .size) (f .seconds)))
+      body-holds : {f : Frames} (q : ℕ) → SignalsOf o file cs (t .own) (t .basic) (t .next) (at + 16) s m (Framed.On f q) → t .next .at + 16 ≤ length s → Goes body (Places-of o file at before (placesFor at (length s) t (f .size) (f .seconds)))
       body-holds {f} q k l =
-          let g : Goes (see o (at + 16) s (at + 16 + (t .next .at + 16)) (R.signals (kept .value) h)) (λ p e. (e ≡ at + 16 + length s) × Whole (kept .value) h f p) = k (kept .value) h known in
-          placed f (reached ∙ g .is) (g .kept .0) (g .kept .1) l
+          let g : Goes (see o (at + 16) s (at + 16 + (t .next .at + 16)) (R.signals (kept .value) h)) (WholeAt (at + 16 + length s) (kept .value) h f) = k (kept .value) h known in
+          placed f (reached ∙ g .is) (g .kept .ends) (g .kept .whole) l
 
     -- of a body that the walk accepted
     module _ {x : R.Placed} {e : ℕ} (g : body ≡ goes x e) where
@@ -142,101 +135,155 @@ module _ (o : Order) (file : List ℕ) (at : ℕ) (s : List ℕ) (before : Befor
           let j : at + 16 + (t .next .at + 16) + 4 - (at + 16) ≡ t .next .at + 20 = omega arith in
           rw (i, j) at (yields o (at + 16) s (R.signals (kept .value) h) (at + 16 + (t .next .at + 16)) _ (yields-signals o (at + 16) s (at + 16 + (t .next .at + 16)) (kept .value) h) (sym reached ∙ g))
 
-      pub again-short : length s < t .next .at + 32 → ⊥
-      again-short l = omega (arith, told .0, kept .kept .room)
+      long : length s < t .next .at + 32 → ⊥
+      long l = omega (arith, told .0, kept .kept .room)
 
-      pub again-holds : (frame seconds : ℕ) → seconds ≡ numberAt o 4 s (t .next .at + 16) → frame ≡ numberAt o 4 s (t .next .at + 20) → t .next .at + 16 ≤ length s → Goes body (Places-of o file at before (placesFor at (length s) t frame seconds))
-      again-holds frame seconds i j l =
+      found : (frame seconds : ℕ) → seconds ≡ numberAt o 4 s (t .next .at + 16) → frame ≡ numberAt o 4 s (t .next .at + 20) → t .next .at + 16 ≤ length s → Goes body (Places-of o file at before (placesFor at (length s) t frame seconds))
+      found frame seconds i j l =
           let z = stays-goes o (at + 16) s (at + 16 + (R.span h - 16)) (omega arith) (R.recordingBody held h) (at + 16) _ (omega arith) (stays-recordingBody held h (at + 16) (omega arith)) g in
           rw (i, j) (placed numbers g (omega (arith, z .1)) (told .1) l)
 
--- the bounds that hold whatever the walk holds, and what the functions that are called ask: in a file of L bytes
-module _ (at n L : ℕ) (before : Before) (t : Tables) (b : Bounds (at + 16) n before t) (fits : at + 16 + n ≤ L) (short : Addressable L) (within : Within L before) where
-  pub channels-asked : t .channels + 32 < 18446744073709551616
-  channels-asked = omega (arith, b .room L fits within .0)
+-- the bounds of its places, in a file of n bytes
+continues : (at n : ℕ) (s : List ℕ) (before : Before) (t : Tables) → Bounds (at + 16) (length s) before t → at + 16 + length s ≤ n → Within n before → (frame seconds : ℕ) → PlacedIn at n (placesFor at (length s) t frame seconds)
+continues at n s before t b fits within frame seconds = record { start = omega arith; end = fits; channels = b .room n fits within }
 
-  pub signals-asked : (cs : Channels) → ChannelsOf t cs → (128 ≤ t .next .at) × (t .next .at + 16 ≤ n) × (16 ≤ at + 16) × Addressable (at + 16 + n) × (t .basic .frames ≤ 1000000) × (cs .count ≤ 128) × (cs .subs + 256 * cs .count ≤ L)
-  signals-asked cs c =
-      let r : Room L (t .channels) (t .count) = b .room L fits within in
-      (b .low, b .fits, omega arith, omega arith, b .short, rw (c .1) (r .1), rw (c .0, c .1) (r .0))
+-- what `recording_body` asks of the functions that it calls, and what it answers at each return
+module _ (o : Order) (file s : List ℕ) (at : ℕ) (before : Before) (i : BodyIn file s at before) where
+  module _ {t : Tables} (k : TablesOf o (at + 16) s before (Tabled.On t)) where
+    room : ChannelsIn (length file) (subsAt (t .channels) (t .count))
+    room = k .bounds .room (length file) (i .inside) (i .held)
 
--- the bounds of its places
-pub body-continues : (at n L : ℕ) (before : Before) (t : Tables) → Bounds (at + 16) n before t → at + 16 + n ≤ L → Within L before → (frame seconds : ℕ) → Continues at L (Recorded.On (placesFor at n t frame seconds))
-body-continues at n L before t b fits within frame seconds = (omega arith, fits, b .room L fits within)
+    pub channels-asked : t .channels + 32 < 18446744073709551616
+    channels-asked = omega (arith, room .inside, i .short)
+
+    pub signals-asked : {cs : Channels} → cs ≡ subsAt (t .channels) (t .count) → SignalsIn file cs (t .basic) (t .next) (at + 16) s
+    signals-asked c =
+        let b = k .bounds in
+        record {
+          body = record { headed = omega arith; short = omega (arith, i .inside, i .short) };
+          head = record { low = b .low; inside = b .fits };
+          few = b .short;
+          channels = rw c room;
+        }
+
+  pub stops-tables : {m : ℕ} {r : Refusal} → TablesOf o (at + 16) s before (Tabled.Stop r) → BodyJudged o file s at m before (Recorded.Stop r)
+  stops-tables k = record { told = λ held h has fills times. tables-stop o file at s before held h fills (k .told file held (i .part) has); continues = tt }
+
+  module _ {m : ℕ} {t : Tables} (k : TablesOf o (at + 16) s before (Tabled.On t)) {cs : Channels} (c : cs ≡ subsAt (t .channels) (t .count)) where
+    pub stops-signals : {r : Refusal} → SignalsOf o file cs (t .own) (t .basic) (t .next) (at + 16) s m (Framed.Stop r) → BodyJudged o file s at m before (Recorded.Stop r)
+    stops-signals j = record { told = λ held h has fills times. signals-stop o file at s before held h fills (k .told file held (i .part) has) c times j; continues = tt }
+
+    pub holds : {f : Frames} (q : ℕ) → SignalsOf o file cs (t .own) (t .basic) (t .next) (at + 16) s m (Framed.On f q) → BodyJudged o file s at m before (Recorded.On (placesFor at (length s) t (f .size) (f .seconds)))
+    holds {f} q j = record {
+      told = λ held h has fills times. body-holds o file at s before held h fills (k .told file held (i .part) has) c times q j (k .bounds .fits);
+      continues = continues at (length file) s before t (k .bounds) (i .inside) (i .held) (f .size) (f .seconds);
+    }
+
+-- what `body_again` answers
+module _ (o : Order) (s : List ℕ) (at : ℕ) (before : Before) where
+  pub again-stops : {r : Refusal} → TablesOf o (at + 16) s before (Tabled.Stop r) → BodyAgain o s at before (Recorded.Stop r)
+  again-stops k = record { told = λ file held h x e is has fills g. tables-stop o file at s before held h fills (k .told file held is has); continues = λ n l w. tt }
+
+  module _ {t : Tables} (k : TablesOf o (at + 16) s before (Tabled.On t)) where
+    pub again-short : {r : Refusal} → length s < t .next .at + 32 → BodyAgain o s at before (Recorded.Stop r)
+    again-short l = record { told = λ file held h x e is has fills g. absurd (long o file at s before held h fills (k .told file held is has) g l); continues = λ n l w. tt }
+
+    pub again-holds : {frame seconds : ℕ} → seconds ≡ numberAt o 4 s (t .next .at + 16) → frame ≡ numberAt o 4 s (t .next .at + 20) → BodyAgain o s at before (Recorded.On (placesFor at (length s) t frame seconds))
+    again-holds {frame} {seconds} i j = record {
+      told = λ file held h x e is has fills g. found o file at s before held h fills (k .told file held is has) g frame seconds i j (k .bounds .fits);
+      continues = λ n l w. continues at n s before t (k .bounds) l w frame seconds;
+    }
 
 -- a recording at byte p of the file
-module _ (o : Order) (file : List ℕ) (p i : ℕ) (held : Option R.Held) where
-  abbrev walk : Verdict R.Placed
-  walk = see o 0 file p (R.recording held (length file - p) i)
+module _ (o : Order) (file : List ℕ) (p i : ℕ) where
+  abbrev walk : Option R.Held → Verdict R.Placed
+  walk held = see o 0 file p (R.recording held (length file - p) i)
 
-  pub head-stop : {n q : ℕ} → see o 0 file (0 + p) (R.head (length file - p)) ≡ stops n q → walk ≡ stops n q
+  begins : (held : Option R.Held) → walk held ≡ onward (see o 0 file p (opened (R.recordingRule i) (length file - p))) (λ h e. see o 0 file e (R.recordingBody held h))
   unfolding recording
-  head-stop k = rw (see-bind o 0 file p (R.head (length file - p)), rw zero-add at k)
+  begins held = body-opened o 0 file (R.recordingRule i) (R.recordingBody held) (length file - p) p
 
-  -- with the head h; k: where the code's head says that it stands
-  module _ {h : R.Head} (k : ℕ) (found : see o 0 file (0 + p) (R.head (length file - p)) ≡ goes h (0 + (k + 16))) (is : k ≡ p) where
-    begins : see o 0 file p (R.head (length file - p)) ≡ goes h (p + 16)
-    begins = rw (zero-add p, zero-add (k + 16), is) at found
+  open-stop : {r : Refusal} → OpenAt o 0 file p (Kind.Recording i) (Opened.Stop r) → (held : Option R.Held) → walk held ≡ halts r
+  open-stop a held = begins held ∙ rw (rw zero-add at (a .seen))
 
-    -- what stands behind the test of its code
-    abbrev behind : Verdict R.Placed
-    behind = onward (see o 0 file (p + 16) (R.admit (length file - p) 128 (leb 16) (eqb i) h)) (λ _ e. see o 0 file e (R.recordingBody held h))
+  -- the body of a record that ends at byte q, handed on as a part of its own
+  module _ {h : Head} {q : ℕ} (a : OpenAt o 0 file p (Kind.Recording i) (Opened.On h q)) where
+    fills : R.span (headOf h) ≡ 16 + length (take (q - (p + 16)) (drop (p + 16) file))
+    fills =
+        let st = a .stands in
+        let l : 16 + length (take (q - (p + 16)) (drop (p + 16) file)) ≡ q - p = body-length p q file (omega (arith, st .end, st .spans)) (st .inside) in
+        omega (arith, l, st .end)
 
-    gated : walk ≡ gate (eqb (h .code) 10) behind 9 (p + 4)
-    unfolding recording
-    gated = let z : p + 16 - 12 ≡ p + 4 = omega arith in simp (see-bind, see-after, see-check, see-give, then-gate, begins, z)
+    in-body : (held : Option R.Held) → see o (p + 16) (take (q - (p + 16)) (drop (p + 16) file)) (p + 16) (R.recordingBody held (headOf h)) ≡ walk held
+    in-body held =
+        let st = a .stands in
+        let n : ℕ = R.span (headOf h) in
+        let z : p + 16 + (n - 16) ≡ p + 16 + (q - (p + 16)) = omega (arith, st .end) in
+        see-part o 0 (p + 16) (p + 16) (q - (p + 16)) file (sym (zero-add (p + 16))) (omega (arith, st .inside, st .end, st .spans)) (R.recordingBody held (headOf h)) (p + 16) (λ x e. (x .layout .bytes ≡ n) × (e ≡ p + 16 + (q - (p + 16)))) (omega arith) (rw z at (stays-recordingBody held (headOf h) (p + 16) (st .spans))) ∙
+        sym (begins held ∙ rw (rw (zero-add p, zero-add (h .at + 16), st .at) at (a .seen)))
 
-    pub other-code : (h .code ≡ 10 → ⊥) → walk ≡ stops 9 (p + 4)
-    other-code c = gated ∙ rw (ne-eqb _ _ c, gate-false)
+-- it is accepted whatever its serial, where the head is looked at for no more than that
+opened-any : (o : Order) (s : List ℕ) (at room i : ℕ) {h : R.Head} {e : ℕ} → see o 0 s at (opened (R.recordingRule i) room) ≡ goes h e → see o 0 s at (opened R.anyRule room) ≡ goes h e
+unfolding opened
+opened-any o s at room i {h} {e} g =
+    let f = went-first o 0 s at (R.head room) _ g in
+    let c = require-went o 0 s (f .end) (eqb (f .value .code) 10) 9 12 (R.admitBy (R.recordingRule i) room (f .value) >> give (f .value)) (f .kept) in
+    let d = admit-went o 0 s (f .end) room 128 (leb 16) (eqb i) (f .value) (give (f .value)) (c .1) in
+    let y = admit-passed o 0 s (f .end) room 128 (leb 16) (eqb i) (f .value) (d .admits) .any in
+    simp (walks, gates, f .is, y) (sym (see-give o 0 s (f .end) (f .value)) ∙ d .rest)
 
-    module _ (code : h .code ≡ 10) where
-      coded : walk ≡ behind
-      coded = gated ∙ rw (eq-eqb _ _ code, gate-true)
+-- what `recording_at` and `recording_again` ask of the functions that they call, and what they answer
+module _ (file : List ℕ) (p q : ℕ) {before : Before} (low : p + 16 ≤ q) (inside : q ≤ length file) (i : RecordingIn (length file) p before) where
+  abbrev within : List ℕ
+  within = take (q - (p + 16)) (drop (p + 16) file)
 
-      pub room-stop : {n q : ℕ} → see o 0 file (0 + (k + 16)) (R.admit (length file - k) 128 (leb 16) (eqb i) h) ≡ stops n q → walk ≡ stops n q
-      room-stop a = coded ∙ rw (rw (zero-add, is) at a)
+  part-length : length within ≡ q - (p + 16)
+  part-length = length-take-le (q - (p + 16)) (drop (p + 16) file) (rw length-drop (omega arith))
 
-      -- the body of a record that ends at byte q, handed on as a part of its own
-      module _ (q : ℕ) (a : see o 0 file (0 + (k + 16)) (R.admit (length file - k) 128 (leb 16) (eqb i) h) ≡ goes tt (0 + (k + 16))) (ends-at : q ≡ k + R.span h) (fits : q ≤ length file) (least : 16 ≤ R.span h) where
-        in-body : see o (p + 16) (take (q - (p + 16)) (drop (p + 16) file)) (p + 16) (R.recordingBody held h) ≡ walk
-        in-body =
-            let z : p + 16 + (R.span h - 16) ≡ p + 16 + (q - (p + 16)) = omega arith in
-            see-part o 0 (p + 16) (p + 16) (q - (p + 16)) file (sym (zero-add (p + 16))) (omega arith) (R.recordingBody held h) (p + 16) (λ x e. (x .layout .bytes ≡ R.span h) × (e ≡ p + 16 + (q - (p + 16)))) (omega arith) (rw z at (stays-recordingBody held h (p + 16) least)) ∙ sym (coded ∙ rw (rw (zero-add, is) at a))
+  pub body-asked : BodyIn file within p before
+  body-asked = record {
+    part = ap (λ (n : ℕ). take n (drop (p + 16) file)) (sym part-length);
+    inside = omega (arith, part-length);
+    short = i .short;
+    held = i .held;
+  }
 
-        -- what `recording_body` says, of this head
-        pub recorded-body : (before : Before) (x : Recorded) → (R.span h ≡ 16 + length (take (q - (p + 16)) (drop (p + 16) file)) → see o (p + 16) (take (q - (p + 16)) (drop (p + 16) file)) (p + 16) (R.recordingBody held h) ≡ walk → recorded o file p before (see o (p + 16) (take (q - (p + 16)) (drop (p + 16) file)) (p + 16) (R.recordingBody held h)) x) → recorded o file p before walk x
-        recorded-body before x r =
-            let l : 16 + length (take (q - (p + 16)) (drop (p + 16) file)) ≡ q - p = body-length p q file (omega arith) fits in
-            rw in-body at (r (omega arith) in-body)
+pub at-stops : {o : Order} {file : List ℕ} {p i : ℕ} {before : Before} {r : Refusal} → OpenAt o 0 file p (Kind.Recording i) (Opened.Stop r) → RecordingAt o file p i before (Recorded.Stop r)
+at-stops {o} {file} {p} {i} a = record { told = λ held has. open-stop o file p i a held; continues = tt }
 
-    -- a recording that the walk accepted: its head says so, whatever its serial
-    module _ {x : R.Placed} {e : ℕ} (g : walk ≡ goes x e) where
-      tested : (eqb (h .code) 10 ≡ true) × (behind ≡ goes x e)
-      tested = gate-went _ behind 9 (p + 4) (sym gated ∙ g)
+pub at-body : {o : Order} {file : List ℕ} {p i : ℕ} {before : Before} {h : Head} {q : ℕ} {x : Recorded} → OpenAt o 0 file p (Kind.Recording i) (Opened.On h q) →
+    BodyJudged o file (take (q - (p + 16)) (drop (p + 16) file)) p (h .multiplier) before x → RecordingAt o file p i before x
+at-body {o} {file} {p} {i} {before} {h} {q} {x} a k = record {
+  told = λ held has. subst (λ (v : Verdict R.Placed). recorded o file p before v x) (in-body o file p i a held) (k .told held (headOf h) has (fills o file p i a) refl);
+  continues = k .continues;
+}
 
-      pub code-is : h .code ≡ 10
-      code-is = eqb-true (h .code) 10 (tested .0)
+-- a recording that the walk accepts: its head was opened as one
+module _ (o : Order) (file : List ℕ) (p i : ℕ) (held : Option R.Held) {x : R.Placed} {e : ℕ} (g : see o 0 file p (R.recording held (length file - p) i) ≡ goes x e) where
+  begun : Goes (see o 0 file p (opened (R.recordingRule i) (length file - p))) (λ h m. see o 0 file m (R.recordingBody held h) ≡ goes x e)
+  begun = onward-went _ _ (sym (begins o file p i held) ∙ g)
 
-      admits : Goes (see o 0 file (p + 16) (R.admit (length file - p) 128 (leb 16) (eqb i) h)) (λ _ m. see o 0 file m (R.recordingBody held h) ≡ goes x e)
-      admits = onward-went _ _ (tested .1)
+  any : see o 0 file p (opened R.anyRule (length file - p)) ≡ goes (begun .value) (begun .end)
+  any = opened-any o file p (length file - p) i (begun .is)
 
-      pub admitted : see o 0 file (0 + (k + 16)) (R.admit (length file - k) 128 (leb 16) (eqb i) h) ≡ goes tt (0 + (k + 16))
-      admitted = rw (zero-add, is) (admits .is ∙ ap (λ (m : ℕ). goes tt m) (admit-passed o 0 file (p + 16) _ _ _ _ h (admits .is) .stays))
+  not-stopped : {r : Refusal} → OpenAt o 0 file p Kind.Any (Opened.Stop r) → ⊥
+  not-stopped a = halted (rw zero-add at (a .seen)) any
 
-      pub not-refused : {n q : ℕ} → see o 0 file (0 + (k + 16)) (R.admit (length file - k) 128 (leb 16) (λ _. true) h) ≡ stops n q → ⊥
-      not-refused a =
-          let u = rw (zero-add, is) at a in
-          let v = admit-passed o 0 file (p + 16) _ _ _ _ h (admits .is) .any in
-          let z : _≡_ {A = ℕ} 0 1 = cc in
-          omega arith
+  as-recording : {h : Head} {q : ℕ} → OpenAt o 0 file p Kind.Any (Opened.On h q) → OpenAt o 0 file p (Kind.Recording i) (Opened.On h q)
+  as-recording {h} {q} a =
+      let y = goes-same (sym any ∙ rw zero-add at (a .seen)) in
+      let st = a .stands in
+      record { seen = rw zero-add (begun .is ∙ cc (y .0, y .1)); stands = record { at = st .at; end = st .end; inside = st .inside; spans = st .spans } }
 
--- the part of the file from byte p on, up to q: what `recording_body` asks of it
-module _ (file : List ℕ) (p q : ℕ) (low : p ≤ q) (fits : q ≤ length file) where
-  abbrev part : List ℕ
-  part = take (q - p) (drop p file)
+pub again-refused : {o : Order} {file : List ℕ} {p : ℕ} {before : Before} {r : Refusal} → OpenAt o 0 file p Kind.Any (Opened.Stop r) → RecordingAgain o file p before (Recorded.Stop r)
+again-refused {o} {file} {p} a = record { told = λ held i x e has g. absurd (not-stopped o file p i held g a); continues = tt }
 
-  part-length : length part ≡ q - p
-  part-length = length-take-le (q - p) (drop p file) (rw length-drop (omega arith))
-
-  pub part-asked : (before : Before) → Addressable (length file) → Within (length file) before → (part ≡ take (length part) (drop p file)) × (p + length part ≤ length file) × Addressable (length file) × Within (length file) before
-  part-asked before short within = (ap (λ (n : ℕ). take n (drop p file)) (sym part-length), omega (arith, part-length), short, within)
+pub again-body : {o : Order} {file : List ℕ} {p : ℕ} {before : Before} {h : Head} {q : ℕ} {x : Recorded} → OpenAt o 0 file p Kind.Any (Opened.On h q) → BodyIn file (take (q - (p + 16)) (drop (p + 16) file)) p before →
+    BodyAgain o (take (q - (p + 16)) (drop (p + 16) file)) p before x → RecordingAgain o file p before x
+again-body {o} {file} {p} {before} {h} {q} {x} a b k = record {
+  told = λ held i y e has g.
+      let r = as-recording o file p i held g a in
+      let d = in-body o file p i r held in
+      subst (λ (v : Verdict R.Placed). recorded o file p before v x) d (k .told file held (headOf h) y e (b .part) has (fills o file p i r) (d ∙ g));
+  continues = k .continues (length file) (b .inside) (b .held);
+}

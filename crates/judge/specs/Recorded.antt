@@ -3,13 +3,14 @@
 use mathlib.Core.Path.{_≡_}
 use mathlib.Core.List.{List}
 use mathlib.Core.Option.{Option, some}
-use Prim.Native.Nat.{ℕ, _+_, _≤_}
-use lib.ListN.{length}
+use Prim.Native.Nat.{ℕ, _+_, _-_, _≤_}
+use lib.ListN.{length, take, drop}
+use Rattle.words.specs.Sizes.{Addressable}
 use Rattle.words.specs.declared.Order.{Order}
 use Rattle.walk.specs.Walk.{pick}
-use Rattle.walk.specs.See.{Verdict, Goes}
+use Rattle.walk.specs.See.{Verdict, goes, see, Goes}
 use Rattle.rules.specs.Rules as R
-use Rattle.records.specs.Says.{halts}
+use Rattle.records.specs.Says.{halts, subsAt, ChannelsIn}
 use Rattle.descriptions.specs.declared.Before.{Before}
 use Rattle.descriptions.specs.declared.Before.the-variants as Before
 use Rattle.descriptions.specs.declared.Places.{Places}
@@ -64,7 +65,65 @@ abbrev pub recorded : Order → List ℕ → ℕ → Before → Verdict R.Placed
 recorded o file start before v (Recorded.On q) = Goes v (Places-of o file start before q)
 recorded o file start before v (Recorded.Stop r) = v ≡ halts r
 
--- the bounds that hold whatever the walk holds
+-- the bounds that hold whatever the walk holds: a recording from byte p on, with these places, in a file of n bytes
+pub record PlacedIn (p n : ℕ) (q : Places) : Type 0 where
+  pub start : p ≤ q .end
+  pub end : q .end ≤ n
+  -- the records 125 that hold for it, and behind it
+  pub channels : ChannelsIn n (subsAt (q .channels) (q .count))
+
 abbrev pub Continues : ℕ → ℕ → Recorded → Type 0
-Continues p n (Recorded.On q) = (p ≤ q .end) × (q .end ≤ n) × Within n (Before.These q)
+Continues p n (Recorded.On q) = PlacedIn p n q
 Continues p n (Recorded.Stop r) = Unit {0}
+
+-- what the functions ask
+
+-- a file of n bytes has its header
+pub record HeaderIn (n : ℕ) : Type 0 where
+  pub header : 32 ≤ n
+  pub short : Addressable n
+
+-- a recording may stand at byte p of it, behind the recording before
+pub record RecordingIn (n p : ℕ) (before : Before) : Type 0 where
+  pub inside : p ≤ n
+  pub short : Addressable n
+  pub held : Within n before
+
+-- s is the body of the recording at `at`
+pub record BodyIn (file s : List ℕ) (at : ℕ) (before : Before) : Type 0 where
+  pub part : s ≡ take (length s) (drop (at + 16) file)
+  pub inside : at + 16 + length s ≤ length file
+  pub short : Addressable (length file)
+  pub held : Within (length file) before
+
+-- it has n bytes, and the head behind these tables is in it
+pub record TablesIn (at n : ℕ) (t : Tables) : Type 0 where
+  pub inside : t .next .at ≤ n
+  pub short : Addressable (at + 16 + n)
+
+-- and what they promise. `told`: the answer is what the rules' walk comes to, where the code and the walk hold the same of the recording before
+
+-- the body s of the recording at `at`, for any head of its length and multiplier
+pub record BodyJudged (o : Order) (file s : List ℕ) (at multiplier : ℕ) (before : Before) (a : Recorded) : Type 0 where
+  pub told : (held : Option R.Held) (h : R.Head) → HeldAs o file before held → R.span h ≡ 16 + length s → h .multiplier ≡ multiplier →
+      recorded o file at before (see o (at + 16) s (at + 16) (R.recordingBody held h)) a
+  pub continues : Continues at (length file) a
+
+-- the recording at byte p, with the serial i
+pub record RecordingAt (o : Order) (file : List ℕ) (p i : ℕ) (before : Before) (a : Recorded) : Type 0 where
+  pub told : (held : Option R.Held) → HeldAs o file before held → recorded o file p before (see o 0 file p (R.recording held (length file - p) i)) a
+  pub continues : Continues p (length file) a
+
+-- a body that the walk accepts, in any file where it stands
+pub record BodyAgain (o : Order) (s : List ℕ) (at : ℕ) (before : Before) (a : Recorded) : Type 0 where
+  pub told : (file : List ℕ) (held : Option R.Held) (h : R.Head) (x : R.Placed) (e : ℕ) → s ≡ take (length s) (drop (at + 16) file) →
+      HeldAs o file before held → R.span h ≡ 16 + length s → see o (at + 16) s (at + 16) (R.recordingBody held h) ≡ goes x e →
+      recorded o file at before (see o (at + 16) s (at + 16) (R.recordingBody held h)) a
+  pub continues : (n : ℕ) → at + 16 + length s ≤ n → Within n before → Continues at n a
+
+-- a recording that the walk accepts, at byte p, whatever its serial
+pub record RecordingAgain (o : Order) (file : List ℕ) (p : ℕ) (before : Before) (a : Recorded) : Type 0 where
+  pub told : (held : Option R.Held) (i : ℕ) (x : R.Placed) (e : ℕ) → HeldAs o file before held →
+      see o 0 file p (R.recording held (length file - p) i) ≡ goes x e →
+      recorded o file p before (see o 0 file p (R.recording held (length file - p) i)) a
+  pub continues : Continues p (length file) a

@@ -3,13 +3,12 @@ pub mod recording;
 
 ghost use mathlib.Core.Path.{_≡_};
 ghost use mathlib.Core.Option.{none};
-ghost use Prim.Native.Nat.{_-_, _≤_, _<_};
+ghost use Prim.Native.Nat.{_-_};
 ghost use lib.ListN.{length};
-ghost use Rattle.words.specs.Sizes.{Addressable};
-ghost use Rattle.walk.specs.See.{see, ends};
 ghost use Rattle.rules.specs.Rules as R;
-ghost use Rattle.records.specs.Says.{stepped, Beyond};
+ghost use Rattle.records.specs.Says.{Beyond, StepOver};
 ghost use Rattle.judge.specs.Judged.{refusalR, refusalJ, JudgedAs};
+ghost use Rattle.judge.specs.Recorded.{HeaderIn};
 use crate::recording::Recorded;
 use descriptions::Before;
 use header::Opened;
@@ -35,9 +34,9 @@ pub fn of_recording(a: Recorded) -> Refusal
 
 // So many recordings from byte 32 of the file on: where they end.
 fn recordings_from(o: Order, file: &[u8], count: u32) -> Step
-    requires { ⌜ (32 ≤ length (now file)) × Addressable (length (now file)) ⌝ }
-    ensures { λ a. ⌜ (ends (see o 0 (now (file .entry)) 32 (R.recordings count none (length (now (file .entry)) - 32) 1)) ≡ stepped 0 a) ×
-        Beyond 32 (length (now (file .entry))) a ⌝ }
+    requires { ⌜ HeaderIn (length (now file)) ⌝ }
+    ensures { λ a. ⌜ StepOver o 0 (now (file .entry)) 32
+        (R.recordings count none (length (now (file .entry)) - 32) 1) (Beyond 32 (length (now (file .entry)))) a ⌝ }
 {
     let mut p: usize = FileHeader::LENGTH;
     let mut i: u32 = 0;

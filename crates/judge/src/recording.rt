@@ -1,14 +1,9 @@
 // A recording: record 10 and what it holds.
 ghost use mathlib.Core.Path.{_≡_};
-ghost use mathlib.Core.List.{List};
-ghost use mathlib.Core.Option.{Option};
-ghost use Prim.Native.Nat.{ℕ, _+_, _-_, _≤_, _<_};
-ghost use lib.ListN.{length, take, drop};
+ghost use Prim.Native.Nat.{_+_};
+ghost use lib.ListN.{length};
 ghost use Rattle.words.specs.Sizes.{Addressable};
-ghost use Rattle.walk.specs.See.{see, goes};
-ghost use Rattle.rules.specs.Rules as R;
-ghost use Rattle.descriptions.specs.Tabled.{Within, HeldAs};
-ghost use Rattle.judge.specs.Recorded.{placesFor, recorded, Continues};
+ghost use Rattle.judge.specs.Recorded.{placesFor, RecordingIn, BodyIn, TablesIn, BodyJudged, RecordingAt, BodyAgain, RecordingAgain};
 use descriptions::Before;
 use descriptions::Places;
 use descriptions::Tabled;
@@ -16,12 +11,12 @@ use descriptions::Tables;
 use descriptions::channels_of;
 use descriptions::of_tables;
 use descriptions::read_tables;
-use records::Headed;
-use records::Step;
+use records::kinds::Opened;
+use records::kinds::of_open;
+use records::kinds::open;
 use rules::Frames;
 use rules::Head;
 use rules::Kind;
-use rules::Recording;
 use rules::Refusal;
 use signals::frames::Framed;
 use signals::of_frames;
@@ -37,7 +32,7 @@ pub enum Recorded {
 
 // The places of the recording at `at`, whose body has n bytes and these tables: its frames are so long, and of so many seconds.
 fn places_for(at: usize, n: usize, t: Tables, frame: usize, seconds: u32) -> Places
-    requires { ⌜ (t .next .at ≤ n) × Addressable (at + 16 + n) ⌝ }
+    requires { ⌜ TablesIn at n t ⌝ }
     ensures { λ r. ⌜ r ≡ placesFor at n t frame seconds ⌝ }
 {
     let base = at + Head::LENGTH;
@@ -67,12 +62,8 @@ fn recording_body(
     multiplier: u32,
     before: Before,
 ) -> Recorded
-    requires { ⌜ (now s ≡ take (length (now s)) (drop (at + 16) (now file))) × (at + 16 + length (now s) ≤ length (now file)) ×
-        Addressable (length (now file)) × Within (length (now file)) before ⌝ }
-    ensures { λ a. ⌜ ((held : Option R.Held) (h : R.Head) → HeldAs o (now (file .entry)) before held →
-        R.span h ≡ 16 + length (now (s .entry)) → h .multiplier ≡ multiplier →
-        recorded o (now (file .entry)) at before (see o (at + 16) (now (s .entry)) (at + 16) (R.recordingBody held h)) a) ×
-        Continues at (length (now (file .entry))) a ⌝ }
+    requires { ⌜ BodyIn (now file) (now s) at before ⌝ }
+    ensures { λ a. ⌜ BodyJudged o (now (file .entry)) (now (s .entry)) at multiplier before a ⌝ }
 {
     let base = at + Head::LENGTH;
     let tabled = read_tables(o, s, base, before);
@@ -91,21 +82,12 @@ fn recording_body(
 
 // The recording at byte p of the file, with the serial i.
 pub fn recording_at(o: Order, file: &[u8], p: usize, i: u32, before: Before) -> Recorded
-    requires { ⌜ (p ≤ length (now file)) × Addressable (length (now file)) × Within (length (now file)) before ⌝ }
-    ensures { λ a. ⌜ ((held : Option R.Held) → HeldAs o (now (file .entry)) before held →
-        recorded o (now (file .entry)) p before (see o 0 (now (file .entry)) p (R.recording held (length (now (file .entry)) - p) i)) a) ×
-        Continues p (length (now (file .entry))) a ⌝ }
+    requires { ⌜ RecordingIn (length (now file)) p before ⌝ }
+    ensures { λ a. ⌜ RecordingAt o (now (file .entry)) p i before a ⌝ }
 {
-    let found = records::head::head_at(o, file, 0, p);
-    let Headed::At(h) = found else {
-        return Recorded::Stop(records::of_head(found));
-    };
-    if h.code != Recording::CODE {
-        return Recorded::Stop(Refusal(9, p + Head::CODE));
-    }
-    let room = records::kinds::admit(h, 0, file.len(), Kind::Recording(i));
-    let Step::On(end) = room else {
-        return Recorded::Stop(records::of_step(room));
+    let opened = open(o, file, 0, p, Kind::Recording(i));
+    let Opened::On(h, end) = opened else {
+        return Recorded::Stop(of_open(opened));
     };
     recording_body(
         o,
@@ -120,11 +102,7 @@ pub fn recording_at(o: Order, file: &[u8], p: usize, i: u32, before: Before) -> 
 // The body of a recording that the judge accepted.
 fn body_again(o: Order, s: &[u8], at: usize, before: Before) -> Recorded
     requires { ⌜ Addressable (at + 16 + length (now s)) ⌝ }
-    ensures { λ a. ⌜ ((file : List ℕ) (held : Option R.Held) (h : R.Head) (x : R.Placed) (e : ℕ) →
-        now (s .entry) ≡ take (length (now (s .entry))) (drop (at + 16) file) → HeldAs o file before held →
-        R.span h ≡ 16 + length (now (s .entry)) → see o (at + 16) (now (s .entry)) (at + 16) (R.recordingBody held h) ≡ goes x e →
-        recorded o file at before (see o (at + 16) (now (s .entry)) (at + 16) (R.recordingBody held h)) a) × ((n : ℕ) →
-        at + 16 + length (now (s .entry)) ≤ n → Within n before → Continues at n a) ⌝ }
+    ensures { λ a. ⌜ BodyAgain o (now (s .entry)) at before a ⌝ }
 {
     let base = at + Head::LENGTH;
     let tabled = read_tables(o, s, base, before);
@@ -145,19 +123,12 @@ fn body_again(o: Order, s: &[u8], at: usize, before: Before) -> Recorded
 
 // Where a recording stands that the judge accepted: its tables are read again, its frames are not.
 pub fn recording_again(o: Order, file: &[u8], p: usize, before: Before) -> Recorded
-    requires { ⌜ (p ≤ length (now file)) × Addressable (length (now file)) × Within (length (now file)) before ⌝ }
-    ensures { λ a. ⌜ ((held : Option R.Held) (i : ℕ) (x : R.Placed) (e : ℕ) → HeldAs o (now (file .entry)) before held →
-        see o 0 (now (file .entry)) p (R.recording held (length (now (file .entry)) - p) i) ≡ goes x e →
-        recorded o (now (file .entry)) p before (see o 0 (now (file .entry)) p (R.recording held (length (now (file .entry)) - p) i)) a) ×
-        Continues p (length (now (file .entry))) a ⌝ }
+    requires { ⌜ RecordingIn (length (now file)) p before ⌝ }
+    ensures { λ a. ⌜ RecordingAgain o (now (file .entry)) p before a ⌝ }
 {
-    let found = records::head::head_at(o, file, 0, p);
-    let Headed::At(h) = found else {
-        return Recorded::Stop(records::of_head(found));
-    };
-    let room = records::kinds::admit(h, 0, file.len(), Kind::Any);
-    let Step::On(end) = room else {
-        return Recorded::Stop(records::of_step(room));
+    let opened = open(o, file, 0, p, Kind::Any);
+    let Opened::On(_, end) = opened else {
+        return Recorded::Stop(of_open(opened));
     };
     body_again(o, &file[p + Head::LENGTH..end], p, before)
 }

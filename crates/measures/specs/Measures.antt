@@ -15,7 +15,7 @@ use Rattle.walk.specs.See.{goes, see}
 use Rattle.rules.specs.Rules as R
 use Rattle.rules.specs.Canonical as C
 use Rattle.rules.specs.declared.Channels.{Channels}
-use Rattle.measures.specs.Standing.{ChannelsIn, ChannelsStand}
+use Rattle.records.specs.Says.{ChannelsIn, ChannelsStand}
 use Rattle.measures.specs.declared.Sized.{Sized}
 use Rattle.measures.specs.declared.Measure.{Measure}
 use Rattle.measures.specs.declared.Measured.{Measured}
@@ -117,7 +117,7 @@ pub record MeasureIn (o : Order) (b : ℕ) (s : List ℕ) (f : Measure) : Type 0
 
 -- a recording's body s stands at `base`, its 140 at byte `at` of it, and the records 125 that hold for it at cs in the file
 pub record Measurable (file s : List ℕ) (cs : Channels) (at base : ℕ) : Type 0 where
-  pub channels : ChannelsIn file cs
+  pub channels : ChannelsIn (length file) cs
   pub inside : at ≤ length s
   pub short : Addressable (base + length s)
 

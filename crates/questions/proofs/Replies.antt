@@ -60,7 +60,7 @@ channel-refused s i j h = rw h
 
 module _ {s : List ℕ} {i : ℕ} {o : Order} {q : Places} {r : Chosen} (h : FoundIn s i o q r) (j : ℕ) where
   pub channel-outside : R.between 1 (q .count) j ≡ false → refusal 19 0 ≡ channelOf s i j
-  channel-outside t = rw (h .is, numbered-out (r .this .recording .channels) j (rw (h .owned .0 .0) t))
+  channel-outside t = rw (h .is, numbered-out (r .this .recording .channels) j (rw (h .owned .stand .count) t))
 
   -- its record 125 stands where the code looks for it
   channel-seen : (c : R.Channel) → 1 ≤ j → One (r .this .recording .channels) (j - 1) c → (room : ℕ) × (end : ℕ) × (see o 0 s (at120 r + (32 + 256 * (j - 1))) (R.channel room j) ≡ goes c end)
@@ -75,7 +75,7 @@ module _ {s : List ℕ} {i : ℕ} {o : Order} {q : Places} {r : Chosen} (h : Fou
   pub channel-told : R.between 1 (q .count) j ≡ true → (d : Descriptor) →
       ((room n : ℕ) (c : R.Channel) (e : ℕ) → see o 0 s (q .channels + 32 + 256 * (j - 1)) (R.channel room n) ≡ goes c e → d ≡ descriptorOf c (q .channels + 32 + 256 * (j - 1))) → value d ≡ channelOf s i j
   channel-told t d told =
-      let y = numbered-some (r .this .recording .channels) j (rw (h .owned .0 .0) t) in
+      let y = numbered-some (r .this .recording .channels) j (rw (h .owned .stand .count) t) in
       let n = numbered-one (r .this .recording .channels) j (y .1) in
       let x = channel-seen (y .0) (n .0) (n .1) in
       let a : q .channels ≡ at120 r = ap (λ (p : Places). p .channels) (h .same) in

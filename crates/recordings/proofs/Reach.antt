@@ -20,20 +20,21 @@ use Rattle.rules.proofs.Canon.{RecordingsOk, readings, file-ok}
 use Rattle.rules.proofs.Holders.{channels-hold, patient-holds}
 use Rattle.rules.proofs.Renewed.{RecordingOk}
 use Rattle.rules.proofs.Turn.{accepted}
+use Rattle.records.specs.Says.{subsAt, ChannelsIn, ChannelsStand}
 use Rattle.records.proofs.Facts.{between-in}
-use Rattle.descriptions.specs.Tabled.{Room, channelsIn, patientIn}
+use Rattle.descriptions.specs.Tabled.{channelsIn, patientIn}
 use Rattle.descriptions.specs.Tabled as Tabled
 use Rattle.descriptions.specs.declared.Before.{Before}
 use Rattle.descriptions.specs.declared.Before.the-variants as Before
 use Rattle.descriptions.specs.declared.Held.{Held}
 use Rattle.descriptions.specs.declared.Places.{Places}
 use Rattle.judge.specs.Judged.{AcceptedAs}
-use Rattle.judge.specs.Recorded.{placesOf, Continues}
+use Rattle.judge.specs.Recorded.{placesOf, Continues, RecordingAgain}
 use Rattle.judge.specs.declared.recording.Recorded.{Recorded}
 use Rattle.judge.specs.declared.recording.Recorded.the-variants as Recorded
 use Rattle.judge.proofs.Accepted.{went}
 use Rattle.children.proofs.Recordings.{passed-next, Sofar, sofar-start}
-use Rattle.children.proofs.Again.{AgainAs, bounds, Knowing, Next, again-stop, again-next}
+use Rattle.children.proofs.Again.{Knowing, Next, again-stop, again-next}
 use Rattle.recordings.specs.Answers.{refusal}
 use Rattle.recordings.specs.Recordings.{Chosen, heldAt, at120, at130, recordingOf}
 use Rattle.recordings.specs.Found.{placesAt, Standing, Reached, FoundIn}
@@ -171,14 +172,14 @@ module _ (o : Order) (s : List ℕ) (ps : List R.Placed) (ok : RecordingsOk none
   next-places : (p : ℕ) → p ≡ 32 + bytesBefore i ps → placesOf p before x ≡ placesAt (chosen ps i x)
   next-places p e = rw (e, next-120, next-130)
 
-  next-standing : (p : ℕ) → p ≡ 32 + bytesBefore i ps → (q : Places) → q ≡ placesOf p before x → Tabled.Stand o s (q .channels) (q .count) (x .recording .channels) → Room (length s) (q .channels) (q .count) → Standing o s ps (i + 1) q
+  next-standing : (p : ℕ) → p ≡ 32 + bytesBefore i ps → (q : Places) → q ≡ placesOf p before x → ChannelsStand o s (subsAt (q .channels) (q .count)) (x .recording .channels) → ChannelsIn (length s) (subsAt (q .channels) (q .count)) → Standing o s ps (i + 1) q
   next-standing p e q h stand room =
       let d : i + 1 - 1 ≡ i = omega arith in
       record {
         this = x;
         is = numbered-in x ps (i + 1) (in-between 1 (length ps) (i + 1) (omega arith) (omega (arith, one .inside))) ∙ rw (d, one .is x);
         same = rw d (h ∙ next-places p e);
-        owned = (stand, room);
+        owned = record { stand = stand; room = room };
       }
 
 -- The answer of the code for recording i
@@ -195,7 +196,7 @@ module _ {o : Order} {s : List ℕ} {count : ℕ} {ps : List R.Placed} {p i : �
       let e : ps ≡ g .at .done ++ (x ∷ n .to .left) = n .to .all ∙ rw (n .more, append-assoc) in
       record { inside = omega (arith, ap length e, length-append (g .at .done) (x ∷ n .to .left), g .at .many); is = λ d. rw e (getD-at (g .at .done) x (n .to .left) d i (g .at .many)) }
 
-  came : RecordingsOk none (readings ps) → {q : Places} {x : R.Placed} → Room (length s) (q .channels) (q .count) → Next o s p i before (g .at .held) q x → Came o s ps (q .end) (i + 1) (Before.These q)
+  came : RecordingsOk none (readings ps) → {q : Places} {x : R.Placed} → ChannelsIn (length s) (subsAt (q .channels) (q .count)) → Next o s p i before (g .at .held) q x → Came o s ps (q .end) (i + 1) (Before.These q)
   came ok {q} {x} room n =
       let one = next-one (n .is) in
       record {
@@ -204,8 +205,8 @@ module _ {o : Order} {s : List ℕ} {count : ℕ} {ps : List R.Placed} {p i : �
       }
 
   -- by what `recording_again` says of it
-  pub met : RecordingsOk none (readings ps) → (a : Recorded) → AgainAs o s p before a → Met o s count ps (i + 1) a
-  met ok (Recorded.On q) k = again-next g l f (Recorded.On q) k refl (λ x n. came ok (bounds o s p before (Recorded.On q) k .2) n)
+  pub met : RecordingsOk none (readings ps) → (a : Recorded) → RecordingAgain o s p before a → Met o s count ps (i + 1) a
+  met ok (Recorded.On q) k = again-next g l f (Recorded.On q) k refl (λ x n. came ok (k .continues .channels) n)
   met ok (Recorded.Stop r) k = again-stop g l f (Recorded.Stop r) k refl
 
 pub met-reached : (o : Order) (s : List ℕ) (count : ℕ) (ps : List R.Placed) (n : ℕ) (a : Recorded) → Met o s count ps n a → Reached o s ps n a

@@ -20,9 +20,9 @@ join (stops n p) f f′ g k = refl
 join (goes x e) f f′ g k = k x e
 
 -- a record by its rule: opened, and then its body
-module _ {A : Type 0} (o : Order) (b : ℕ) (s : List ℕ) (r : R.Rule) (w : Walk A) (room : ℕ) where
+module _ {A : Type 0} (o : Order) (b : ℕ) (s : List ℕ) (r : R.Rule) (w : R.Head → Walk A) (room : ℕ) where
   abbrev on : R.Head → ℕ → Verdict A
-  on h e = see o b s e w
+  on h e = see o b s e (w h)
 
   after : {X : Type 0} (u : Walk X) (v : Walk A) (v′ : Walk R.Head) → ((x : ℕ) → see o b s x v ≡ onward (see o b s x v′) on) →
       (at : ℕ) → see o b s at (u >> v) ≡ onward (see o b s at (u >> v′)) on
@@ -30,19 +30,24 @@ module _ {A : Type 0} (o : Order) (b : ℕ) (s : List ℕ) (r : R.Rule) (w : Wal
       see-after o b s at u v ∙ (join (see o b s at u) (λ _ x. see o b s x v) (λ _ x. see o b s x v′) on (λ _ x. k x) ∙
       ap (λ (y : Verdict R.Head). onward y on) (sym (see-after o b s at u v′)))
 
-  given : (h : R.Head) (x : ℕ) → see o b s x w ≡ onward (see o b s x (give h)) on
+  given : (h : R.Head) (x : ℕ) → see o b s x (w h) ≡ onward (see o b s x (give h)) on
   unfolding see
   given h x = refl
 
-  pub fixed-opened : (at : ℕ) → see o b s at (fixed r w room) ≡ onward (see o b s at (opened r room)) (λ h e. see o b s e w)
-  unfolding fixed opened
-  fixed-opened at =
-      let k : R.Head → Walk A = λ h. R.codedBy r h >> (R.admitBy r room h >> w) in
+  pub body-opened : (at : ℕ) → see o b s at (R.head room >>= λ h. R.codedBy r h >> (R.admitBy r room h >> w h)) ≡ onward (see o b s at (opened r room)) (λ h e. see o b s e (w h))
+  unfolding opened
+  body-opened at =
+      let k : R.Head → Walk A = λ h. R.codedBy r h >> (R.admitBy r room h >> w h) in
       let k′ : R.Head → Walk R.Head = λ h. R.codedBy r h >> (R.admitBy r room h >> give h) in
       see-bind o b s at (R.head room) k ∙
       (join (see o b s at (R.head room)) (λ h e. see o b s e (k h)) (λ h e. see o b s e (k′ h)) on
-      (λ h e. after (R.codedBy r h) (R.admitBy r room h >> w) (R.admitBy r room h >> give h) (after (R.admitBy r room h) w (give h) (given h)) e) ∙
+      (λ h e. after (R.codedBy r h) (R.admitBy r room h >> w h) (R.admitBy r room h >> give h) (after (R.admitBy r room h) (w h) (give h) (given h)) e) ∙
       ap (λ (y : Verdict R.Head). onward y on) (sym (see-bind o b s at (R.head room) k′)))
+
+pub fixed-opened : {A : Type 0} (o : Order) (b : ℕ) (s : List ℕ) (r : R.Rule) (w : Walk A) (room at : ℕ) →
+    see o b s at (fixed r w room) ≡ onward (see o b s at (opened r room)) (λ h e. see o b s e w)
+unfolding fixed
+fixed-opened o b s r w room at = body-opened o b s r (λ _. w) room at
 
 frame-fixed : (size t : ℕ) (cs : List Channel) (room i : ℕ) → frame size t cs room i ≡ fixed (frameRule size (24 + sampleBytes t cs) i) (frameBody size t cs) room
 unfolding frame fixed
@@ -81,5 +86,5 @@ ended-advances p d n q Tested.Fine e h = (e, h)
 ended-advances p d n q (Tested.Stop r) e h = tt
 
 pub ended-beyond : (p n q : ℕ) (a : Tested) → p ≤ q → q ≤ n → Beyond p n (ended a q)
-ended-beyond p n q Tested.Fine e h = (e, h)
+ended-beyond p n q Tested.Fine e h = record { low = e; inside = h }
 ended-beyond p n q (Tested.Stop r) e h = tt

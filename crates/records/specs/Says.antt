@@ -1,5 +1,5 @@
 -- What the answers of the judge's functions say, as verdicts on the walks of the rules.
-use Prim.Native.Nat.{ℕ, _+_, _-_, _≤_, _<_}
+use Prim.Native.Nat.{ℕ, _+_, _*_, _-_, _≤_, _<_}
 use lib.ListN.{length}
 use mathlib.Core.Path.{_≡_}
 use mathlib.Core.Bool.{Bool, true, _&&_}
@@ -15,6 +15,7 @@ use Rattle.rules.specs.declared.Head.{Head}
 use Rattle.rules.specs.declared.Kind.{Kind}
 use Rattle.rules.specs.declared.Kind.the-variants as Kind
 use Rattle.rules.specs.declared.Basic.{Basic}
+use Rattle.rules.specs.declared.Channels.{Channels}
 use Rattle.records.specs.declared.Headed.{Headed}
 use Rattle.records.specs.declared.Headed.the-variants as Headed
 use Rattle.records.specs.declared.Step.{Step}
@@ -56,6 +57,24 @@ abbrev pub Kept : Order → List ℕ → ℕ → List R.Channel → Type 0
 Kept o s p [] = Unit {0}
 Kept o s p (c ∷ cs) = (c .flags ≡ numberAt o 4 s (p + 20)) × (c .format ≡ numberAt o 4 s (p + 28)) × (c .rate ≡ numberAt o 4 s (p + 32)) × Kept o s (p + 256) cs
 
+-- the records 125 of the 120 at this place, so many of them
+abbrev pub subsAt : ℕ → ℕ → Channels
+subsAt at count = record { subs = at + 32; count = count }
+
+-- a file of n bytes has room for the records 125 at cs
+pub record ChannelsIn (n : ℕ) (cs : Channels) : Type 0 where
+  -- they end inside it
+  pub inside : cs .subs + 256 * cs .count ≤ n
+  -- no recording has more
+  pub few : cs .count ≤ 128
+
+-- the channels ch stand in the file s, at cs
+pub record ChannelsStand (o : Order) (s : List ℕ) (cs : Channels) (ch : List R.Channel) : Type 0 where
+  -- as many as there are records 125
+  pub count : length ch ≡ cs .count
+  -- flags, format and rate of each
+  pub kept : Kept o s (cs .subs) ch
+
 -- a maker's own record, and what follows: the head of the next record, and the room that is left from its start
 pub record Headroom : Type 0 where
   pub head : R.Head
@@ -74,9 +93,13 @@ abbrev pub Placed : ℕ → ℕ → Headed → Type 0
 Placed p n (Headed.At h) = (h .at ≡ p) × (p + 16 ≤ n)
 Placed p n (Headed.Stop r) = Unit {0}
 
--- a head stands at or after this byte
+-- a head stands at or after byte p of a part of n bytes, and is inside it
+pub record HeadFrom (p n : ℕ) (h : Head) : Type 0 where
+  pub low : p ≤ h .at
+  pub inside : h .at + 16 ≤ n
+
 abbrev pub Found : ℕ → ℕ → Headed → Type 0
-Found p n (Headed.At h) = (p ≤ h .at) × (h .at + 16 ≤ n)
+Found p n (Headed.At h) = HeadFrom p n h
 Found p n (Headed.Stop r) = Unit {0}
 
 -- the rules on a code, on a length and on a serial, as the rules have them
@@ -130,8 +153,13 @@ abbrev pub stepped : ℕ → Step → Verdict (Unit {0})
 stepped base (Step.On q) = goes tt (base + q)
 stepped base (Step.Stop r) = halts r
 
+-- byte q is at or after byte p of a part of n bytes, and is inside it or its end
+pub record From (p n q : ℕ) : Type 0 where
+  pub low : p ≤ q
+  pub inside : q ≤ n
+
 abbrev pub Beyond : ℕ → ℕ → Step → Type 0
-Beyond p n (Step.On q) = (p ≤ q) × (q ≤ n)
+Beyond p n (Step.On q) = From p n q
 Beyond p n (Step.Stop r) = Unit {0}
 
 -- a step that goes on d bytes after p, in a part of n bytes

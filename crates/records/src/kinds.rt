@@ -196,7 +196,7 @@ fn code_fits(codes: Code, n: u32) -> bool
 }
 
 // The code is one of the kind's.
-fn has_code(kind: Kind, code: u32) -> bool
+pub fn has_code(kind: Kind, code: u32) -> bool
     ensures { λ r. ⌜ r ≡ ruleOf kind .code code ⌝ }
 {
     let rule = rule_of(kind);

@@ -26,7 +26,7 @@ use Rattle.rules.specs.declared.Channels.{Channels}
 use Rattle.rules.specs.declared.Head as At
 use Rattle.rules.proofs.Renew.{record-size}
 use Rattle.rules.proofs.Sized.{sized}
-use Rattle.records.specs.Says.{headOf}
+use Rattle.records.specs.Says.{headOf, ChannelsStand}
 use Rattle.records.proofs.Opened.{admit-went}
 use Rattle.children.specs.Children.{Said, said, Known, Heads, heading, Inner, is140, Links, more, last, RecordAt, NoRecord}
 use Rattle.children.proofs.Chained.{onto, Leads, next-leads, tables-leads}
@@ -35,7 +35,6 @@ use Rattle.bodies.specs.Copy.{Pastes}
 use Rattle.bodies.specs.declared.Way.{Way}
 use Rattle.transcripts.specs.Transcript.{anew}
 use Rattle.transcripts.proofs.Transcribing.{anew-then, Copying, copying-none, copying-more}
-use Rattle.measures.specs.Standing.{ChannelsStand}
 use Rattle.measures.specs.Measures.{MeasureOf, MeasureIn, signalsIn, behindHead}
 use Rattle.measures.specs.declared.Measure.{Measure}
 use Rattle.measures.specs.declared.Sized.{Sized}

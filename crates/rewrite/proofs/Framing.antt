@@ -24,7 +24,7 @@ use Rattle.rules.specs.Canonical.{blanks, zeroes, numerals, rowOf, plainHead, r
 use Rattle.rules.specs.Rules.{Head, head, span, admit, coded, between, padOk, padding, series, Basic, Channel, width, samplesIn, sampleBytes, numberList, samples, Frame, frameBody, frame, Frames, framesBody}
 use Rattle.rules.specs.declared.Channels.{Channels}
 use Rattle.rules.proofs.Room.{stays-frame}
-use Rattle.measures.specs.Standing.{ChannelsStand}
+use Rattle.records.specs.Says.{ChannelsStand}
 use Rattle.descriptions.proofs.Parts.{bind-goes}
 use Rattle.records.proofs.Opened.{admit-went, require-went, head-went}
 use Rattle.bodies.specs.Copy.{copy, filling}

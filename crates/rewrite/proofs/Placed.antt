@@ -18,7 +18,7 @@ use Rattle.rules.specs.Rules as R
 use Rattle.rules.specs.Canonical as C
 use Rattle.rules.proofs.Canon.{recording-size}
 use Rattle.rules.proofs.Renew.{record-size}
-use Rattle.measures.specs.Standing.{ChannelsStand}
+use Rattle.records.specs.Says.{subsAt}
 use Rattle.descriptions.specs.declared.Places.{Places}
 use Rattle.children.proofs.Recordings.{within}
 use Rattle.bodies.specs.Copy.{Pastes}
@@ -82,11 +82,10 @@ room-behind d k n f g = body-length k (k + n) d (omega arith) g ∙ omega arith
 module _ (w : Way) (file : List ℕ) (p i : ℕ) (q : Places) (f : Measure) where
   pub recording-written : (out ys zs : List ℕ) (k n m : ℕ) → n ≡ 16 → 16 + m ≡ f .whole .length → k ≤ length out → MeasuredAt (w .from) file p q (Measured.On f) →
       ys ≡ render (w .to) (C.numerals (record { size = f .whole .size; code = 10; serial = i; multiplier = f .whole .multiplier })) →
-      BodyAnew w file (bodyIn file p q) zs (record { subs = q .channels + 32; count = q .count }) f (p + 16) →
+      BodyAnew w file (bodyIn file p q) zs (subsAt (q .channels) (q .count)) f (p + 16) →
       w .keep ≡ false → (held : Option R.Held) (x : R.Placed) → AcceptedAt (w .from) file p i q held x →
       Pastes out (put (k + 16) m (put k n out ys) zs) k (k + f .whole .length) (render (w .to) (C.recordingEvents i (x .recording ∷ [])))
   recording-written out ys zs k n m e₁ e₂ l t first later clear held x y =
       let v = within (w .from) file p (q .end) held i (y .went) in
       let s = t .told held i x y in
-      let here : ChannelsStand (w .from) file (record { subs = q .channels + 32; count = q .count }) (x .recording .channels) = record { count = y .channels .0; kept = y .channels .1 } in
-      recording-placed (w .to) i (x .recording) (f .whole) (s .whole) out ys zs k n m e₁ e₂ l first (later x (record { clear = clear; head = v .top; held = held; end = q .end; fills = v .fills; went = v .body; channels = here; reads = t .reads; is = s }))
+      recording-placed (w .to) i (x .recording) (f .whole) (s .whole) out ys zs k n m e₁ e₂ l first (later x (record { clear = clear; head = v .top; held = held; end = q .end; fills = v .fills; went = v .body; channels = y .channels; reads = t .reads; is = s }))

@@ -11,7 +11,7 @@ use Rattle.walk.specs.See.{see, goes}
 use Rattle.rules.specs.Rules as R
 use Rattle.rules.specs.Canonical as C
 use Rattle.rules.specs.declared.Channels.{Channels}
-use Rattle.measures.specs.Standing.{ChannelsIn, ChannelsStand}
+use Rattle.records.specs.Says.{ChannelsIn, ChannelsStand}
 use Rattle.bodies.specs.Copy.{widthsIn, Pastes}
 use Rattle.bodies.specs.declared.Way.{Way}
 use Rattle.bodies.specs.declared.Widths.{Widths}
@@ -74,7 +74,7 @@ signalsEvents r = C.recordOf (C.framesHead (r .seconds) (r .channels) (r .frames
 
 -- it goes to byte k of the buffer
 pub record SignalsFit (file s out : List ℕ) (cs : Channels) (f : Measure) (k : ℕ) : Type 0 where
-  pub channels : ChannelsIn file cs
+  pub channels : ChannelsIn (length file) cs
   pub bounds : Bounds (length s) f
   pub target : k ≤ length out
 

@@ -16,9 +16,8 @@ use Rattle.rules.specs.Canonical as C
 use Rattle.rules.specs.declared.Channels.{Channels}
 use Rattle.rules.specs.declared.Head.{Head}
 use Rattle.rules.specs.declared.Heading.{Heading}
-use Rattle.measures.specs.Standing.{ChannelsIn}
+use Rattle.records.specs.Says.{subsAt, ChannelsIn, ChannelsStand}
 use Rattle.header.specs.Opened.{headingOf}
-use Rattle.descriptions.specs.Tabled.{Room, Stand}
 use Rattle.descriptions.specs.declared.Places.{Places}
 use Rattle.children.specs.Recordings.{ReadAs}
 use Rattle.bodies.specs.Copy.{Pastes}
@@ -39,12 +38,12 @@ pub record StandsIn (n p : ℕ) (q : Places) : Type 0 where
   pub start : p ≤ q .end
   pub end : q .end ≤ n
   pub short : Addressable n
-  pub room : Room n (q .channels) (q .count)
+  pub room : ChannelsIn n (subsAt (q .channels) (q .count))
 
 -- the walk accepts it as x, with the serial i, and its channels and its 140 stand at these places
 pub record AcceptedAt (o : Order) (file : List ℕ) (p i : ℕ) (q : Places) (held : Option R.Held) (x : R.Placed) : Type 0 where
   pub went : see o 0 file p (R.recording held (length file - p) i) ≡ goes x (q .end)
-  pub channels : Stand o file (q .channels) (q .count) (x .recording .channels)
+  pub channels : ChannelsStand o file (subsAt (q .channels) (q .count)) (x .recording .channels)
   pub frames : q .frames ≡ p + x .layout .at140
 
 -- what stands behind its head
@@ -61,7 +60,7 @@ pub record MeasuredAt (o : Order) (file : List ℕ) (p : ℕ) (q : Places) (a : 
 
 -- s is a recording's body, which stands at `base`, and d has room for the canonical form that its measure f says, and no more
 pub record BodyFits (file s d : List ℕ) (cs : Channels) (f : Measure) (base : ℕ) : Type 0 where
-  pub channels : ChannelsIn file cs
+  pub channels : ChannelsIn (length file) cs
   pub short : Addressable (base + length s)
   pub bounds : Bounds (length s) f
   pub room : 16 + length d ≡ f .whole .length

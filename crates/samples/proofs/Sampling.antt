@@ -68,7 +68,7 @@ samples-refused s i j k h = rw h
 
 module _ {s : List ℕ} {i j : ℕ} {o : Order} {q : Places} {at : ℕ} {f : ChosenFrame} (h : FrameIn s i j o q at f) (k : ℕ) where
   pub samples-outside : R.between 1 (q .count) k ≡ false → samplesOf s i j k ≡ refusal 19 0
-  samples-outside t = rw (h .is, numbered-out (f .of .this .recording .channels) k (rw (h .found .owned .0 .0) t))
+  samples-outside t = rw (h .is, numbered-out (f .of .this .recording .channels) k (rw (h .found .owned .stand .count) t))
 
   -- the frame is one of the recording's, and stands at its place
   stands : One (f .of .this .recording .frames) (j - 1) (f .frame) × (f .at ≡ frameAt (f .of) j)
@@ -105,7 +105,7 @@ module _ {s : List ℕ} {i j : ℕ} {o : Order} {q : Places} {at : ℕ} {f : Cho
   pub samples-found-at : R.between 1 (q .count) k ≡ true → (run : Run) → RunAt o s (q .channels + 32) (k - 1) (q .seconds) at run → SamplesFoundAs s i j k (SamplesFound.At o run)
   samples-found-at t run g =
       let cs : List R.Channel = f .of .this .recording .channels in
-      let y = numbered-some cs k (rw (h .found .owned .0 .0) t) in
+      let y = numbered-some cs k (rw (h .found .owned .stand .count) t) in
       let n = numbered-one cs k (y .1) .1 in
       let e : indexed cs (k - 1) ≡ value (y .0) = indexed-in (y .0) cs (k - 1) (n .inside) ∙ ap value (n .is (y .0)) in
-      (samplesAre f k (y .0), run-is (y .0) (y .1) run (g .inside) (g .same cs (y .0) (h .found .owned .0 .1) e (run-inside (q .seconds) (k - 1) at (length s) cs e (h .inside))))
+      (samplesAre f k (y .0), run-is (y .0) (y .1) run (g .inside) (g .same cs (y .0) (h .found .owned .stand .kept) e (run-inside (q .seconds) (k - 1) at (length s) cs e (h .inside))))

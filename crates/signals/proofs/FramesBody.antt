@@ -1,30 +1,27 @@
 -- What the body of record 140 comes to: the tests of its fields, and then the frames and the padding behind them. Assumes nothing.
-use mathlib.Core.Path.{_≡_, refl, sym, _∙_}
-use mathlib.Core.Bool.{Bool, true, false, _&&_, _||_}
+use mathlib.Core.Path.{_≡_, refl}
+use mathlib.Core.Bool.{Bool, true, _&&_}
 use mathlib.Core.List.{List}
 use Prim.Native.Nat.{ℕ, _+_, _*_, _-_, _≤_, _<_}
-use native.Mathlib.Nat.{mul-le-mul-right, add-assoc, sub-self, mul-comm}
+use native.Mathlib.Nat.{mul-le-mul-right, add-assoc, sub-self}
 use native.Mathlib.Omega.{arith}
 use borrow.Author.Tests.{leb-true, ltb-true, eqb-true}
 use lib.Dec.{leb, ltb, eqb}
-use lib.ListN.{length, take, drop}
+use lib.ListN.{length}
 use Rattle.words.specs.Numbers.{numberAt}
 use Rattle.words.specs.declared.Order.{Order}
-use Rattle.walk.specs.Walk.{Walk, _>>=_, _>>_}
-use Rattle.walk.specs.See.{Verdict, stops, goes, see, over, ends, onward, Goes, Yields}
-use Rattle.walk.proofs.Seen.{see-bind, see-after, see-give, see-check, gate-true, gate-false, over-stops, add-sub-add, back, and-left, and-right, stopped, went, see-body, body-length}
+use Rattle.walk.specs.Walk.{_>>=_, _>>_}
+use Rattle.walk.specs.See.{see, over, Yields}
+use Rattle.walk.proofs.Seen.{over-stops, add-sub-add, back, and-left, and-right}
 use Rattle.rules.specs.Rules as R
-use Rattle.rules.specs.Rules.{Basic, Channel, Head, Frame, between, limit, sampleBytes, series, frame, padding, span, admit, frames, framesBody}
-use Rattle.rules.specs.declared.Frames.{Frames}
+use Rattle.rules.specs.Rules.{Basic, Channel, Head, between, limit, sampleBytes, series, frame, padding, span, admit, frames, framesBody}
+use Rattle.rules.specs.declared.Channels.{Channels}
 use Rattle.rules.specs.declared.Refusal.{Refusal}
-use Rattle.rules.proofs.Room.{stays-framesBody}
-use Rattle.records.specs.Says.{halts, tested, resumed}
-use Rattle.records.specs.declared.Tested.{Tested}
-use Rattle.records.specs.declared.Tested.the-variants as Tested
+use Rattle.records.specs.Says.{halts}
 use Rattle.records.proofs.Facts.{between-in}
 use Rattle.descriptions.proofs.Stands.{yields-weaken, yields-past}
 use Rattle.signals.specs.Framed.{framesOf}
-use Rattle.signals.specs.Shaped.{fieldTests, behindFields, Shapes}
+use Rattle.signals.specs.Shaped.{fieldTests, behindFields, Shapes, ReadWith}
 use Rattle.signals.specs.declared.frames.Shape.{Shape}
 use Rattle.signals.specs.declared.frames.Shaped.the-variants as Shaped
 
@@ -74,71 +71,10 @@ module _ (o : Order) (at : ℕ) (s : List ℕ) (ch : List Channel) where
   frames-open b h = simp (add-assoc, add-sub-add, sub-self, back)
 
   -- the body of a 140 whose fields are tested
-  module _ (b : Basic) (h : Head) (total multiplier : ℕ) (is : b .frames ≡ total) (fills : span h ≡ 16 + length s) (times : h .multiplier ≡ multiplier) where
+  module _ {file : List ℕ} {cs : Channels} {total multiplier : ℕ} {b : Basic} {h : Head} (w : ReadWith o file cs s total multiplier b ch h) where
     pub body-stop : {r : Refusal} → Shapes o at s total multiplier ch (Shaped.Stop r) → over framesOf (see o (at + 16) s (at + 16) (framesBody b ch h)) ≡ halts r
-    body-stop x = rw (frames-open b h, is, fills, times, x .tests, over-stops)
+    body-stop x = rw (frames-open b h, w .frames, w .bytes, w .times, x .tests, over-stops)
 
     pub body-on : {f : Shape} → Shapes o at s total multiplier ch (Shaped.On f) →
         over framesOf (see o (at + 16) s (at + 16) (framesBody b ch h)) ≡ over framesOf (see o (at + 16) s (at + 32) (behindFields (f .seconds) (f .size) total (16 + length s) ch))
-    body-on x = rw (frames-open b h, is, fills, times, x .tests, ← x .fields .0, ← x .fields .1, ← x .fields .2)
-
-  -- the frames and the padding: the frames are from byte 16 of the body on
-  module _ (t size n : ℕ) where
-    rest-open : see o (at + 16) s (at + 32) (behindFields t size n (16 + length s) ch) ≡
-        onward (see o (at + 16) s (at + 16 + 16) (series n 1 size (length s - 16) (frame size t ch))) (λ fs e. onward (see o (at + 16) s e (padding (length s - (16 + size * n)))) (λ _ x. goes (record { seconds = t; frames = fs; size = size; padded = n * (size - (24 + sampleBytes t ch)) + (length s - (16 + size * n)) }) x))
-    unfolding behindFields
-    rest-open =
-        let r : 16 + length s - 32 ≡ length s - 16 = omega arith in
-        let u : 16 + length s - (32 + n * size) ≡ length s - (16 + size * n) = omega (arith, mul-comm n size) in
-        rw (r, u, ← add-assoc at 16 16) (simp (see-bind, see-after, see-give))
-
-    pub rest-stop : {m p : ℕ} → ends (see o (at + 16) s (at + 16 + 16) (series n 1 size (length s - 16) (frame size t ch))) ≡ stops m p →
-        over framesOf (see o (at + 16) s (at + 32) (behindFields t size n (16 + length s) ch)) ≡ stops m p
-    rest-stop k = rw (rest-open, stopped (λ _. tt) (see o (at + 16) s (at + 16 + 16) (series n 1 size (length s - 16) (frame size t ch))) k, over-stops)
-
-    ends-held : (held : Tested) (fs : List Frame) (x p : ℕ) → over framesOf (onward (tested held x) (λ _ y. goes (record { seconds = t; frames = fs; size = size; padded = p }) y)) ≡ resumed held (goes (record { seconds = t; size = size; padded = p }) x)
-    unfolding over
-    ends-held Tested.Fine fs x p = refl
-    ends-held (Tested.Stop r) fs x p = refl
-
-    -- filled: where a frame's samples end; q: the byte of the body behind the frames
-    pub rest-held : (filled q : ℕ) (held : Tested) → filled ≡ 24 + sampleBytes t ch → q ≡ 16 + size * n → ends (see o (at + 16) s (at + 16 + 16) (series n 1 size (length s - 16) (frame size t ch))) ≡ goes tt (at + 16 + q) →
-        see o (at + 16) s (at + 16 + q) (padding (length s - q)) ≡ tested held (at + 16 + length s) →
-        over framesOf (see o (at + 16) s (at + 32) (behindFields t size n (16 + length s) ch)) ≡ resumed held (goes (record { seconds = t; size = size; padded = n * (size - filled) + (length s - q) }) (at + (16 + length s)))
-    rest-held filled q held e d k p =
-        let w : Walk (List Frame) = series n 1 size (length s - 16) (frame size t ch) in
-        let g : Goes (see o (at + 16) s (at + 16 + 16) w) (λ _ x. (tt ≡ tt) × (x ≡ at + 16 + q)) = went (λ _. tt) (see o (at + 16) s (at + 16 + 16) w) k in
-        rw (rest-open, ← d, ← e, g .is, g .kept .1, p, ← add-assoc at 16 (length s)) (ends-held held (g .value) (at + 16 + length s) _)
-
--- the rest of a 140: its head is admitted, 100's count of channels is tested, and the body follows
-module _ (o : Order) (b : ℕ) (s : List ℕ) (at : ℕ) (rb : Basic) (own : Bool) (ch : List Channel) (back room : ℕ) (h : Head) where
-  pub frames-refused : {n p : ℕ} → see o b s at (admit room 128 (leb 32) (eqb 0) h) ≡ stops n p → over framesOf (see o b s at (frames rb own ch back room h)) ≡ stops n p
-  unfolding frames
-  frames-refused a = rw (see-after, a, over-stops)
-
-  module _ (a : see o b s at (admit room 128 (leb 32) (eqb 0) h) ≡ goes tt at) where
-    pub frames-uncounted : own || eqb (length ch) (rb .channels) ≡ false → over framesOf (see o b s at (frames rb own ch back room h)) ≡ stops 14 (at - back)
-    unfolding frames
-    frames-uncounted c = simp (see-after, a, see-check, c, gate-false, over-stops)
-
-    frames-on : own || eqb (length ch) (rb .channels) ≡ true → over framesOf (see o b s at (frames rb own ch back room h)) ≡ over framesOf (see o b s at (framesBody rb ch h))
-    unfolding frames
-    frames-on c = simp (see-after, a, see-check, see-give, c, gate-true)
-
--- the body of a 140 that ends at byte q of the part s, handed on as a part of its own
-module _ (p q : ℕ) (s : List ℕ) (h : Head) (ends-at : q ≡ p + span h) (least : 32 ≤ span h) (fits : q ≤ length s) where
-  pub body-fills : span h ≡ 16 + length (take (q - (p + 16)) (drop (p + 16) s))
-  body-fills = let l : q - p ≡ span h = omega arith in sym (body-length p q s (omega arith) fits ∙ l)
-
-  pub frames-held : (o : Order) (b : ℕ) (rb : Basic) (own : Bool) (ch : List Channel) (back room : ℕ) {v : Verdict Frames} → see o b s (b + (p + 16)) (admit room 128 (leb 32) (eqb 0) h) ≡ goes tt (b + (p + 16)) → own || eqb (length ch) (rb .channels) ≡ true →
-      over framesOf (see o (b + p + 16) (take (q - (p + 16)) (drop (p + 16) s)) (b + p + 16) (framesBody rb ch h)) ≡ v → over framesOf (see o b s (b + (p + 16)) (frames rb own ch back room h)) ≡ v
-  frames-held o b rb own ch back room a c g =
-      let z : b + p + 16 + (span h - 16) ≡ b + q = omega arith in
-      frames-on o b s (b + (p + 16)) rb own ch back room h a c ∙ rw (see-body o b p q s (framesBody rb ch h) (λ _ e. e ≡ b + q) (omega arith) fits (rw z at (stays-framesBody rb ch h (b + p + 16) least))) at g
-
--- the same place, said otherwise
-pub goes-at : {A : Type 0} {v : Verdict A} {a : A} {x y : ℕ} → v ≡ goes a x → x ≡ y → v ≡ goes a y
-goes-at g e = rw e at g
-
-pub stops-at : {A : Type 0} {v : Verdict A} {n x y : ℕ} → v ≡ stops n x → x ≡ y → v ≡ stops n y
-stops-at g e = rw e at g
+    body-on x = rw (frames-open b h, w .frames, w .bytes, w .times, x .tests, ← x .fields .seconds, ← x .fields .size, ← x .fields .count)

@@ -1,3 +1,4 @@
 pub mod Divided
 pub mod FramesBody
+pub mod Answers
 pub mod Signaled

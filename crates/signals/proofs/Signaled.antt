@@ -1,12 +1,11 @@
 -- What a recording's second half comes to, one step at a time.
 -- Assumes nothing.
-use mathlib.Core.Path.{_≡_, refl, ap, _∙_}
-use mathlib.Core.Bool.{Bool}
+use mathlib.Core.Path.{_≡_, refl, sym, ap, _∙_}
+use mathlib.Core.Bool.{Bool, true, false}
 use mathlib.Core.List.{List}
 use Prim.Native.Nat.{ℕ, _+_, _-_, _≤_}
 use native.Mathlib.Nat.{sub-zero}
 use native.Mathlib.Omega.{arith}
-use borrow.Author.Tests.{eq-eqb, ne-eqb}
 use lib.Dec.{leb, eqb}
 use lib.ListN.{length}
 use Rattle.words.specs.Numbers.{numberAt}
@@ -19,12 +18,17 @@ use Rattle.rules.specs.declared.Basic.{Basic}
 use Rattle.rules.specs.declared.Channels.{Channels}
 use Rattle.rules.specs.declared.Frames.{Frames}
 use Rattle.rules.specs.declared.Head.{Head}
+use Rattle.rules.specs.declared.Refusal.{Refusal}
 use Rattle.rules.proofs.Room.{stays-framesRest}
-use Rattle.records.specs.Says.{headOf, Headroom, headroom}
+use Rattle.records.specs.declared.Headed.the-variants as Headed
+use Rattle.records.specs.declared.Tested.{Tested}
+use Rattle.records.specs.declared.Tested.the-variants as Tested
+use Rattle.records.specs.Says.{halts, headOf, tested, Headroom, headroom, NextHead}
 use Rattle.rules.specs.Rules.{Descriptions, signals}
 use Rattle.descriptions.proofs.Stands.{yields-past}
-use Rattle.signals.specs.Framed.{framesOf}
-use Rattle.signals.specs.Signaled.{Known, Whole}
+use Rattle.signals.specs.Framed.{framesOf, SignalsIn, FramesAt}
+use Rattle.signals.specs.Signaled.{Known, Whole, WholeAt, SignalsOf, closingTests}
+use Rattle.signals.specs.declared.frames.Framed.the-variants as Framed
 use Rattle.signals.proofs.FramesBody.{yields-frames}
 
 -- what is given at the end
@@ -103,7 +107,10 @@ module _ (o : Order) (base : ℕ) (s : List ℕ) (t : Descriptions) (r : R.Head)
     pub same : v ≡ onward (see o base s (base + q) (R.delimiter h)) (λ _ e. see o base s e (closing r (16 + q) (length s - q) (f .padded) (placed t r value next)))
 
 module _ {o : Order} {file : List ℕ} {cs : Channels} {own : Bool} {b : Basic} {h : Head} {s : List ℕ} {m : ℕ} {t : Descriptions} {r : R.Head} (k : Known o file cs own b h s m t r) (base : ℕ) (fit : h .at + 16 ≤ length s) where
-  opened : see o base s (base + (h .at + 16)) (signals t r) ≡
+  abbrev halfway : Verdict R.Placed
+  halfway = see o base s (base + (h .at + 16)) (signals t r)
+
+  opened : halfway ≡
       gate (eqb (h .code) 140) (onward (see o base s (base + (h .at + 16)) (the140 t own (length s) h)) (λ f e.
       onward (see o base s e (R.next (16 + length s) (length s - h .at - R.span (headOf h)))) (λ n x. see o base s x (behind t r f n)))) 9 (base + (h .at + 4))
   opened =
@@ -111,57 +118,87 @@ module _ {o : Order} {file : List ℕ} {cs : Channels} {own : Bool} {b : Basic} 
       let e : base + (h .at + 16) - 12 ≡ base + (h .at + 4) = omega arith in
       simp (signals-split, see-bind, see-after, see-check, see-give, then-gate, k .own, k .head, k .room, k .bytes, d, e)
 
-  pub signals-other : (h .code ≡ 140 → ⊥) → see o base s (base + (h .at + 16)) (signals t r) ≡ stops 9 (base + (h .at + 4))
-  signals-other x = rw (opened, ne-eqb (h .code) 140 x, gate-false)
+  uncoded : eqb (h .code) 140 ≡ false → halfway ≡ stops 9 (base + (h .at + 4))
+  uncoded x = rw (opened, x, gate-false)
 
-  module _ (code : h .code ≡ 140) where
-    pub frames-stop : {n p : ℕ} → over framesOf (see o base s (base + (h .at + 16)) (the140 t own (length s) h)) ≡ stops n p → see o base s (base + (h .at + 16)) (signals t r) ≡ stops n p
-    frames-stop x = rw (opened, eq-eqb (h .code) 140 code, gate-true, stopped framesOf _ x)
+  module _ (code : eqb (h .code) 140 ≡ true) where
+    frames-stop : {x : Refusal} → FramesAt o file cs own b h base s (Framed.Stop x) → halfway ≡ halts x
+    frames-stop x = rw (opened, code, gate-true, stopped framesOf _ (x .seen (t .basic) (t .channels .value) (k .basic) (k .channels)))
 
-    pub frames-on : {f : Frames} {q : ℕ} → over framesOf (see o base s (base + (h .at + 16)) (the140 t own (length s) h)) ≡ goes f (base + q) → AfterFrames o base s t r (see o base s (base + (h .at + 16)) (signals t r)) f q
+    frames-on : {f : Frames} {q : ℕ} → FramesAt o file cs own b h base s (Framed.On f q) → AfterFrames o base s t r halfway f q
     frames-on {f} {q} x =
-        let g : Goes (see o base s (base + (h .at + 16)) (the140 t own (length s) h)) (λ a e. (framesOf a ≡ f) × (e ≡ base + q)) = went framesOf (see o base s (base + (h .at + 16)) (the140 t own (length s) h)) x in
+        let v : Verdict R.Frames = see o base s (base + (h .at + 16)) (the140 t own (length s) h) in
+        let g : Goes v (λ a e. (framesOf a ≡ f) × (e ≡ base + q)) = went framesOf v (x .seen (t .basic) (t .channels .value) (k .basic) (k .channels)) in
         go (g .value) (g .end) (g .is) (g .kept .0) (g .kept .1)
       where
-        go : (y : R.Frames) (e : ℕ) → see o base s (base + (h .at + 16)) (the140 t own (length s) h) ≡ goes y e → framesOf y ≡ f → e ≡ base + q → AfterFrames o base s t r (see o base s (base + (h .at + 16)) (signals t r)) f q
+        go : (y : R.Frames) (e : ℕ) → see o base s (base + (h .at + 16)) (the140 t own (length s) h) ≡ goes y e → framesOf y ≡ f → e ≡ base + q → AfterFrames o base s t r halfway f q
         go y e i j l =
             let z = stays-goes o base s (base + length s) (omega arith) (the140 t own (length s) h) (base + (h .at + 16)) _ (omega arith) (stays-framesRest (t .basic) own (t .channels .value) (h .at - 4) (length s - h .at) (headOf h) (base + length s) (base + (h .at + 16)) (omega arith)) i in
             let d : length s - h .at - R.span (headOf h) ≡ length s - q = omega (arith, z .2) in
-            record { value = y; kept = j; same = rw (opened, eq-eqb (h .code) 140 code, gate-true, i, l, d) }
+            record { value = y; kept = j; same = rw (opened, code, gate-true, i, l, d) }
 
 module _ {o : Order} {base : ℕ} {s : List ℕ} {t : Descriptions} {r : R.Head} {v : Verdict R.Placed} {f : Frames} where
-  pub found-stop : {q n p : ℕ} → AfterFrames o base s t r v f q → over headroom (see o base s (base + q) (R.next (16 + length s) (length s - q))) ≡ stops n p → v ≡ stops n p
-  found-stop {q} a x = a .same ∙ rw (stopped headroom (see o base s (base + q) (R.next (16 + length s) (length s - q))) x)
+  found-stop : {q : ℕ} {x : Refusal} → AfterFrames o base s t r v f q → NextHead o base s q (Headed.Stop x) → v ≡ halts x
+  found-stop {q} a n = a .same ∙ rw (stopped headroom (see o base s (base + q) (R.next (16 + length s) (length s - q))) (n .seen (16 + length s) (omega arith)))
 
-  pub found-on : {q : ℕ} {h : R.Head} (p : ℕ) → R.span r ≡ 16 + length s → p + 16 ≤ length s → AfterFrames o base s t r v f q →
-      over headroom (see o base s (base + q) (R.next (16 + length s) (length s - q))) ≡ goes (record { head = h; room = length s - p }) (base + (p + 16)) → AfterHead o base s t r v f h (p + 16)
+  found-on : {q : ℕ} {d : Head} → R.span r ≡ 16 + length s → AfterFrames o base s t r v f q → NextHead o base s q (Headed.At d) → AfterHead o base s t r v f (headOf d) (d .at + 16)
   unfolding behind
-  found-on {q} {h} p n l a x =
-      let g : Goes (see o base s (base + q) (R.next (16 + length s) (length s - q))) (λ y e. (headroom y ≡ record { head = h; room = length s - p }) × (e ≡ base + (p + 16))) = went headroom (see o base s (base + q) (R.next (16 + length s) (length s - q))) x in
-      go (g .value) (g .end) (g .is) (ap (λ (y : Headroom). y .head) (g .kept .0)) (ap (λ (y : Headroom). y .room) (g .kept .0)) (g .kept .1)
+  found-on {q} {d} n a x =
+      let w : Verdict R.Next = see o base s (base + q) (R.next (16 + length s) (length s - q)) in
+      let g : Goes w (λ y e. (headroom y ≡ record { head = headOf d; room = length s - d .at }) × (e ≡ base + (d .at + 16))) = went headroom w (x .seen (16 + length s) (omega arith)) in
+      go (g .value) (g .end) (g .is) (ap (λ (y : Headroom). y .head) (g .kept .0)) (ap (λ (y : Headroom). y .room) (g .kept .0)) (g .kept .1) (x .stands .inside)
     where
-      go : (y : R.Next) (e : ℕ) → see o base s (base + q) (R.next (16 + length s) (length s - q)) ≡ goes y e → y .head ≡ h → y .room ≡ length s - p → e ≡ base + (p + 16) → AfterHead o base s t r v f h (p + 16)
-      go y e i j u w =
-          let c : length s - p - 16 ≡ length s - (p + 16) = omega arith in
-          let d : 16 + length s - (length s - (p + 16)) ≡ 16 + (p + 16) = omega arith in
-          record { value = a .value; kept = a .kept; next = y; same = a .same ∙ rw (i, w, see-after, j, u, n, c, d, ap (λ (z : Frames). z .padded) (a .kept)) }
+      go : (y : R.Next) (e : ℕ) → see o base s (base + q) (R.next (16 + length s) (length s - q)) ≡ goes y e → y .head ≡ headOf d → y .room ≡ length s - d .at → e ≡ base + (d .at + 16) → d .at + 16 ≤ length s → AfterHead o base s t r v f (headOf d) (d .at + 16)
+      go y e i j u w l =
+          let c : length s - d .at - 16 ≡ length s - (d .at + 16) = omega arith in
+          let z : 16 + length s - (length s - (d .at + 16)) ≡ 16 + (d .at + 16) = omega arith in
+          record { value = a .value; kept = a .kept; next = y; same = a .same ∙ rw (i, w, see-after, j, u, n, c, z, ap (λ (z : Frames). z .padded) (a .kept)) }
 
-  pub delimiter-stop : {h : R.Head} {q n p : ℕ} → AfterHead o base s t r v f h q → see o base s (base + q) (R.delimiter h) ≡ stops n p → v ≡ stops n p
+  delimiter-stop : {h : R.Head} {q n p : ℕ} → AfterHead o base s t r v f h q → see o base s (base + q) (R.delimiter h) ≡ stops n p → v ≡ stops n p
   delimiter-stop a x = a .same ∙ rw x
 
   -- behind the delimiter: the tests and the padding, which the code knows as x
-  module _ {h : R.Head} {q : ℕ} {m : ℕ} {x : Verdict (Unit {0})} (a : AfterHead o base s t r v f h q) (multiplier : r .multiplier ≡ m) (delimited : see o base s (base + q) (R.delimiter h) ≡ goes tt (base + q)) (from : 16 ≤ base)
-      (is : gate (leb (16 + q - f .padded) R.contentLimit) (gate (R.padded m (length s - q)) (see o base s (base + q) (R.padding (length s - q))) 10 (base + q)) 14 (base - 16) ≡ x) where
+  module _ {h : R.Head} {q m : ℕ} {x : Verdict (Unit {0})} (a : AfterHead o base s t r v f h q) (multiplier : r .multiplier ≡ m) (delimited : see o base s (base + q) (R.delimiter h) ≡ goes tt (base + q)) (from : 16 ≤ base)
+      (is : closingTests o base s q (f .padded) m ≡ x) where
     closed-as : v ≡ onward x (λ _ e. goes (placed t r (a .value) (a .next)) e)
     closed-as =
         let d : base + q - (16 + q) ≡ base - 16 = omega arith in
         a .same ∙ rw (delimited, closed-open, multiplier, d, is)
 
-    pub closed-stop : {n p : ℕ} → x ≡ stops n p → v ≡ stops n p
+    closed-stop : {n p : ℕ} → x ≡ stops n p → v ≡ stops n p
     closed-stop e = closed-as ∙ rw e
 
-    pub closed-on : {p : ℕ} → x ≡ goes tt p → Goes v (λ y e. (e ≡ p) × Whole t r f y)
+    closed-on : {p : ℕ} → x ≡ goes tt p → Goes v (WholeAt p t r f)
     closed-on {p} e =
         let i : a .value .size ≡ f .size = ap (λ (u : Frames). u .size) (a .kept) in
         let j : a .value .seconds ≡ f .seconds = ap (λ (u : Frames). u .seconds) (a .kept) in
-        record { value = placed t r (a .value) (a .next); end = p; is = closed-as ∙ rw e; kept = (refl, whole t r (a .value) (a .next) f i j) }
+        record { value = placed t r (a .value) (a .next); end = p; is = closed-as ∙ rw e; kept = record { ends = refl; whole = whole t r (a .value) (a .next) f i j } }
+
+-- what `signals` answers at each return, from what the functions that it calls say
+module _ (o : Order) (file : List ℕ) (cs : Channels) (own : Bool) (b : Basic) (h : Head) (base : ℕ) (s : List ℕ) (m : ℕ) (i : SignalsIn file cs b h base s) where
+  pub other-code : eqb (h .code) 140 ≡ false → (p : ℕ) → p ≡ base + (h .at + 4) → SignalsOf o file cs own b h base s m (Framed.Stop (record { 0 = 9; 1 = p }))
+  other-code c p e t r k = uncoded k base (i .head .inside) c ∙ ap (λ (x : ℕ). stops 9 x) (sym e)
+
+  module _ (code : eqb (h .code) 140 ≡ true) where
+    pub stops-frames : {x : Refusal} → FramesAt o file cs own b h base s (Framed.Stop x) → SignalsOf o file cs own b h base s m (Framed.Stop x)
+    stops-frames a t r k = frames-stop k base (i .head .inside) code a
+
+    module _ {f : Frames} {q : ℕ} (a : FramesAt o file cs own b h base s (Framed.On f q)) where
+      pub stops-next : {x : Refusal} → NextHead o base s q (Headed.Stop x) → SignalsOf o file cs own b h base s m (Framed.Stop x)
+      stops-next n t r k = found-stop (frames-on k base (i .head .inside) code a) n
+
+      module _ {d : Head} (n : NextHead o base s q (Headed.At d)) where
+        behind-head : {t : Descriptions} {r : R.Head} (k : Known o file cs own b h s m t r) → AfterHead o base s t r (see o base s (base + (h .at + 16)) (signals t r)) f (headOf d) (d .at + 16)
+        behind-head k = found-on (k .bytes) (frames-on k base (i .head .inside) code a) n
+
+        -- last: what is said of the delimiter; rest: of what follows it
+        module _ {last : Tested} (l : see o base s (base + (d .at + 16)) (R.delimiter (headOf d)) ≡ tested last (base + (d .at + 16))) where
+          pub stops-delimiter : {x : Refusal} → last ≡ Tested.Stop x → SignalsOf o file cs own b h base s m (Framed.Stop x)
+          stops-delimiter e t r k = delimiter-stop (behind-head k) (rw e at l)
+
+          module _ (fine : last ≡ Tested.Fine) {rest : Tested} (z : closingTests o base s (d .at + 16) (f .padded) m ≡ tested rest (base + length s)) where
+            pub stops-closing : {x : Refusal} → rest ≡ Tested.Stop x → SignalsOf o file cs own b h base s m (Framed.Stop x)
+            stops-closing e t r k = closed-stop (behind-head k) (k .multiplier) (rw fine at l) (i .body .headed) (rw e at z) refl
+
+            pub holds : rest ≡ Tested.Fine → SignalsOf o file cs own b h base s m (Framed.On f q)
+            holds e t r k = closed-on (behind-head k) (k .multiplier) (rw fine at l) (i .body .headed) (rw e at z) refl

@@ -1,9 +1,19 @@
 -- What the answer of `frames_at` says, as a verdict on the walk of record 140.
-use Prim.Native.Nat.{ℕ, _+_, _≤_}
-use Rattle.walk.specs.See.{Verdict, goes}
+-- Assumes nothing.
+use mathlib.Core.Path.{_≡_}
+use mathlib.Core.Bool.{Bool}
+use mathlib.Core.List.{List}
+use Prim.Native.Nat.{ℕ, _+_, _-_, _≤_}
+use lib.ListN.{length}
+use Rattle.words.specs.declared.Order.{Order}
+use Rattle.walk.specs.See.{Verdict, goes, see, over}
 use Rattle.rules.specs.Rules as R
+use Rattle.rules.specs.declared.Basic.{Basic}
+use Rattle.rules.specs.declared.Channels.{Channels}
 use Rattle.rules.specs.declared.Frames.{Frames}
-use Rattle.records.specs.Says.{halts}
+use Rattle.rules.specs.declared.Head.{Head}
+use Rattle.records.specs.Says.{halts, headOf, basicOf, HeadFrom, From, ChannelsIn, ChannelsStand}
+use Rattle.descriptions.specs.Tabled.{BodyAt}
 use Rattle.signals.specs.declared.frames.Framed.{Framed}
 use Rattle.signals.specs.declared.frames.Framed.the-variants as Framed
 
@@ -16,7 +26,21 @@ abbrev pub framed : ℕ → Framed → Verdict Frames
 framed base (Framed.On f q) = goes f (base + q)
 framed base (Framed.Stop r) = halts r
 
--- where it stops is behind byte p, in a part of n bytes
-abbrev pub Reaches : ℕ → ℕ → Framed → Type 0
-Reaches p n (Framed.On f q) = (p ≤ q) × (q ≤ n)
-Reaches p n (Framed.Stop r) = Unit {0}
+-- where it stops is at or behind byte p, in a part of n bytes
+abbrev pub StopsFrom : ℕ → ℕ → Framed → Type 0
+StopsFrom p n (Framed.On f q) = From p n q
+StopsFrom p n (Framed.Stop r) = Unit {0}
+
+-- a recording's body s, which stands at `base`, up to the head h where its 140 should stand; b is its 100, and cs are the channels that hold
+pub record SignalsIn (file : List ℕ) (cs : Channels) (b : Basic) (h : Head) (base : ℕ) (s : List ℕ) : Type 0 where
+  pub body : BodyAt base s
+  -- the head is behind the 100
+  pub head : HeadFrom 128 (length s) h
+  pub few : b .frames ≤ 1000000
+  pub channels : ChannelsIn (length file) cs
+
+-- the rest of the 140 whose head is h, for the 100 and the channels of which the code keeps b and cs
+pub record FramesAt (o : Order) (file : List ℕ) (cs : Channels) (own : Bool) (b : Basic) (h : Head) (base : ℕ) (s : List ℕ) (a : Framed) : Type 0 where
+  pub seen : (c : R.Basic) (ch : List R.Channel) → basicOf c ≡ b → ChannelsStand o file cs ch →
+      over framesOf (see o base s (base + (h .at + 16)) (R.frames c own ch (h .at - 4) (length s - h .at) (headOf h))) ≡ framed base a
+  pub stands : StopsFrom (h .at + 32) (length s) a

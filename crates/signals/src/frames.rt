@@ -2,15 +2,13 @@
 ghost use mathlib.Core.Path.{_≡_};
 ghost use mathlib.Core.Bool.{_&&_, _||_};
 ghost use mathlib.Core.List.{List};
-ghost use Prim.Native.Nat.{_+_, _-_, _*_, _≤_, _<_};
+ghost use Prim.Native.Nat.{_+_, _-_, _*_, _≤_};
 ghost use lib.ListN.{length};
 ghost use lib.Dec.{leb, ltb, eqb};
-ghost use Rattle.words.specs.Sizes.{Addressable};
-ghost use Rattle.walk.specs.See.{see, over};
 ghost use Rattle.rules.specs.Rules as R;
-ghost use Rattle.records.specs.Says.{Kept, headOf};
-ghost use Rattle.signals.specs.Framed.{framesOf, framed, Reaches};
-ghost use Rattle.signals.specs.Shaped.{refusalS, behindFields, Shapes, Sized, Sizes, Fills};
+ghost use Rattle.records.specs.Says.{ChannelsStand};
+ghost use Rattle.signals.specs.Framed.{SignalsIn, FramesAt};
+ghost use Rattle.signals.specs.Shaped.{refusalS, Countable, FieldsAsked, RestAsked, FieldsTested, RestRead, BodyRead};
 use records::Step;
 use records::Tested;
 use records::field;
@@ -65,16 +63,17 @@ fn divides(t: u32, flags: u32, rate: u32) -> bool
     t as u64 * Channel::MICROSECONDS % rate as u64 == 0
 }
 
-// Each of the m channels whose records 125 stand from byte `subs` of s on has a whole number of samples in t seconds.
-fn all_divide(o: Order, s: &[u8], subs: usize, m: u32, t: u32) -> bool
-    requires { ⌜ subs + 256 * m ≤ length (now s) ⌝ }
-    ensures { λ r. ⌜ ((cs : List R.Channel) → length cs ≡ m → Kept o (now (s .entry)) subs cs → r ≡ R.all (R.divides t) cs) ⌝ }
+// Each of the channels whose records 125 stand at cs has a whole number of samples in t seconds.
+fn all_divide(o: Order, file: &[u8], cs: Channels, t: u32) -> bool
+    requires { ⌜ cs .subs + 256 * cs .count ≤ length (now file) ⌝ }
+    ensures { λ r. ⌜ ((ch : List R.Channel) → ChannelsStand o (now (file .entry)) cs ch → r ≡ R.all (R.divides t) ch) ⌝ }
 {
-    let mut p = subs;
+    let m = cs.count;
+    let mut p = cs.subs;
     let mut i: u32 = 0;
     while i < m {
-        let flags = number4(o, s, p + Channel::FLAGS);
-        let rate = number4(o, s, p + Channel::RATE);
+        let flags = number4(o, file, p + Channel::FLAGS);
+        let rate = number4(o, file, p + Channel::RATE);
         if !divides(t, flags, rate) {
             return false;
         }
@@ -103,7 +102,7 @@ fn size_ok(bytes: usize, size: usize) -> bool
 
 // So many frames fit a 140 of n bytes, and the padding behind them its multiplier.
 fn room_ok(total: u32, size: usize, n: usize, multiplier: u32) -> bool
-    requires { ⌜ (total ≤ 1000000) × (size < 2147483648) ⌝ }
+    requires { ⌜ Countable total size ⌝ }
     ensures { λ r. ⌜ r ≡ (leb (32 + total * size) n && R.padded multiplier (n - (32 + total * size))) ⌝ }
 {
     let used = Frames::FIRST + total as usize * size;
@@ -123,10 +122,8 @@ fn read_shape(
     total: u32,
     multiplier: u32,
 ) -> Shaped
-    requires { ⌜ (16 ≤ length (now s)) × Addressable (at + 16 + length (now s)) × (total ≤ 1000000) × (cs .count ≤ 128) ×
-        (cs .subs + 256 * cs .count ≤ length (now file)) ⌝ }
-    ensures { λ a. ⌜ ((ch : List R.Channel) → length ch ≡ cs .count → Kept o (now (file .entry)) (cs .subs) ch →
-        Shapes o at (now (s .entry)) total multiplier ch a) × Sizes a ⌝ }
+    requires { ⌜ FieldsAsked (now file) cs at (now s) total ⌝ }
+    ensures { λ a. ⌜ FieldsTested o (now (file .entry)) cs at (now (s .entry)) total multiplier a ⌝ }
 {
     let t = field(o, s, Frames::SECONDS);
     let size = field(o, s, Frames::FRAME_LENGTH) as usize;
@@ -134,7 +131,7 @@ fn read_shape(
     if !records::between(1, Frames::MOST_SECONDS, t) {
         return Shaped::Stop(Refusal(13, at + Frames::SECONDS));
     }
-    if !all_divide(o, file, cs.subs, cs.count, t) {
+    if !all_divide(o, file, cs, t) {
         return Shaped::Stop(Refusal(14, at + Frames::SECONDS));
     }
     let bytes = records::channels::sample_bytes(o, file, cs.subs, cs.count, t);
@@ -156,11 +153,8 @@ fn read_shape(
 
 // The frames of the record 140 at `at`, and the padding behind them.
 fn frames_rest(o: Order, s: &[u8], at: usize, total: u32, f: Shape) -> Framed
-    requires { ⌜ (16 ≤ length (now s)) × Addressable (at + 16 + length (now s)) × (total ≤ 1000000) × Sized f ⌝ }
-    ensures { λ a. ⌜ ((ch : List R.Channel) → f .filled ≡ 24 + R.sampleBytes (f .seconds) ch →
-        over framesOf (see o (at + 16) (now (s .entry)) (at + 32) (behindFields (f .seconds) (f .size) total (16 + length (now (s .entry))) ch))
-        ≡ framed at a) ×
-        Fills (16 + length (now (s .entry))) a ⌝ }
+    requires { ⌜ RestAsked at (now s) total f ⌝ }
+    ensures { λ a. ⌜ RestRead o at (now (s .entry)) total f a ⌝ }
 {
     let size = f.size;
     let filled = f.filled;
@@ -202,12 +196,8 @@ fn frames_body(
     total: u32,
     multiplier: u32,
 ) -> Framed
-    requires { ⌜ (16 ≤ length (now s)) × Addressable (at + 16 + length (now s)) × (total ≤ 1000000) × (cs .count ≤ 128) ×
-        (cs .subs + 256 * cs .count ≤ length (now file)) ⌝ }
-    ensures { λ a. ⌜ ((rb : R.Basic) (ch : List R.Channel) (hd : R.Head) → rb .frames ≡ total → length ch ≡ cs .count →
-        Kept o (now (file .entry)) (cs .subs) ch → R.span hd ≡ 16 + length (now (s .entry)) → hd .multiplier ≡ multiplier →
-        over framesOf (see o (at + 16) (now (s .entry)) (at + 16) (R.framesBody rb ch hd)) ≡ framed at a) ×
-        Fills (16 + length (now (s .entry))) a ⌝ }
+    requires { ⌜ FieldsAsked (now file) cs at (now s) total ⌝ }
+    ensures { λ a. ⌜ BodyRead o (now (file .entry)) cs at (now (s .entry)) total multiplier a ⌝ }
 {
     let shaped = read_shape(o, file, cs, s, at, total, multiplier);
     let Shaped::On(f) = shaped else {
@@ -237,13 +227,8 @@ pub fn frames_at(
     base: usize,
     h: Head,
 ) -> Framed
-    requires { ⌜ (128 ≤ h .at) × (h .at + 16 ≤ length (now s)) × Addressable (base + length (now s)) × (b .frames ≤ 1000000) ×
-        (cs .count ≤ 128) × (cs .subs + 256 * cs .count ≤ length (now file)) ⌝ }
-    ensures { λ a. ⌜ ((rb : R.Basic) (ch : List R.Channel) → rb .channels ≡ b .channels → rb .frames ≡ b .frames → length ch ≡ cs .count →
-        Kept o (now (file .entry)) (cs .subs) ch →
-        over framesOf (see o base (now (s .entry)) (base + (h .at + 16)) (R.frames rb own ch (h .at - 4) (length (now (s .entry)) - h .at) (headOf h)))
-        ≡ framed base a) ×
-        Reaches (h .at + 32) (length (now (s .entry))) a ⌝ }
+    requires { ⌜ SignalsIn (now file) cs b h base (now s) ⌝ }
+    ensures { λ a. ⌜ FramesAt o (now (file .entry)) cs own b h base (now (s .entry)) a ⌝ }
 {
     let room = records::kinds::admit(h, base, s.len(), Kind::Frames);
     let Step::On(end) = room else {

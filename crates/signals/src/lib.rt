@@ -2,23 +2,20 @@
 pub mod frames;
 
 ghost use mathlib.Core.Path.{_≡_};
-ghost use Prim.Native.Nat.{_+_, _-_, _*_, _≤_, _<_};
-ghost use lib.Dec.{leb};
+ghost use Prim.Native.Nat.{_+_};
 ghost use lib.ListN.{length};
-ghost use Rattle.words.specs.Sizes.{Addressable};
 ghost use Rattle.words.specs.declared.Order.{Order};
-ghost use Rattle.walk.specs.See.{gate, see};
-ghost use Rattle.rules.specs.Rules as R;
 ghost use Rattle.records.specs.Says.{tested};
-ghost use Rattle.rules.specs.Rules.{Descriptions, signals};
-ghost use Rattle.signals.specs.Signaled.{refusalF, Known, Signaled};
+ghost use Rattle.signals.specs.Framed.{SignalsIn};
+ghost use Rattle.signals.specs.Signaled.{refusalF, SignalsOf, ClosedIn, closingTests};
 use crate::frames::Framed;
 use records::Headed;
 use records::Tested;
+use records::kinds::has_code;
 use rules::Basic;
 use rules::Channels;
-use rules::Frames;
 use rules::Head;
+use rules::Kind;
 use rules::Recording;
 use rules::Refusal;
 use words::Order;
@@ -34,12 +31,8 @@ pub fn of_frames(a: Framed) -> Refusal
 
 // What follows the delimiter, which stops at byte `end`: the content's limit, and the padding.
 fn closed(s: &[u8], base: usize, end: usize, padded: usize, multiplier: u32) -> Tested
-    requires { ⌜ (end ≤ length (now s)) × (16 ≤ base) × Addressable (base + length (now s)) ⌝ }
-    ensures { λ a. ⌜ ((o : Order) →
-        gate (leb (16 + end - padded) R.contentLimit)
-        (gate (R.padded multiplier (length (now (s .entry)) - end))
-        (see o base (now (s .entry)) (base + end) (R.padding (length (now (s .entry)) - end))) 10 (base + end))
-        14 (base - 16) ≡ tested a (base + length (now (s .entry)))) ⌝ }
+    requires { ⌜ ClosedIn base (now s) end ⌝ }
+    ensures { λ a. ⌜ ((o : Order) → closingTests o base (now (s .entry)) end padded multiplier ≡ tested a (base + length (now (s .entry)))) ⌝ }
 {
     if Recording::CONTENT_LIMIT < records::less(Head::LENGTH + end, padded) {
         return Tested::Stop(Refusal(14, base - Head::LENGTH));
@@ -62,12 +55,10 @@ pub fn signals(
     base: usize,
     multiplier: u32,
 ) -> Framed
-    requires { ⌜ (128 ≤ h .at) × (h .at + 16 ≤ length (now s)) × (16 ≤ base) × Addressable (base + length (now s)) ×
-        (b .frames ≤ 1000000) × (cs .count ≤ 128) × (cs .subs + 256 * cs .count ≤ length (now file)) ⌝ }
-    ensures { λ a. ⌜ ((t : Descriptions) (r : R.Head) → Known o (now (file .entry)) cs own b h (now (s .entry)) multiplier t r →
-        Signaled (see o base (now (s .entry)) (base + (h .at + 16)) (signals t r)) (base + length (now (s .entry))) t r a) ⌝ }
+    requires { ⌜ SignalsIn (now file) cs b h base (now s) ⌝ }
+    ensures { λ a. ⌜ SignalsOf o (now (file .entry)) cs own b h base (now (s .entry)) multiplier a ⌝ }
 {
-    if h.code != Frames::CODE {
+    if !has_code(Kind::Frames, h.code) {
         return Framed::Stop(Refusal(9, base + h.at + Head::CODE));
     }
     let held = crate::frames::frames_at(o, file, cs, own, b, s, base, h);

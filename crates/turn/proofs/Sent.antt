@@ -26,11 +26,10 @@ use Rattle.rules.specs.Rules.{head, coded, admit, span, recordingBody, recordin
 use Rattle.rules.specs.declared.Channels.{Channels}
 use Rattle.rules.specs.declared.Head.{Head}
 use Rattle.rules.proofs.Room.{stays-recordingBody, stays-recording, stays-recordings}
-use Rattle.records.specs.Says.{headOf}
+use Rattle.records.specs.Says.{headOf, subsAt, ChannelsStand}
 use Rattle.children.specs.Children.{Said, said, Known, knownOf, Inner, Chain, RecordAt, NoRecord, _then_}
 use Rattle.children.proofs.Chained.{body-chain}
 use Rattle.children.proofs.Visiting.{chain-parted, chain-closed}
-use Rattle.descriptions.specs.Tabled.{Stand}
 use Rattle.children.specs.Recordings.{allOf, ReadAs}
 use Rattle.children.proofs.Saying.{nothing}
 use Rattle.descriptions.specs.declared.Before.{Before}
@@ -43,7 +42,7 @@ use Rattle.bodies.specs.declared.Way.{Way}
 use Rattle.bodies.proofs.Copying.{copy-bind, copy-admit, copy-part, length-copy, holds-join, pastes-join, pastes-nothing}
 use Rattle.transcripts.specs.Transcript.{anew, Copied, Transcribed}
 use Rattle.transcripts.proofs.Transcribing.{inner-140, anew-then, Copying, copying-none, copying-more, closed-bytes}
-use Rattle.turn.specs.Turn.{Subs, FramesSent, ChildSent, LastSent}
+use Rattle.turn.specs.Turn.{FramesSent, ChildSent, LastSent}
 use Rattle.turn.proofs.Turning.{filled-first, read-part, copy-require}
 
 -- a record of a recording: its 140, or any other
@@ -98,8 +97,8 @@ module _ (w : Way) (s : List ℕ) (p q : ℕ) where
   -- the code wrote its head, and its body as a part of the file
   pub recording-copied : (at count : ℕ) (out out₁ out₂ : List ℕ) (k : ℕ) → length s ≤ length out →
       ((b room : ℕ) → Pastes out out₁ p k (copy w b s (b + p) (head room))) →
-      ((held : Option R.Held) (h : R.Head) (x : R.Placed) (e : ℕ) → span h ≡ 16 + length within → Subs (w .from) s (record { subs = at + 32; count = count }) (x .recording .channels) → see (w .from) (p + 16) within (p + 16) (recordingBody held h) ≡ goes x e → Holds out₁ out₂ k (copy w (p + 16) within (p + 16) (recordingBody held h))) →
-      (held : Option R.Held) (i : ℕ) (x : R.Placed) → see (w .from) 0 s p (recording held (length s - p) i) ≡ goes x q → Stand (w .from) s at count (x .recording .channels) → out₂ ≡ pasted out p (copy w 0 s p (recording held (length s - p) i))
+      ((held : Option R.Held) (h : R.Head) (x : R.Placed) (e : ℕ) → span h ≡ 16 + length within → ChannelsStand (w .from) s (subsAt at count) (x .recording .channels) → see (w .from) (p + 16) within (p + 16) (recordingBody held h) ≡ goes x e → Holds out₁ out₂ k (copy w (p + 16) within (p + 16) (recordingBody held h))) →
+      (held : Option R.Held) (i : ℕ) (x : R.Placed) → see (w .from) 0 s p (recording held (length s - p) i) ≡ goes x q → ChannelsStand (w .from) s (subsAt at count) (x .recording .channels) → out₂ ≡ pasted out p (copy w 0 s p (recording held (length s - p) i))
   recording-copied at count out out₁ out₂ k fit first later held i x g stand =
       let v = begun (w .from) s p held i g in
       let u : Walk R.Placed = recordingBody held (v .opens .top) in
@@ -109,7 +108,7 @@ module _ (w : Way) (s : List ℕ) (p q : ℕ) where
       let stays = rw z at (stays-recordingBody held (v .opens .top) (p + 16) (v .least)) in
       let f : p + 16 + (q - (p + 16)) ≤ length s = omega (arith, v .ends, v .least, v .inside) in
       let same : copy w (p + 16) within (p + 16) u ≡ copy w 0 s (p + 16) u = copy-part w 0 (p + 16) (p + 16) (q - (p + 16)) s (omega arith) f u (p + 16) _ (omega arith) stays (v .opens .given .rest) in
-      let body = later held (v .opens .top) x q (omega (arith, l, v .ends)) (record { many = stand .0; kept = stand .1 }) (see-part (w .from) 0 (p + 16) (p + 16) (q - (p + 16)) s (omega arith) f u (p + 16) _ (omega arith) stays ∙ v .opens .given .rest) in
+      let body = later held (v .opens .top) x q (omega (arith, l, v .ends)) stand (see-part (w .from) 0 (p + 16) (p + 16) (q - (p + 16)) s (omega arith) f u (p + 16) _ (omega arith) stays ∙ v .opens .given .rest) in
       let n = length-copy w 0 s (p + (length s - p)) (omega (arith, v .ends, v .inside)) (recording held (length s - p) i) p _ (omega arith) (stays-recording held i p (length s - p)) g in
       let m : p + length (xs ++ copy w (p + 16) within (p + 16) u) ≤ length out = subst (λ (y : List ℕ). p + length y ≤ length out) (begun-bytes w s p held i v ∙ ap (λ (y : List ℕ). xs ++ y) (sym same)) (omega (arith, n, v .inside)) in
       holds-join out out₁ out₂ p k k xs (copy w (p + 16) within (p + 16) u) (rw zero-add at (first 0 (length s - p))) body m ∙ ap (pasted out p) (ap (λ (y : List ℕ). xs ++ y) same ∙ sym (begun-bytes w s p held i v))
@@ -139,7 +138,7 @@ module _ (w : Way) where
   module _ {s : List ℕ} {p : ℕ} where
     -- one recording more: the code has its places q, and wrote it where it stands in the file
     pub sent-next : {i : ℕ} {before : Before} {held : Option R.Held} {q : Places} {x : R.Placed} → p ≤ length s → Next (w .from) s p i before held q x → {out₀ out : List ℕ} (l : Said) (out′ : List ℕ) →
-        ((held : Option R.Held) (j : ℕ) (y : R.Placed) → see (w .from) 0 s p (recording held (length s - p) j) ≡ goes y (q .end) → Stand (w .from) s (q .channels) (q .count) (y .recording .channels) → out′ ≡ pasted out p (copy w 0 s p (recording held (length s - p) j))) →
+        ((held : Option R.Held) (j : ℕ) (y : R.Placed) → see (w .from) 0 s p (recording held (length s - p) j) ≡ goes y (q .end) → ChannelsStand (w .from) s (subsAt (q .channels) (q .count)) (y .recording .channels) → out′ ≡ pasted out p (copy w 0 s p (recording held (length s - p) j))) →
         AfterHeader out₀ out p (sentOf l) → AfterHeader out₀ out′ (q .end) (sentOf (l then said (w .from) 0 s p (recording held (length s - p) (i + 1))))
     unfolding said _then_
     sent-next {i} {held = held} {q} {x} fit n l out′ copied h =

@@ -24,7 +24,7 @@ use Rattle.walk.proofs.Went.{gate-went, went-first, goes-same}
 use Rattle.rules.specs.Rules.{Head, head, coded, admit, span, padding, series, Basic, Channel, sampleBytes, numberList, samples, Frame, frame, frameBody, Frames, frames, framesBody, padOk}
 use Rattle.rules.specs.declared.Channels.{Channels}
 use Rattle.rules.proofs.Room.{stays-series, stays-frame, stays-frameBody, stays-framesBody}
-use Rattle.records.specs.Says.{Kept}
+use Rattle.records.specs.Says.{ChannelsStand}
 use Rattle.records.proofs.Facts.{between-in, both-false}
 use Rattle.records.proofs.Steps.{ends-samples}
 use Rattle.children.specs.Children.{Said, Reads}
@@ -376,12 +376,12 @@ module _ (w : Way) (file : List ℕ) (at : Channels) (s : List ℕ) (p q : ℕ) 
   frames-short fit short = record { inside = fit; wrote = λ b c own cs back h l stop subs r. absurd (omega (arith, short, frames-least w b s p q h stop least inside c own cs back r)) }
 
   pub frames-sent : (out₁ out₂ : List ℕ) (k₁ k₂ : ℕ) → ((b room : ℕ) → Pastes out out₁ k k₁ (copy w b s (b + p) (head room))) → k₂ ≤ length out →
-      ((b : ℕ) (c : Basic) (cs : List Channel) (h : Head) (f : Frames) (e : ℕ) → length cs ≡ at .count → Kept (w .from) file (at .subs) cs → span h ≡ 16 + length (take (q - (p + 16)) (drop (p + 16) s)) →
+      ((b : ℕ) (c : Basic) (cs : List Channel) (h : Head) (f : Frames) (e : ℕ) → ChannelsStand (w .from) file at cs → span h ≡ 16 + length (take (q - (p + 16)) (drop (p + 16) s)) →
       see (w .from) b (take (q - (p + 16)) (drop (p + 16) s)) b (framesBody c cs h) ≡ goes f e → Pastes out₁ out₂ k₁ k₂ (copy w b (take (q - (p + 16)) (drop (p + 16) s)) b (framesBody c cs h))) → FramesSent w file at s p q out out₂ k k₂
   frames-sent out₁ out₂ k₁ k₂ headed fit body =
       record {
         inside = fit;
         wrote = λ b c own cs back h l stop subs r.
             let t = frames-in w b s p q h stop least inside c own cs back r in
-            rw (t .2) (pastes-join out out₁ out₂ k k₁ k₂ _ _ (headed b (length s - p)) (body (b + p + 16) c cs h (r .value) (r .end) (subs .many) (subs .kept) (t .0) (t .1)));
+            rw (t .2) (pastes-join out out₁ out₂ k k₁ k₂ _ _ (headed b (length s - p)) (body (b + p + 16) c cs h (r .value) (r .end) subs (t .0) (t .1)));
       }

@@ -1,14 +1,14 @@
 // Record 140 and its frames, turned into a part of the same length.
 ghost use mathlib.Core.Path.{_≡_};
 ghost use mathlib.Core.List.{List};
-ghost use Prim.Native.Nat.{ℕ, _+_, _-_, _*_, _≤_, _<_};
+ghost use Prim.Native.Nat.{ℕ, _+_, _*_, _≤_};
 ghost use lib.ListN.{length};
 ghost use Rattle.words.specs.Numbers.{numberAt};
 ghost use Rattle.walk.specs.See.{see, goes};
 ghost use Rattle.rules.specs.Rules as R;
-ghost use Rattle.records.specs.Says.{Kept};
-ghost use Rattle.bodies.specs.Copy.{widthsIn, copy, Pastes};
-ghost use Rattle.turn.specs.Turn.{FramesSent};
+ghost use Rattle.records.specs.Says.{ChannelsStand};
+ghost use Rattle.bodies.specs.Copy.{widthsIn, copy};
+ghost use Rattle.turn.specs.Turn.{FramesFrom, FramesPasted, ChildFrom, FramesSent};
 use bodies::Way;
 use bodies::Widths;
 use bodies::fits;
@@ -36,7 +36,7 @@ fn frame(
 )
     requires { ⌜ (cs .subs + 256 * cs .count ≤ length (now file)) × (t ≤ 3600) × (24 ≤ filled) × (filled ≤ length (now s)) ×
         (length (now d) ≡ length (now s)) × (widths ≡ widthsIn (w .from) (now file) (cs .subs) (cs .count)) ⌝ }
-    ensures { λ _. ⌜ ((b room i : ℕ) (ch : List R.Channel) → length ch ≡ cs .count → Kept (w .from) (now (file .entry)) (cs .subs) ch →
+    ensures { λ _. ⌜ ((b room i : ℕ) (ch : List R.Channel) → ChannelsStand (w .from) (now (file .entry)) cs ch →
         filled ≡ 24 + R.sampleBytes t ch → now (d .exit) ≡ copy w b (now (s .entry)) b (R.frame (length (now (s .entry))) t ch room i)) ⌝ }
 {
     let body = Head::LENGTH;
@@ -67,8 +67,8 @@ fn frames_body(
 )
     requires { ⌜ (cs .subs + 256 * cs .count ≤ length (now file)) × (t ≤ 3600) × (24 ≤ filled) × (filled ≤ size) ×
         (16 + size * count ≤ length (now s)) × (length (now d) ≡ length (now s)) ⌝ }
-    ensures { λ _. ⌜ ((b : ℕ) (c : R.Basic) (ch : List R.Channel) (hd : R.Head) (f : R.Frames) (e : ℕ) → length ch ≡ cs .count →
-        Kept (w .from) (now (file .entry)) (cs .subs) ch → filled ≡ 24 + R.sampleBytes t ch →
+    ensures { λ _. ⌜ ((b : ℕ) (c : R.Basic) (ch : List R.Channel) (hd : R.Head) (f : R.Frames) (e : ℕ) →
+        ChannelsStand (w .from) (now (file .entry)) cs ch → filled ≡ 24 + R.sampleBytes t ch →
         numberAt (w .from) 4 (now (s .entry)) 0 ≡ t → numberAt (w .from) 4 (now (s .entry)) 4 ≡ size →
         numberAt (w .from) 4 (now (s .entry)) 8 ≡ count → R.span hd ≡ 16 + length (now (s .entry)) →
         see (w .from) b (now (s .entry)) b (R.framesBody c ch hd) ≡ goes f e →
@@ -109,11 +109,8 @@ fn frames_body(
 
 // The body s of a 140, with the records 125 that hold for it, if there is room for it.
 fn body_if_room(w: Way, file: &[u8], cs: Channels, s: &[u8], out: &mut [u8], k: usize) -> usize
-    requires { ⌜ (cs .subs + 256 * cs .count ≤ length (now file)) × (cs .count ≤ 128) × (16 ≤ length (now s)) × (k ≤ length (now out)) ⌝ }
-    ensures { λ r. ⌜ (r ≤ length (now (out .entry))) × ((b : ℕ) (c : R.Basic) (ch : List R.Channel) (hd : R.Head) (f : R.Frames) (e : ℕ) →
-        length ch ≡ cs .count → Kept (w .from) (now (file .entry)) (cs .subs) ch → R.span hd ≡ 16 + length (now (s .entry)) →
-        see (w .from) b (now (s .entry)) b (R.framesBody c ch hd) ≡ goes f e →
-        Pastes (now (out .entry)) (now (out .exit)) k r (copy w b (now (s .entry)) b (R.framesBody c ch hd))) ⌝ }
+    requires { ⌜ FramesFrom (now file) cs (now s) (now out) k ⌝ }
+    ensures { λ r. ⌜ FramesPasted w (now (file .entry)) cs (now (s .entry)) (now (out .entry)) (now (out .exit)) k r ⌝ }
 {
     let o = w.from;
     let t = records::field(o, s, Frames::SECONDS);
@@ -146,8 +143,7 @@ pub fn frames(
     out: &mut [u8],
     k: usize,
 ) -> usize
-    requires { ⌜ (cs .subs + 256 * cs .count ≤ length (now file)) × (cs .count ≤ 128) ×
-        (p + 16 ≤ end) × (end ≤ length (now s)) × (k ≤ length (now out)) ⌝ }
+    requires { ⌜ ChildFrom (now file) cs (now s) p end (now out) k ⌝ }
     ensures { λ r. ⌜ FramesSent w (now (file .entry)) cs (now (s .entry)) p end (now (out .entry)) (now (out .exit)) k r ⌝ }
 {
     if end - p < Frames::LEAST {

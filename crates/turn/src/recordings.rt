@@ -2,16 +2,16 @@
 ghost use mathlib.Core.Path.{_≡_};
 ghost use mathlib.Core.List.{List, _++_};
 ghost use mathlib.Core.Option.{Option, none};
-ghost use Prim.Native.Nat.{ℕ, _+_, _-_, _*_, _≤_, _<_};
+ghost use Prim.Native.Nat.{ℕ, _-_, _≤_};
 ghost use lib.ListN.{length};
 ghost use Rattle.words.specs.Sizes.{Addressable};
 ghost use Rattle.words.specs.Numbers as N;
 ghost use Rattle.words.specs.Runs.{pasted};
 ghost use Rattle.walk.specs.See.{see, goes};
 ghost use Rattle.rules.specs.Rules as R;
-ghost use Rattle.descriptions.specs.Tabled.{Room, Stand};
+ghost use Rattle.records.specs.Says.{subsAt, ChannelsIn, ChannelsStand};
 ghost use Rattle.bodies.specs.Copy.{copy};
-ghost use Rattle.turn.specs.Turn.{turning, ChildSent, LastSent, BodySent};
+ghost use Rattle.turn.specs.Turn.{turning, ChildFrom, BodyFrom, ChildSent, LastSent, BodySent};
 use bodies::Way;
 use bodies::runs::letter;
 use bulk::copy_run;
@@ -59,8 +59,7 @@ fn child(
     out: &mut [u8],
     k: usize,
 ) -> usize
-    requires { ⌜ (cs .subs + 256 * cs .count ≤ length (now file)) × (cs .count ≤ 128) ×
-        (h .at + 16 ≤ end) × (end ≤ length (now s)) × (k ≤ length (now out)) ⌝ }
+    requires { ⌜ ChildFrom (now file) cs (now s) (h .at) end (now out) k ⌝ }
     ensures { λ r. ⌜ ChildSent w (now (file .entry)) cs (now (s .entry)) h end (now (out .entry)) (now (out .exit)) k r ⌝ }
 {
     if h.code == Frames::CODE {
@@ -84,8 +83,7 @@ fn last(w: Way, s: &[u8], p: usize, out: &mut [u8], k: usize)
 
 // A recording's body, which stands at `base`, with the records 125 that hold for it.
 fn body(w: Way, file: &[u8], cs: Channels, s: &[u8], base: usize, out: &mut [u8], k: usize)
-    requires { ⌜ (cs .subs + 256 * cs .count ≤ length (now file)) × (cs .count ≤ 128) ×
-        Addressable (base + length (now s)) × (k ≤ length (now out)) ⌝ }
+    requires { ⌜ BodyFrom (now file) cs (now s) base (now out) k ⌝ }
     ensures { λ _. ⌜ BodySent w (now (file .entry)) cs (now (s .entry)) base (now (out .entry)) (now (out .exit)) k ⌝ }
 {
     let o = w.from;
@@ -105,10 +103,10 @@ fn body(w: Way, file: &[u8], cs: Channels, s: &[u8], base: usize, out: &mut [u8]
 // The recording from byte p of the file on, which has these places.
 fn recording(w: Way, file: &[u8], p: usize, q: Places, out: &mut [u8])
     requires { ⌜ (p ≤ q .end) × (q .end ≤ length (now file)) × Addressable (length (now file)) × (length (now file) ≤ length (now out)) ×
-        Room (length (now file)) (q .channels) (q .count) ⌝ }
+        ChannelsIn (length (now file)) (subsAt (q .channels) (q .count)) ⌝ }
     ensures { λ _. ⌜ ((held : Option R.Held) (i : ℕ) (x : R.Placed) →
         see (w .from) 0 (now (file .entry)) p (R.recording held (length (now (file .entry)) - p) i) ≡ goes x (q .end) →
-        Stand (w .from) (now (file .entry)) (q .channels) (q .count) (x .recording .channels) →
+        ChannelsStand (w .from) (now (file .entry)) (subsAt (q .channels) (q .count)) (x .recording .channels) →
         now (out .exit) ≡ pasted (now (out .entry)) p (copy w 0 (now (file .entry)) p (R.recording held (length (now (file .entry)) - p) i))) ⌝ }
 {
     let base = p + Head::LENGTH;

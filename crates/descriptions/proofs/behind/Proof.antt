@@ -17,15 +17,19 @@ of-head-requires : tie.Need-of-head-requires
 of-head-requires c κs = search needs
 
 returns : tie.Need-returns
-returns c = simp (c .of-head .ensures, c .before .enum-told .given .1) (rw (c .before .enum-told .given .1) at (c .before .before .before .next-head .ensures .seen), tt)
+returns c =
+    simp (c .of-head .ensures, c .before .enum-told .given .1)
+    (record { seen = rw (c .before .enum-told .given .1) at (c .before .before .before .next-head .ensures .seen); stands = tt })
 
 add-t9 : tie.Need-add-t9
 add-t9 c = search needs
 
 returns-2 : tie.Need-returns-2
 returns-2 c =
-    let w = rw (c .before .found .given .1) at (c .before .before .before .next-head .ensures .stands) in
-    (rw (c .before .found .given .1) at (c .before .before .before .next-head .ensures .seen), (refl, refl, w .0, w .1))
+    record {
+      seen = rw (c .before .found .given .1) at (c .before .before .before .next-head .ensures .seen);
+      stands = record { own = refl; place = refl; next = rw (c .before .found .given .1) at (c .before .before .before .next-head .ensures .stands) };
+    }
 
 pub behind-spec : {M : Type 1} → statement M
 behind-spec =

@@ -1,7 +1,9 @@
--- `descriptions::channels_part` meets its contract.
+-- `descriptions::channels_part` meets its contract: another code, a 120 that is refused, or the head behind one that passed.
+-- x: behind the test of the code; y: behind the 120. Assumes nothing.
+use mathlib.Core.Path.{sym, _∙_}
 use Prim.Native.Nat.{_+_}
 use native.Mathlib.Omega.{arith}
-use borrow.Author.Tests.{eq-eqb, ne-eqb}
+use borrow.Author.Tests.{not-true, not-false}
 use denote.Ref.{now}
 use lib.ListN.{length}
 use Rattle.rules.specs.Rules as R
@@ -13,66 +15,62 @@ use borrow.Author.Needs.{needs}
 use Rattle.descriptions.proofs.channels_part.Statement.{statement}
 use Rattle.descriptions.proofs.channels_part.Tie as tie
 
-absent-requires : tie.Need-absent-requires
-absent-requires c κs = search needs
+abbrev start : tie.After-has-code → tie.Start
+start x = x .before .before
 
 returns : tie.Need-returns
 returns c =
-    let o = c .before .before .before .before .args .o in
-    let s = now (c .before .before .before .before .args .s) in
-    let base = c .before .before .before .before .args .base in
-    let h = c .before .before .before .before .args .h in
-    let held = c .before .before .before .before .args .held in
-    let m = c .before .before .before .before .args .channels in
-    rw (c .absent .ensures) ((λ x e. judges-absent o base s 120 (R.channels x) (Owned o s (h .at) m) h held (ne-eqb _ _ (c .before .if1 .taken))), follows-lacking base (length s) h held (c .before .before .before .before .pre .0))
-
-channels-at-requires : tie.Need-channels-at-requires
-channels-at-requires c κs = search needs
-
-enum-known-step : tie.Need-enum-known-step
-enum-known-step c = search needs
-
-enum-told : tie.Need-enum-told
-enum-told c = search needs
-
-of-step-requires : tie.Need-of-step-requires
-of-step-requires c κs = search needs
+    let x : tie.After-has-code = c .before .before in
+    let a = start x .args in
+    let other = sym (x .has-code .ensures) ∙ not-true (x .has-code .result) (c .before .if1 .taken) in
+    rw (c .absent .ensures) (record {
+      told = λ b e. judges-absent (a .o) (a .base) (now (a .s)) 120 (R.channels b) (Owned (a .o) (now (a .s)) (a .h .at) (a .channels)) (a .h) (a .held) other;
+      follows = follows-lacking (a .base) (length (now (a .s))) (a .h) (a .held) (start x .pre .inside);
+    })
 
 returns-2 : tie.Need-returns-2
 returns-2 c =
-    let o = c .before .before .before .before .before .before .before .args .o in
-    let s = now (c .before .before .before .before .before .before .before .args .s) in
-    let base = c .before .before .before .before .before .before .before .args .base in
-    let h = c .before .before .before .before .before .before .before .args .h in
-    let held = c .before .before .before .before .before .before .before .args .held in
-    let m = c .before .before .before .before .before .before .before .args .channels in
-    simp (c .of-step .ensures, c .before .enum-told .given .1) ((λ x e. judges-stop o base s 120 (R.channels x) (Owned o s (h .at) m) h held (eq-eqb _ _ (c .before .before .before .before .if1 .left)) _ (rw (c .before .enum-told .given .1) at (c .before .before .before .channels-at .ensures .seen x e))), tt)
+    let y : tie.After-channels-at = c .before .before .before in
+    let x : tie.After-has-code = y .before .before in
+    let a = start x .args in
+    let same = sym (x .has-code .ensures) ∙ not-false (x .has-code .result) (y .before .if1 .left) in
+    simp (c .of-step .ensures, c .before .enum-told .given .1) (record {
+      told = λ b e. judges-stop (a .o) (a .base) (now (a .s)) 120 (R.channels b) (Owned (a .o) (now (a .s)) (a .h .at) (a .channels)) (a .h) (a .held) same _ (rw (c .before .enum-told .given .1) at (y .channels-at .ensures .seen b e));
+      follows = tt;
+    })
 
 behind-requires : tie.Need-behind-requires
-behind-requires c κs = let w = rw (c .before .step .given .1) at (c .before .before .before .channels-at .ensures .stands) in omega arith
+behind-requires c κs =
+    let w = rw (c .before .step .given .1) at (c .before .before .before .channels-at .ensures .stands) in
+    record { start = omega arith; inside = w .inside; short = search needs }
 
 returns-3 : tie.Need-returns-3
 returns-3 c =
-    let o = c .before .before .before .before .before .before .before .before .args .o in
-    let s = now (c .before .before .before .before .before .before .before .before .args .s) in
-    let base = c .before .before .before .before .before .before .before .before .args .base in
-    let h = c .before .before .before .before .before .before .before .before .args .h in
-    let held = c .before .before .before .before .before .before .before .before .args .held in
-    let m = c .before .before .before .before .before .before .before .before .args .channels in
-    let q = c .before .before .step .given .0 .0 in
-    let w = rw (c .before .before .step .given .1) at (c .before .before .before .before .channels-at .ensures .stands) in
-    ((λ x e. judges-behind o base s 120 (R.channels x) (Owned o s (h .at) m) h held (eq-eqb _ _ (c .before .before .before .before .before .if1 .left)) (stays-channelsRest x) q (c .before .before .before .before .before .before .before .before .pre .0) (w .1) (rw (c .before .before .step .given .1) at (c .before .before .before .before .channels-at .ensures .seen x e)) (owned o base s x _ _ (h .at) q m e (w .1)) (c .behind .result) (c .behind .ensures .0) (c .behind .ensures .1)), follows-stood (base + h .at) (h .at) q (length s) (c .behind .result) (omega arith) (c .behind .ensures .1))
+    let t : tie.After-step = c .before .before in
+    let y : tie.After-channels-at = t .before .before in
+    let x : tie.After-has-code = y .before .before in
+    let a = start x .args in
+    let s = now (a .s) in
+    let same = sym (x .has-code .ensures) ∙ not-false (x .has-code .result) (y .before .if1 .left) in
+    let q = t .step .given .0 .0 in
+    let w = rw (t .step .given .1) at (y .channels-at .ensures .stands) in
+    record {
+      told = λ b e. judges-behind (a .o) (a .base) s 120 (R.channels b) (Owned (a .o) s (a .h .at) (a .channels)) (a .h) (a .held) same (stays-channelsRest b) q (start x .pre .inside) (w .inside)
+          (rw (t .step .given .1) at (y .channels-at .ensures .seen b e)) (owned (a .o) (a .base) s b _ _ (a .h .at) q (a .channels) e (w .inside)) (c .behind .result) (c .behind .ensures);
+      follows = follows-stood (a .base + a .h .at) (a .h .at) q (length s) (c .behind .result) (omega arith) (c .behind .ensures .stands);
+    }
 
 pub channels-part-spec : {M : Type 1} → statement M
 channels-part-spec =
     tie.close
     (tie.spec
-    absent-requires
+    (λ c κs. search needs)
+    (λ c κs. search needs)
     returns
-    channels-at-requires
-    enum-known-step
-    enum-told
-    of-step-requires
+    (λ c κs. search needs)
+    (λ c. search needs)
+    (λ c. search needs)
+    (λ c κs. search needs)
     returns-2
     behind-requires
     returns-3)

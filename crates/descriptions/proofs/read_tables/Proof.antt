@@ -1,172 +1,167 @@
--- `descriptions::read_tables` meets its contract: the tables of the recording whose body is s, which stands at `base` in the file.
-use Prim.Native.Nat.{_+_}
-use native.Mathlib.Omega.{arith}
+-- `descriptions::read_tables` meets its contract: one law of Tabling for each return.
+-- The places: behind the 100 (first), the head that follows it (found), the 120 (cs), the 130 (ps) and the 200 (es). Assumes nothing.
+use mathlib.Core.Path.{refl}
 use denote.Ref.{now}
-use lib.ListN.{length}
-use Rattle.descriptions.proofs.Tabling.{begun, hundred-fits, tables-basic, tables-next, channels-stop, patient-stop, events-stop, tables-hold, tables-ready}
+use Rattle.records.specs.Says.{NextHead}
+use Rattle.records.specs.declared.Headed.the-variants as Headed
+use Rattle.records.specs.declared.basic.Basiced.the-variants as Basiced
+use Rattle.records.specs.declared.items.Holder.the-variants as Holder
+use Rattle.descriptions.specs.Tabled.{ChannelsPart, ItemsPart}
+use Rattle.descriptions.specs.declared.Parted.the-variants as Parted
+use Rattle.descriptions.proofs.Tabling.{Hundred, hundred-fits, Begun, begun, stops-basic, stops-next, stops-channels, stops-patient, stops-events, holds}
 use borrow.Author.Needs.{needs}
 use Rattle.descriptions.proofs.read_tables.Statement.{statement}
 use Rattle.descriptions.proofs.read_tables.Tie as tie
 
-basic-at-requires : tie.Need-basic-at-requires
-basic-at-requires c κs = search needs
+abbrev start : tie.After-basic-at → tie.Start
+start x = x .before .before
 
-enum-known-first : tie.Need-enum-known-first
-enum-known-first c = search needs
+abbrev from-first : tie.After-first → tie.Start
+from-first x = start (x .before .before)
 
-enum-told : tie.Need-enum-told
-enum-told c = search needs
+abbrev to-first : tie.After-next-head → tie.After-first
+to-first x = x .before .before
 
-of-basic-requires : tie.Need-of-basic-requires
-of-basic-requires c κs = search needs
+abbrev from-found : tie.After-found → tie.Start
+from-found x = from-first (to-first (x .before .before))
+
+abbrev to-found : tie.After-channels-part → tie.After-found
+to-found x = x .before .before .before
+
+abbrev from-cs : tie.After-cs → tie.Start
+from-cs x = from-found (to-found (x .before .before))
+
+abbrev to-cs : tie.After-items-part → tie.After-cs
+to-cs x = x .before .before .before
+
+abbrev from-ps : tie.After-ps → tie.Start
+from-ps x = from-cs (to-cs (x .before .before))
+
+abbrev to-ps : tie.After-items-part2 → tie.After-ps
+to-ps x = x .before .before
+
+-- what is known at each: the 100 that passed, with the head behind it; the 120; the 130
+hundred : (x : tie.After-first) →
+    let a = from-first x .args in
+    Hundred (a .o) (a .base) (now (a .s)) (Basiced.Holds (x .first .given .0 .0))
+hundred x = rw (x .first .given .1) at (x .before .before .basic-at .ensures)
+
+begins : (x : tie.After-found) →
+    let a = from-found x .args in
+    Begun (a .o) (a .base) (now (a .s)) (to-first (x .before .before) .first .given .0 .0) (x .found .given .0 .0)
+begins x =
+    let a = from-found x .args in
+    begun (a .o) (a .base) (now (a .s)) (hundred (to-first (x .before .before))) (rw (x .found .given .1) at (x .before .before .next-head .ensures))
+
+channels : (x : tie.After-cs) →
+    let a = from-cs x .args in
+    let y = x .before .before in
+    ChannelsPart (a .o) (a .base) (now (a .s)) (to-found y .found .given .0 .0) (to-first (to-found y .before .before) .first .given .0 .0 .channels) (y .before .held-channels .result) (Parted.On (x .cs .given .0 .0))
+channels x = rw (x .cs .given .1) at (x .before .before .channels-part .ensures)
+
+patient : (x : tie.After-ps) →
+    let a = from-ps x .args in
+    let y = x .before .before in
+    ItemsPart (a .o) Holder.Patient (a .base) (now (a .s)) (to-cs y .cs .given .0 .0 .next) (y .before .held-patient .result) (Parted.On (x .ps .given .0 .0))
+patient x = rw (x .ps .given .1) at (x .before .before .items-part .ensures)
 
 returns : tie.Need-returns
 returns c =
-    let o = c .before .before .before .before .before .args .o in
-    let s = now (c .before .before .before .before .before .args .s) in
-    let base = c .before .before .before .before .before .args .base in
-    simp (c .of-basic .ensures, c .before .enum-told .given .1) ((λ file held is has. tables-basic o base s held (rw (c .before .enum-told .given .1) at (c .before .before .before .basic-at .ensures))), tt)
+    let x : tie.After-basic-at = c .before .before .before in
+    let a = start x .args in
+    simp (c .of-basic .ensures, c .before .enum-told .given .1) (stops-basic (a .o) (a .base) (now (a .s)) (rw (c .before .enum-told .given .1) at (x .basic-at .ensures)))
 
 next-head-requires : tie.Need-next-head-requires
 next-head-requires c κs =
-    let o = c .before .before .before .before .before .args .o in
-    let s = now (c .before .before .before .before .before .args .s) in
-    let base = c .before .before .before .before .before .args .base in
-    let l = hundred-fits o base s (c .before .first .given .0 .0) (rw (c .before .first .given .1) at (c .before .before .before .basic-at .ensures)) in
-    (l, c .before .before .before .before .before .pre .1)
-
-enum-known-found : tie.Need-enum-known-found
-enum-known-found c = search needs
-
-enum-told-2 : tie.Need-enum-told-2
-enum-told-2 c = search needs
-
-of-head-requires : tie.Need-of-head-requires
-of-head-requires c κs = search needs
+    let z = from-first (c .before) in
+    (hundred-fits (z .args .o) (z .args .base) (now (z .args .s)) (hundred (c .before)), z .pre .short)
 
 returns-2 : tie.Need-returns-2
 returns-2 c =
-    let o = c .before .before .before .before .before .before .before .before .before .args .o in
-    let s = now (c .before .before .before .before .before .before .before .before .before .args .s) in
-    let base = c .before .before .before .before .before .before .before .before .before .args .base in
-    simp (c .of-head .ensures, c .before .enum-told2 .given .1) ((λ file held is has. tables-next o base s held (c .before .before .before .before .before .first .given .0 .0) (rw (c .before .before .before .before .before .first .given .1) at (c .before .before .before .before .before .before .before .basic-at .ensures)) (rw (c .before .enum-told2 .given .1) at (c .before .before .before .next-head .ensures .seen (16 + length s) (omega arith)))), tt)
-
-held-channels-requires : tie.Need-held-channels-requires
-held-channels-requires c κs = search needs
+    let x : tie.After-next-head = c .before .before .before in
+    let a = from-first (to-first x) .args in
+    simp (c .of-head .ensures, c .before .enum-told2 .given .1) (stops-next (a .o) (a .base) (now (a .s)) (hundred (to-first x)) (rw (c .before .enum-told2 .given .1) at (x .next-head .ensures)))
 
 channels-part-requires : tie.Need-channels-part-requires
 channels-part-requires c κs =
-    let w = rw (c .before .before .found .given .1) at (c .before .before .before .before .next-head .ensures .stands) in
-    (w .1, c .before .before .before .before .before .before .before .before .before .before .pre .1)
-
-enum-known-cs : tie.Need-enum-known-cs
-enum-known-cs c = search needs
-
-enum-told-3 : tie.Need-enum-told-3
-enum-told-3 c = search needs
-
-of-part-requires : tie.Need-of-part-requires
-of-part-requires c κs = search needs
+    let x : tie.After-found = c .before .before in
+    record { inside = begins x .stands .inside; short = from-found x .pre .short }
 
 returns-3 : tie.Need-returns-3
 returns-3 c =
-    let o = c .before .before .before .before .before .before .before .before .before .before .before .before .before .before .args .o in
-    let s = now (c .before .before .before .before .before .before .before .before .before .before .before .before .before .before .args .s) in
-    let base = c .before .before .before .before .before .before .before .before .before .before .before .before .before .before .args .base in
-    let g = begun o base s (c .before .before .before .before .before .before .before .before .before .before .first .given .0 .0) (c .before .before .before .before .before .before .found .given .0 .0) (rw (c .before .before .before .before .before .before .before .before .before .before .first .given .1) at (c .before .before .before .before .before .before .before .before .before .before .before .before .basic-at .ensures)) (rw (c .before .before .before .before .before .before .found .given .1) at (c .before .before .before .before .before .before .before .before .next-head .ensures .seen (16 + length s) (omega arith))) (rw (c .before .before .before .before .before .before .found .given .1) at (c .before .before .before .before .before .before .before .before .next-head .ensures .stands)) in
-    simp (c .of-part .ensures, c .before .enum-told3 .given .1) ((λ file held is has. channels-stop o base s g (c .before .before .before .before .before .before .before .before .before .before .before .before .before .before .args .before) (c .before .before .before .before .held-channels .ensures) file held has (rw (c .before .enum-told3 .given .1) at (c .before .before .before .channels-part .ensures .0))), tt)
-
-held-patient-requires : tie.Need-held-patient-requires
-held-patient-requires c κs = search needs
+    let x : tie.After-channels-part = c .before .before .before in
+    let a = from-found (to-found x) .args in
+    simp (c .of-part .ensures, c .before .enum-told3 .given .1)
+    (stops-channels (a .o) (a .base) (now (a .s)) (begins (to-found x)) (a .before) (x .before .held-channels .ensures) refl (rw (c .before .enum-told3 .given .1) at (x .channels-part .ensures)))
 
 items-part-requires : tie.Need-items-part-requires
 items-part-requires c κs =
-    let w = rw (c .before .before .cs .given .1) at (c .before .before .before .before .channels-part .ensures .1) in
-    (w .1, c .before .before .before .before .before .before .before .before .before .before .before .before .before .before .before .pre .1)
-
-enum-known-ps : tie.Need-enum-known-ps
-enum-known-ps c = search needs
-
-enum-told-4 : tie.Need-enum-told-4
-enum-told-4 c = search needs
-
-of-part-requires-2 : tie.Need-of-part-requires-2
-of-part-requires-2 c κs = search needs
+    let x : tie.After-cs = c .before .before in
+    record { inside = channels x .follows .inside; short = from-cs x .pre .short }
 
 returns-4 : tie.Need-returns-4
 returns-4 c =
-    let o = c .before .before .before .before .before .before .before .before .before .before .before .before .before .before .before .before .before .before .before .args .o in
-    let s = now (c .before .before .before .before .before .before .before .before .before .before .before .before .before .before .before .before .before .before .before .args .s) in
-    let base = c .before .before .before .before .before .before .before .before .before .before .before .before .before .before .before .before .before .before .before .args .base in
-    let g = begun o base s (c .before .before .before .before .before .before .before .before .before .before .before .before .before .before .before .first .given .0 .0) (c .before .before .before .before .before .before .before .before .before .before .before .found .given .0 .0) (rw (c .before .before .before .before .before .before .before .before .before .before .before .before .before .before .before .first .given .1) at (c .before .before .before .before .before .before .before .before .before .before .before .before .before .before .before .before .before .basic-at .ensures)) (rw (c .before .before .before .before .before .before .before .before .before .before .before .found .given .1) at (c .before .before .before .before .before .before .before .before .before .before .before .before .before .next-head .ensures .seen (16 + length s) (omega arith))) (rw (c .before .before .before .before .before .before .before .before .before .before .before .found .given .1) at (c .before .before .before .before .before .before .before .before .before .before .before .before .before .next-head .ensures .stands)) in
-    simp (c .of-part2 .ensures, c .before .enum-told4 .given .1) ((λ file held is has. patient-stop o base s g (c .before .before .before .before .before .before .before .before .before .before .before .before .before .before .before .before .before .before .before .args .before) (c .before .before .before .before .before .before .before .before .before .held-channels .ensures) file held has (rw (c .before .before .before .before .before .before .cs .given .1) at (c .before .before .before .before .before .before .before .before .channels-part .ensures .0)) (c .before .before .before .before .held-patient .ensures) (rw (c .before .enum-told4 .given .1) at (c .before .before .before .items-part .ensures .0))), tt)
+    let x : tie.After-items-part = c .before .before .before in
+    let y : tie.After-channels-part = to-cs x .before .before in
+    let a = from-cs (to-cs x) .args in
+    simp (c .of-part2 .ensures, c .before .enum-told4 .given .1)
+    (stops-patient (a .o) (a .base) (now (a .s)) (begins (to-found y)) (a .before) (y .before .held-channels .ensures) (x .before .held-patient .ensures) (channels (to-cs x)) (rw (c .before .enum-told4 .given .1) at (x .items-part .ensures)))
 
 items-part-requires-2 : tie.Need-items-part-requires-2
 items-part-requires-2 c κs =
-    let w = rw (c .before .ps .given .1) at (c .before .before .before .items-part .ensures .1) in
-    (w .1, c .before .before .before .before .before .before .before .before .before .before .before .before .before .before .before .before .before .before .before .pre .1)
-
-enum-known-es : tie.Need-enum-known-es
-enum-known-es c = search needs
-
-enum-told-5 : tie.Need-enum-told-5
-enum-told-5 c = search needs
-
-of-part-requires-3 : tie.Need-of-part-requires-3
-of-part-requires-3 c κs = search needs
+    let x : tie.After-ps = c .before in
+    record { inside = patient x .follows .inside; short = from-ps x .pre .short }
 
 returns-5 : tie.Need-returns-5
 returns-5 c =
-    let o = c .before .before .before .before .before .before .before .before .before .before .before .before .before .before .before .before .before .before .before .before .before .before .before .args .o in
-    let s = now (c .before .before .before .before .before .before .before .before .before .before .before .before .before .before .before .before .before .before .before .before .before .before .before .args .s) in
-    let base = c .before .before .before .before .before .before .before .before .before .before .before .before .before .before .before .before .before .before .before .before .before .before .before .args .base in
-    let g = begun o base s (c .before .before .before .before .before .before .before .before .before .before .before .before .before .before .before .before .before .before .before .first .given .0 .0) (c .before .before .before .before .before .before .before .before .before .before .before .before .before .before .before .found .given .0 .0) (rw (c .before .before .before .before .before .before .before .before .before .before .before .before .before .before .before .before .before .before .before .first .given .1) at (c .before .before .before .before .before .before .before .before .before .before .before .before .before .before .before .before .before .before .before .before .before .basic-at .ensures)) (rw (c .before .before .before .before .before .before .before .before .before .before .before .before .before .before .before .found .given .1) at (c .before .before .before .before .before .before .before .before .before .before .before .before .before .before .before .before .before .next-head .ensures .seen (16 + length s) (omega arith))) (rw (c .before .before .before .before .before .before .before .before .before .before .before .before .before .before .before .found .given .1) at (c .before .before .before .before .before .before .before .before .before .before .before .before .before .before .before .before .before .next-head .ensures .stands)) in
-    simp (c .of-part3 .ensures, c .before .enum-told5 .given .1) ((λ file held is has. events-stop o base s g (c .before .before .before .before .before .before .before .before .before .before .before .before .before .before .before .before .before .before .before .before .before .before .before .args .before) (c .before .before .before .before .before .before .before .before .before .before .before .before .before .held-channels .ensures) file held has (rw (c .before .before .before .before .before .before .before .before .before .before .cs .given .1) at (c .before .before .before .before .before .before .before .before .before .before .before .before .channels-part .ensures .0)) (c .before .before .before .before .before .before .before .before .held-patient .ensures) (rw (c .before .before .before .before .before .ps .given .1) at (c .before .before .before .before .before .before .before .items-part .ensures .0)) (rw (c .before .enum-told5 .given .1) at (c .before .before .before .items-part2 .ensures .0))), tt)
-
-count-of-requires : tie.Need-count-of-requires
-count-of-requires c κs = search needs
+    let w : tie.After-items-part2 = c .before .before .before in
+    let x : tie.After-items-part = to-ps w .before .before in
+    let y : tie.After-channels-part = to-cs x .before .before in
+    let a = from-ps (to-ps w) .args in
+    simp (c .of-part3 .ensures, c .before .enum-told5 .given .1)
+    (stops-events (a .o) (a .base) (now (a .s)) (begins (to-found y)) (a .before) (y .before .held-channels .ensures) (x .before .held-patient .ensures) (channels (to-cs x)) (patient (to-ps w)) (rw (c .before .enum-told5 .given .1) at (w .items-part2 .ensures)))
 
 returns-6 : tie.Need-returns-6
 returns-6 c =
-    let o = c .before .before .before .before .before .before .before .before .before .before .before .before .before .before .before .before .before .before .before .before .before .before .before .before .before .args .o in
-    let s = now (c .before .before .before .before .before .before .before .before .before .before .before .before .before .before .before .before .before .before .before .before .before .before .before .before .before .args .s) in
-    let base = c .before .before .before .before .before .before .before .before .before .before .before .before .before .before .before .before .before .before .before .before .before .before .before .before .before .args .base in
-    let g = begun o base s (c .before .before .before .before .before .before .before .before .before .before .before .before .before .before .before .before .before .before .before .before .before .first .given .0 .0) (c .before .before .before .before .before .before .before .before .before .before .before .before .before .before .before .before .before .found .given .0 .0) (rw (c .before .before .before .before .before .before .before .before .before .before .before .before .before .before .before .before .before .before .before .before .before .first .given .1) at (c .before .before .before .before .before .before .before .before .before .before .before .before .before .before .before .before .before .before .before .before .before .before .before .basic-at .ensures)) (rw (c .before .before .before .before .before .before .before .before .before .before .before .before .before .before .before .before .before .found .given .1) at (c .before .before .before .before .before .before .before .before .before .before .before .before .before .before .before .before .before .before .before .next-head .ensures .seen (16 + length s) (omega arith))) (rw (c .before .before .before .before .before .before .before .before .before .before .before .before .before .before .before .before .before .found .given .1) at (c .before .before .before .before .before .before .before .before .before .before .before .before .before .before .before .before .before .before .before .next-head .ensures .stands)) in
-    rw (c .count-of .ensures) (
-      (λ file held is has. tables-hold o base s g (c .before .before .before .before .before .before .before .before .before .before .before .before .before .before .before .before .before .before .before .before .before .before .before .before .before .args .before) (c .before .before .before .before .before .before .before .before .before .before .before .before .before .before .before .held-channels .ensures) file held has (rw (c .before .before .before .before .before .before .before .before .before .before .before .before .cs .given .1) at (c .before .before .before .before .before .before .before .before .before .before .before .before .before .before .channels-part .ensures .0)) (c .before .before .before .before .before .before .before .before .before .before .held-patient .ensures) (rw (c .before .before .before .before .before .before .before .ps .given .1) at (c .before .before .before .before .before .before .before .before .before .items-part .ensures .0)) (c .before .before .before .es .given .0 .0) (rw (c .before .before .before .es .given .1) at (c .before .before .before .before .before .items-part2 .ensures .0)) (rw (c .before .before .before .before .before .before .before .before .before .before .before .before .cs .given .1) at (c .before .before .before .before .before .before .before .before .before .before .before .before .before .before .channels-part .ensures .1)) (rw (c .before .before .before .before .before .before .before .ps .given .1) at (c .before .before .before .before .before .before .before .before .before .items-part .ensures .1)) (c .before .before .before .before .before .before .before .before .before .before .before .before .before .before .before .before .before .before .before .before .before .before .before .before .before .pre .0) is),
-      tables-ready o base s g (c .before .before .before .before .before .before .before .before .before .before .before .before .before .before .before .before .before .before .before .before .before .before .before .before .before .args .before) (c .before .before .before .before .before .before .before .before .before .before .before .before .before .before .before .held-channels .ensures) (c .before .before .before .before .before .before .before .before .before .before .before .before .cs .given .0 .0) (c .before .before .before .before .before .before .before .ps .given .0 .0) (c .before .before .before .es .given .0 .0) (rw (c .before .before .before .before .before .before .before .before .before .before .before .before .cs .given .1) at (c .before .before .before .before .before .before .before .before .before .before .before .before .before .before .channels-part .ensures .0)) (rw (c .before .before .before .before .before .before .before .before .before .before .before .before .cs .given .1) at (c .before .before .before .before .before .before .before .before .before .before .before .before .before .before .channels-part .ensures .1)) (rw (c .before .before .before .before .before .before .before .ps .given .1) at (c .before .before .before .before .before .before .before .before .before .items-part .ensures .1)) (rw (c .before .before .before .es .given .1) at (c .before .before .before .before .before .items-part2 .ensures .1)),
-    )
+    let v : tie.After-es = c .before .before .before in
+    let w : tie.After-items-part2 = v .before .before in
+    let x : tie.After-items-part = to-ps w .before .before in
+    let y : tie.After-channels-part = to-cs x .before .before in
+    let z = from-ps (to-ps w) in
+    let a = z .args in
+    rw (c .count-of .ensures)
+    (holds (a .o) (a .base) (now (a .s)) (begins (to-found y)) (a .before) (y .before .held-channels .ensures) (x .before .held-patient .ensures) (channels (to-cs x)) (patient (to-ps w)) (rw (v .es .given .1) at (w .items-part2 .ensures)) (z .pre .headed))
 
 pub read-tables-spec : {M : Type 1} → statement M
 read-tables-spec =
     tie.close
     (tie.spec
-    basic-at-requires
-    enum-known-first
-    enum-told
-    of-basic-requires
+    (λ c κs. search needs)
+    (λ c. search needs)
+    (λ c. search needs)
+    (λ c κs. search needs)
     returns
     next-head-requires
-    enum-known-found
-    enum-told-2
-    of-head-requires
+    (λ c. search needs)
+    (λ c. search needs)
+    (λ c κs. search needs)
     returns-2
-    held-channels-requires
+    (λ c κs. search needs)
     channels-part-requires
-    enum-known-cs
-    enum-told-3
-    of-part-requires
+    (λ c. search needs)
+    (λ c. search needs)
+    (λ c κs. search needs)
     returns-3
-    held-patient-requires
+    (λ c κs. search needs)
     items-part-requires
-    enum-known-ps
-    enum-told-4
-    of-part-requires-2
+    (λ c. search needs)
+    (λ c. search needs)
+    (λ c κs. search needs)
     returns-4
     items-part-requires-2
-    enum-known-es
-    enum-told-5
-    of-part-requires-3
+    (λ c. search needs)
+    (λ c. search needs)
+    (λ c κs. search needs)
     returns-5
-    count-of-requires
+    (λ c κs. search needs)
     returns-6)

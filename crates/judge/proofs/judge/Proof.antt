@@ -1,4 +1,5 @@
--- `judge::judge` meets its contract: one law of Verdicts for each return. Assumes nothing.
+-- `judge::judge` meets its contract: one law of Verdicts for each return.
+-- x: the header that was read; y: behind the recordings. Assumes nothing.
 use mathlib.Core.Path.{refl}
 use native.Mathlib.Nat.{zero-add}
 use native.Mathlib.Omega.{arith}
@@ -8,72 +9,65 @@ use Rattle.judge.proofs.Verdicts.{judge-unread, judge-stop, judge-left,
 use Rattle.judge.proofs.judge.Statement.{statement}
 use Rattle.judge.proofs.judge.Tie as tie
 
-file-header-requires : tie.Need-file-header-requires
-file-header-requires c κs = search needs
-
-enum-known-opened : tie.Need-enum-known-opened
-enum-known-opened c = search needs
-
-enum-told : tie.Need-enum-told
-enum-told c = search needs
-
-of-opened-requires : tie.Need-of-opened-requires
-of-opened-requires c κs = search needs
+abbrev start : tie.After-file-header → tie.Start
+start x = x .before .before
 
 returns : tie.Need-returns
 returns c =
     let e = c .before .enum-told .given .1 in
-    rw (c .of-opened .ensures, e) (judge-unread (now (c .before .before .before .before .before .args .file)) (rw e at (c .before .before .before .file-header .ensures .walk)))
+    let x : tie.After-file-header = c .before .before .before in
+    rw (c .of-opened .ensures, e) (judge-unread (now (start x .args .file)) (rw e at (x .file-header .ensures .walk)))
 
 recordings-from-requires : tie.Need-recordings-from-requires
 recordings-from-requires c κs =
-    let n = rw (c .before .opened .given .1) at (c .before .before .before .file-header .ensures .named) in
-    (n .long, omega (arith, c .before .before .before .before .before .good))
-
-enum-known-walked : tie.Need-enum-known-walked
-enum-known-walked c = search needs
-
-enum-told-2 : tie.Need-enum-told-2
-enum-told-2 c = search needs
-
-of-step-requires : tie.Need-of-step-requires
-of-step-requires c κs = search needs
+    let x : tie.After-file-header = c .before .before .before in
+    let n = rw (c .before .opened .given .1) at (x .file-header .ensures .named) in
+    record { header = n .long; short = omega (arith, start x .good) }
 
 returns-2 : tie.Need-returns-2
 returns-2 c =
-    let e = c .before .before .before .before .before .opened .given .1 in
-    let n = rw e at (c .before .before .before .before .before .before .before .file-header .ensures .named) in
+    let y : tie.After-recordings-from = c .before .before .before in
+    let x : tie.After-opened = y .before .before in
+    let h : tie.After-file-header = x .before .before in
+    let e = x .opened .given .1 in
+    let n = rw e at (h .file-header .ensures .named) in
     let w = c .before .enum-told2 .given .1 in
-    judge-stop (now (c .before .before .before .before .before .before .before .before .before .args .file)) _ (rw e at (c .before .before .before .before .before .before .before .file-header .ensures .walk)) (rw (w, ← rw w at (c .of-step .ensures), n .order) at (c .before .before .before .recordings-from .ensures .0))
+    judge-stop (now (start h .args .file)) _ (rw e at (h .file-header .ensures .walk)) (rw (w, ← rw w at (c .of-step .ensures), n .order) at (y .recordings-from .ensures .seen))
 
 returns-3 : tie.Need-returns-3
 returns-3 c =
-    let e = c .before .before .before .before .before .before .opened .given .1 in
-    let n = rw e at (c .before .before .before .before .before .before .before .before .file-header .ensures .named) in
-    let w = c .before .before .walked .given .1 in
-    judge-left (now (c .before .before .before .before .before .before .before .before .before .before .args .file)) _ (rw e at (c .before .before .before .before .before .before .before .before .file-header .ensures .walk)) _ (rw (w, n .order, zero-add) at (c .before .before .before .before .recordings-from .ensures .0)) (c .if1 .taken)
+    let v : tie.After-walked = c .before .before in
+    let y : tie.After-recordings-from = v .before .before in
+    let x : tie.After-opened = y .before .before in
+    let h : tie.After-file-header = x .before .before in
+    let e = x .opened .given .1 in
+    let n = rw e at (h .file-header .ensures .named) in
+    judge-left (now (start h .args .file)) _ (rw e at (h .file-header .ensures .walk)) _ (rw (v .walked .given .1, n .order, zero-add (v .walked .given .0 .0)) at (y .recordings-from .ensures .seen)) (c .if1 .taken)
 
 returns-4 : tie.Need-returns-4
 returns-4 c =
-    let e = c .before .before .before .before .before .before .opened .given .1 in
-    let n = rw e at (c .before .before .before .before .before .before .before .before .file-header .ensures .named) in
-    let w = c .before .before .walked .given .1 in
-    let x = rw w at (c .before .before .before .before .recordings-from .ensures .1) in
-    judge-whole (now (c .before .before .before .before .before .before .before .before .before .before .args .file)) _ (rw e at (c .before .before .before .before .before .before .before .before .file-header .ensures .walk)) _ (rw (w, n .order, zero-add) at (c .before .before .before .before .recordings-from .ensures .0)) _ (omega arith) (n .order) refl refl
+    let v : tie.After-walked = c .before .before in
+    let y : tie.After-recordings-from = v .before .before in
+    let x : tie.After-opened = y .before .before in
+    let h : tie.After-file-header = x .before .before in
+    let e = x .opened .given .1 in
+    let n = rw e at (h .file-header .ensures .named) in
+    let l = rw (v .walked .given .1) at (y .recordings-from .ensures .stands) in
+    judge-whole (now (start h .args .file)) _ (rw e at (h .file-header .ensures .walk)) _ (rw (v .walked .given .1, n .order, zero-add (v .walked .given .0 .0)) at (y .recordings-from .ensures .seen)) _ (omega (arith, l .inside, c .if1 .left)) (n .order) refl refl
 
 pub judge-spec : {M : Type 1} → statement M
 judge-spec =
     tie.close
     (tie.spec
-    file-header-requires
-    enum-known-opened
-    enum-told
-    of-opened-requires
+    (λ c κs. search needs)
+    (λ c. search needs)
+    (λ c. search needs)
+    (λ c κs. search needs)
     returns
     recordings-from-requires
-    enum-known-walked
-    enum-told-2
-    of-step-requires
+    (λ c. search needs)
+    (λ c. search needs)
+    (λ c κs. search needs)
     returns-2
     returns-3
     returns-4)

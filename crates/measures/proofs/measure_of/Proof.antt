@@ -220,7 +220,7 @@ returns-6 c =
     rw (c .measure-for .ensures) (record {
       bounds =
           measure-bounded (at j) (q (y k)) (i .at + 16) (t k) (size k) (24 + b .result) (n k) (length (s j)) (omega (arith, e .before .before .before .if1 .left)) (omega arith) (w .0) (k .before .field2 .ensures .1)
-          (omega (arith, w .1, l, top j .stands, stop (y k))) (omega (arith, a .stands)) (a .stands .1);
+          (omega (arith, w .1, l, top j .stands, stop (y k))) (omega (arith, a .stands)) (a .stands .inside);
       reads =
           measure-each (at j) (q (y k)) (i .at + 16) (t k) (size k) (24 + b .result) (n k) (MeasureIn (o j) (base j) (s j)) (record {
             end = λ m p g. stop (y k) .0 ∙ (ap (λ (z : ℕ). z + R.span (headOf (h j))) (top j .stands .0) ∙ ap (λ (z : R.Head). at j + R.span z) (goes-same (sym (top j .seen) ∙ g) .0));
@@ -229,7 +229,7 @@ returns-6 c =
       told = λ held r x m fills here at g.
           measure-told (went j held r x m fills g) _ at (h j) (top j .seen) (top j .stands .0) (q (y k)) (stop (y k) .0) (stop (y k) .1) (stop (y k) .2) (t k) (size k) (n k)
           (k .before .before .field .ensures .0) (k .before .field2 .ensures .0) (k .field3 .ensures .0)
-          i (a .seen) (a .stands .1) (b .result) (b .ensures (x .recording .channels) (here .count) (here .kept));
+          i (a .seen) (a .stands .inside) (b .result) (b .ensures (x .recording .channels) (here .count) (here .kept));
     })
 
 pub measure-of-spec : {M : Type 1} → statement M

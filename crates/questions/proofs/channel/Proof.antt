@@ -10,7 +10,7 @@ use denote.Ref.{now}
 use lib.ListN.{length}
 use Rattle.rules.specs.Rules as R
 use Rattle.records.proofs.Facts.{between-in}
-use Rattle.descriptions.specs.Tabled.{Room}
+use Rattle.records.specs.Says.{subsAt, ChannelsIn}
 use Rattle.recordings.specs.Found.{RecordingFoundAs}
 use Rattle.recordings.specs.declared.RecordingFound.the-variants as RecordingFound
 use Rattle.questions.proofs.Replies.{channel-refused, channel-outside, channel-told}
@@ -49,12 +49,12 @@ ranged c = sym (c .before .before .within .ensures) ∙ not-false (c .before .be
 roomy : (c : tie.After-struct-known) →
     let x = back c in
     let z = start x in
-    Room (length (now (z .args .file))) (x .found .given .0 .1 .0 .channels) (x .found .given .0 .1 .0 .count) × (1 ≤ z .args .channel) × (z .args .channel ≤ x .found .given .0 .1 .0 .count)
+    ChannelsIn (length (now (z .args .file))) (subsAt (x .found .given .0 .1 .0 .channels) (x .found .given .0 .1 .0 .count)) × (1 ≤ z .args .channel) × (z .args .channel ≤ x .found .given .0 .1 .0 .count)
 roomy c =
     let x = back c in
     let y = known x in
     let l = between-in _ _ _ (ranged c) in
-    (y .1 .owned .1, l .0, l .1)
+    (y .1 .owned .room, l .0, l .1)
 
 add-at : tie.Need-add-at
 add-at c = record { fits = omega (arith, roomy c, start (back c) .good) }

@@ -19,7 +19,7 @@ abbrev μ-loop : tie.MeasureT-loop
 μ-loop o file n step₀ i₀ step i = n - i
 
 recording-again-requires : tie.Need-recording-again-requires Inv-loop μ-loop
-recording-again-requires c κs = (c .before .pre .header, c .before .pre .addressable, tt)
+recording-again-requires c κs = record { inside = c .before .pre .header; short = c .before .pre .addressable; held = tt }
 
 loop-holds : tie.Need-loop-holds Inv-loop μ-loop
 loop-holds c =
@@ -29,7 +29,7 @@ loop-holds c =
     record {
       within = p .first;
       start = 32;
-      bounds = bounds (a .o) (now (a .file)) 32 Before.Nothing (c .recording-again .result) k;
+      bounds = k .continues;
       meets = λ h x e l.
           let b = bytes (now (a .file)) (λ j. omega (arith, c .before .shared-slice-known .given j)) in
           met Before.Nothing (going-start (now (a .file)) h x (a .o) e) (omega (arith, l, p .first)) (p .header) (ok-of _ b h x) (c .recording-again .result) k;
@@ -42,7 +42,7 @@ recording-again-requires-2 : tie.Need-recording-again-requires-2 Inv-loop μ-loo
 recording-again-requires-2 c κs =
     let k = c .before .before .before .before in
     let a = rw (c .before .step .given .1) at (k .loop .inv .bounds) in
-    (a .1, k .before .before .before .pre .addressable, a .2)
+    record { inside = a .end; short = k .before .before .before .pre .addressable; held = a .channels }
 
 loop-again : tie.Need-loop-again Inv-loop μ-loop
 loop-again c =
@@ -54,10 +54,10 @@ loop-again c =
     record {
       within = omega arith;
       start = d .step .given .0 .0 .end;
-      bounds = bounds (f .args .o) (now (f .args .file)) (d .step .given .0 .0 .end) (Before.These (d .step .given .0 .0)) (c .recording-again2 .result) u;
+      bounds = u .continues;
       meets = λ h x o l.
           let b = bytes (now (f .args .file)) (λ j. omega (arith, k .before .before .shared-slice-known .given j)) in
-          met (Before.These (d .step .given .0 .0)) (rw (d .step .given .1) at (i .meets h x o l)) (omega (arith, l, d .before .before .loop-test .taken)) ((rw (d .step .given .1) at (i .bounds)) .1) (ok-of _ b h x) (c .recording-again2 .result) u;
+          met (Before.These (d .step .given .0 .0)) (rw (d .step .given .1) at (i .meets h x o l)) (omega (arith, l, d .before .before .loop-test .taken)) ((rw (d .step .given .1) at (i .bounds)) .end) (ok-of _ b h x) (c .recording-again2 .result) u;
     }
 
 returns-2 : tie.Need-returns-2 Inv-loop μ-loop

@@ -10,7 +10,7 @@ use denote.Ref.{now}
 use lib.ListN.{length}
 use Rattle.rules.specs.Rules as R
 use Rattle.records.proofs.Facts.{between-in}
-use Rattle.descriptions.specs.Tabled.{Room}
+use Rattle.records.specs.Says.{subsAt, ChannelsIn}
 use Rattle.samples.specs.Asked.{FrameFoundAs}
 use Rattle.samples.specs.declared.FrameFound.the-variants as FrameFound
 use Rattle.samples.proofs.Sampling.{samples-refused, samples-outside, samples-found-at}
@@ -50,12 +50,12 @@ ranged c = sym (c .before .before .within .ensures) ∙ not-false (c .before .be
 roomy : (c : tie.After-struct-known) →
     let x = back c in
     let z = start x in
-    Room (length (now (z .args .file))) (x .framed .given .0 .1 .0 .channels) (x .framed .given .0 .1 .0 .count) × (1 ≤ z .args .channel) × (z .args .channel ≤ x .framed .given .0 .1 .0 .count)
+    ChannelsIn (length (now (z .args .file))) (subsAt (x .framed .given .0 .1 .0 .channels) (x .framed .given .0 .1 .0 .count)) × (1 ≤ z .args .channel) × (z .args .channel ≤ x .framed .given .0 .1 .0 .count)
 roomy c =
     let x = back c in
     let y = known x in
     let l = between-in _ _ _ (ranged c) in
-    (y .1 .found .owned .1, l .0, l .1)
+    (y .1 .found .owned .room, l .0, l .1)
 
 add-subs : tie.Need-add-subs
 add-subs c = record { fits = omega (arith, roomy c, start (back c) .good) }

@@ -1,153 +1,156 @@
--- `signals::signals` meets its contract: each answer is that of the walk, by the laws of Signaled.
--- x: the place behind the 140; y: behind the head that follows; z: the start. Assumes nothing.
-use denote.Ref.{now}
-use mathlib.Core.Path.{ap, _∙_}
-use Prim.Native.Nat.{ℕ, _+_}
+-- `signals::signals` meets its contract: one law of Signaled for each return.
+-- The places: behind the 140 (held), behind the head that follows it (found), behind the delimiter. Assumes nothing.
+use mathlib.Core.Path.{_≡_, sym, _∙_}
+use mathlib.Core.Bool.{true}
+use Prim.Native.Nat.{_+_}
 use native.Mathlib.Omega.{arith}
+use native.Mathlib.Nat.{add-assoc}
+use borrow.Author.Tests.{not-true, not-false}
+use denote.Ref.{now}
+use lib.Dec.{eqb}
 use lib.ListN.{length}
-use Rattle.walk.specs.See.{stops}
-use Rattle.signals.proofs.Signaled.{signals-other, frames-stop, frames-on, found-stop, found-on, delimiter-stop, closed-stop, closed-on}
+use Rattle.records.specs.Says.{NextHead}
+use Rattle.records.specs.declared.Headed.the-variants as Headed
+use Rattle.signals.specs.Framed.{FramesAt}
+use Rattle.signals.specs.declared.frames.Framed.the-variants as Framed
+use Rattle.signals.proofs.Signaled.{other-code, stops-frames, stops-next, stops-delimiter, stops-closing, holds}
 use borrow.Author.Needs.{needs}
 use Rattle.signals.proofs.signals.Statement.{statement}
 use Rattle.signals.proofs.signals.Tie as tie
 
-add-t18 : tie.Need-add-t18
-add-t18 c = search needs
+abbrev start : tie.After-has-code → tie.Start
+start x = x .before .before .before
 
-add-t19 : tie.Need-add-t19
-add-t19 c = search needs
+abbrev coded-at : tie.After-frames-at → tie.Else1
+coded-at x = x .before
+
+abbrev from-held : tie.After-held → tie.Start
+from-held x = start (coded-at (x .before .before) .before)
+
+abbrev to-held : tie.After-next-head → tie.After-held
+to-held x = x .before .before
+
+abbrev from-found : tie.After-found → tie.Start
+from-found x = from-held (to-held (x .before .before))
+
+abbrev to-found : tie.After-delimiter → tie.After-found
+to-found x = x .before .before
+
+abbrev to-delimiter : tie.After-enum-told3 → tie.After-delimiter
+to-delimiter x = x .before .before
+
+-- what is known: the code is the 140's; what it says; the head behind it
+coded : (x : tie.Else1) → eqb (start (x .before) .args .h .code) 140 ≡ true
+coded x = sym (x .before .has-code .ensures) ∙ not-false (x .before .has-code .result) (x .if1 .left)
+
+frames : (x : tie.After-held) →
+    let a = from-held x .args in
+    FramesAt (a .o) (now (a .file)) (a .cs) (a .own) (a .b) (a .h) (a .base) (now (a .s)) (Framed.On (x .held .given .0 .0) (x .held .given .0 .1 .0))
+frames x = rw (x .held .given .1) at (x .before .before .frames-at .ensures)
+
+next : (x : tie.After-found) →
+    let a = from-found x .args in
+    NextHead (a .o) (a .base) (now (a .s)) (to-held (x .before .before) .held .given .0 .1 .0) (Headed.At (x .found .given .0 .0))
+next x = rw (x .found .given .1) at (x .before .before .next-head .ensures)
 
 returns : tie.Need-returns
-returns c = λ t r k. signals-other k _ (c .before .before .before .before .before .pre .1) (c .before .if1 .taken) ∙ ap (λ (x : ℕ). stops 9 x) (omega arith)
-
-frames-at-requires : tie.Need-frames-at-requires
-frames-at-requires c κs = search needs
-
-enum-known-held : tie.Need-enum-known-held
-enum-known-held c = search needs
-
-enum-told : tie.Need-enum-told
-enum-told c = search needs
+returns c =
+    let x : tie.After-has-code = c .before .before in
+    let a = start x .args in
+    other-code (a .o) (now (a .file)) (a .cs) (a .own) (a .b) (a .h) (a .base) (now (a .s)) (a .multiplier) (start x .pre)
+    (sym (x .has-code .ensures) ∙ not-true (x .has-code .result) (c .before .if1 .taken)) _ (add-assoc (a .base) (a .h .at) 4)
 
 returns-2 : tie.Need-returns-2
-returns-2 c = λ t r k. simp (c .enum-told .given .1) (frames-stop k _ (c .before .before .before .before .before .before .before .pre .1) (c .before .before .before .if1 .left) (rw (c .enum-told .given .1) at (c .before .before .frames-at .ensures .0 (t .basic) (t .channels .value) (k .channels) (k .frames) (k .count) (k .kept))))
+returns-2 c =
+    let y : tie.After-frames-at = c .before .before in
+    let z = start (coded-at y .before) in
+    let a = z .args in
+    simp (c .enum-told .given .1) (stops-frames (a .o) (now (a .file)) (a .cs) (a .own) (a .b) (a .h) (a .base) (now (a .s)) (a .multiplier) (z .pre) (coded (coded-at y)) (rw (c .enum-told .given .1) at (y .frames-at .ensures)))
 
 next-head-requires : tie.Need-next-head-requires
-next-head-requires c κs = let v = rw (c .before .held .given .1) at (c .before .before .before .frames-at .ensures .1) in search needs
-
-enum-known-found : tie.Need-enum-known-found
-enum-known-found c = search needs
-
-enum-told-2 : tie.Need-enum-told-2
-enum-told-2 c = search needs
-
-of-head-requires : tie.Need-of-head-requires
-of-head-requires c κs = search needs
+next-head-requires c κs = (frames (c .before) .stands .inside, from-held (c .before) .pre .body .short)
 
 returns-3 : tie.Need-returns-3
 returns-3 c =
-    let x = c .before .before .before .before in
-    let z = x .before .before .before .before .before .before .before .before in
-    let s = now (z .args .s) in
-    let base = z .args .base in
-    λ t r k.
-    let a = frames-on k base (z .pre .1) (x .before .before .before .before .if1 .left) (rw (x .before .held .given .1) at (x .before .before .before .frames-at .ensures .0 (t .basic) (t .channels .value) (k .channels) (k .frames) (k .count) (k .kept))) in
-    simp (c .of-head .ensures, c .before .enum-told2 .given .1) (found-stop a (rw (c .before .enum-told2 .given .1) at (c .before .before .before .next-head .ensures .seen (16 + length s) (omega arith))))
+    let n : tie.After-next-head = c .before .before .before in
+    let y = to-held n in
+    let z = from-held y in
+    let a = z .args in
+    simp (c .of-head .ensures, c .before .enum-told2 .given .1)
+    (stops-next (a .o) (now (a .file)) (a .cs) (a .own) (a .b) (a .h) (a .base) (now (a .s)) (a .multiplier) (z .pre) (coded (coded-at (y .before .before))) (frames y) (rw (c .before .enum-told2 .given .1) at (n .next-head .ensures)))
 
 delimiter-requires : tie.Need-delimiter-requires
-delimiter-requires c κs = let w = rw (c .before .found .given .1) at (c .before .before .before .next-head .ensures .stands) in search needs
-
-enum-told-3 : tie.Need-enum-told-3
-enum-told-3 c = search needs
-
-enum-told-4 : tie.Need-enum-told-4
-enum-told-4 c = search needs
-
-of-test-requires : tie.Need-of-test-requires
-of-test-requires c κs = search needs
+delimiter-requires c κs = let w = next (c .before) .stands in search needs
 
 returns-4 : tie.Need-returns-4
 returns-4 c =
-    let y = c .before .before .before .before in
-    let x = y .before .before .before .before in
-    let z = x .before .before .before .before .before .before .before .before in
-    let w = rw (y .before .found .given .1) at (y .before .before .before .next-head .ensures .stands) in
-    let o = z .args .o in
-    let s = now (z .args .s) in
-    let base = z .args .base in
-    λ t r k.
-    let a = frames-on k base (z .pre .1) (x .before .before .before .before .if1 .left) (rw (x .before .held .given .1) at (x .before .before .before .frames-at .ensures .0 (t .basic) (t .channels .value) (k .channels) (k .frames) (k .count) (k .kept))) in
-    let d = found-on (y .before .found .given .0 .0 .at) (k .bytes) (w .1) a (rw (y .before .found .given .1) at (y .before .before .before .next-head .ensures .seen (16 + length s) (omega arith))) in
-    simp (c .of-test .ensures, c .before .enum-told4 .given .1) (delimiter-stop d (rw (c .before .enum-told4 .given .1) at (c .before .before .before .delimiter .ensures o base s)))
+    let d : tie.After-delimiter = c .before .before .before in
+    let x = to-found d in
+    let y = to-held (x .before .before) in
+    let z = from-held y in
+    let a = z .args in
+    simp (c .of-test .ensures, c .before .enum-told4 .given .1)
+    (stops-delimiter (a .o) (now (a .file)) (a .cs) (a .own) (a .b) (a .h) (a .base) (now (a .s)) (a .multiplier) (z .pre) (coded (coded-at (y .before .before))) (frames y) (next x) (d .delimiter .ensures (a .o) (a .base) (now (a .s))) (c .before .enum-told4 .given .1))
 
 add-closed : tie.Need-add-closed
-add-closed c = let w = rw (c .before .before .before .before .before .found .given .1) at (c .before .before .before .before .before .before .before .next-head .ensures .stands) in search needs
+add-closed c = let x = to-found (to-delimiter (c .before)) in omega (arith, next x .stands .inside, from-found x .pre .body .short)
 
 closed-requires : tie.Need-closed-requires
-closed-requires c κs = let w = rw (c .before .before .before .before .before .found .given .1) at (c .before .before .before .before .before .before .before .next-head .ensures .stands) in search needs
+closed-requires c κs =
+    let x = to-found (to-delimiter (c .before)) in
+    record { body = from-found x .pre .body; inside = next x .stands .inside }
 
-enum-told-5 : tie.Need-enum-told-5
-enum-told-5 c = search needs
-
-enum-told-6 : tie.Need-enum-told-6
-enum-told-6 c = search needs
-
-of-test-requires-2 : tie.Need-of-test-requires-2
-of-test-requires-2 c κs = search needs
+-- the delimiter that passed, seen from behind what follows it
+abbrev passed-at : tie.After-closed → tie.After-enum-told3
+passed-at x = x .before .before
 
 returns-5 : tie.Need-returns-5
 returns-5 c =
-    let y = c .before .before .before .before .before .before .before .before in
-    let x = y .before .before .before .before in
-    let z = x .before .before .before .before .before .before .before .before in
-    let w = rw (y .before .found .given .1) at (y .before .before .before .next-head .ensures .stands) in
-    let o = z .args .o in
-    let s = now (z .args .s) in
-    let base = z .args .base in
-    λ t r k.
-    let a = frames-on k base (z .pre .1) (x .before .before .before .before .if1 .left) (rw (x .before .held .given .1) at (x .before .before .before .frames-at .ensures .0 (t .basic) (t .channels .value) (k .channels) (k .frames) (k .count) (k .kept))) in
-    let d = found-on (y .before .found .given .0 .0 .at) (k .bytes) (w .1) a (rw (y .before .found .given .1) at (y .before .before .before .next-head .ensures .seen (16 + length s) (omega arith))) in
-    simp (c .of-test2 .ensures, c .before .enum-told6 .given .1) (closed-stop d (k .multiplier) (rw (c .before .before .before .before .before .enum-told3 .given .1) at (c .before .before .before .before .before .before .before .delimiter .ensures o base s)) (z .pre .2) (c .before .before .before .closed .ensures o) (rw (c .before .enum-told6 .given .1)))
+    let w : tie.After-closed = c .before .before .before in
+    let d = to-delimiter (passed-at w) in
+    let x = to-found d in
+    let y = to-held (x .before .before) in
+    let z = from-held y in
+    let a = z .args in
+    simp (c .of-test2 .ensures, c .before .enum-told6 .given .1)
+    (stops-closing (a .o) (now (a .file)) (a .cs) (a .own) (a .b) (a .h) (a .base) (now (a .s)) (a .multiplier) (z .pre) (coded (coded-at (y .before .before))) (frames y) (next x) (d .delimiter .ensures (a .o) (a .base) (now (a .s))) (passed-at w .enum-told3 .given .1) (w .closed .ensures (a .o)) (c .before .enum-told6 .given .1))
 
 returns-6 : tie.Need-returns-6
 returns-6 c =
-    let y = c .before .before .before .before .before .before .before in
-    let x = y .before .before .before .before in
-    let z = x .before .before .before .before .before .before .before .before in
-    let w = rw (y .before .found .given .1) at (y .before .before .before .next-head .ensures .stands) in
-    let o = z .args .o in
-    let s = now (z .args .s) in
-    let base = z .args .base in
-    λ t r k.
-    let a = frames-on k base (z .pre .1) (x .before .before .before .before .if1 .left) (rw (x .before .held .given .1) at (x .before .before .before .frames-at .ensures .0 (t .basic) (t .channels .value) (k .channels) (k .frames) (k .count) (k .kept))) in
-    let d = found-on (y .before .found .given .0 .0 .at) (k .bytes) (w .1) a (rw (y .before .found .given .1) at (y .before .before .before .next-head .ensures .seen (16 + length s) (omega arith))) in
-    closed-on d (k .multiplier) (rw (c .before .before .before .before .enum-told3 .given .1) at (c .before .before .before .before .before .before .delimiter .ensures o base s)) (z .pre .2) (c .before .before .closed .ensures o) (rw (c .enum-told5 .given .1))
+    let w : tie.After-closed = c .before .before in
+    let d = to-delimiter (passed-at w) in
+    let x = to-found d in
+    let y = to-held (x .before .before) in
+    let z = from-held y in
+    let a = z .args in
+    holds (a .o) (now (a .file)) (a .cs) (a .own) (a .b) (a .h) (a .base) (now (a .s)) (a .multiplier) (z .pre) (coded (coded-at (y .before .before))) (frames y) (next x) (d .delimiter .ensures (a .o) (a .base) (now (a .s))) (passed-at w .enum-told3 .given .1) (w .closed .ensures (a .o)) (c .enum-told5 .given .1)
 
 pub signals-spec : {M : Type 1} → statement M
 signals-spec =
     tie.close
     (tie.spec
-    add-t18
-    add-t19
+    (λ c κs. search needs)
+    (λ c. search needs)
+    (λ c. search needs)
     returns
-    frames-at-requires
-    enum-known-held
-    enum-told
+    (λ c κs. search needs)
+    (λ c. search needs)
+    (λ c. search needs)
     returns-2
     next-head-requires
-    enum-known-found
-    enum-told-2
-    of-head-requires
+    (λ c. search needs)
+    (λ c. search needs)
+    (λ c κs. search needs)
     returns-3
     delimiter-requires
-    enum-told-3
-    enum-told-4
-    of-test-requires
+    (λ c. search needs)
+    (λ c. search needs)
+    (λ c κs. search needs)
     returns-4
     add-closed
     closed-requires
-    enum-told-5
-    enum-told-6
-    of-test-requires-2
+    (λ c. search needs)
+    (λ c. search needs)
+    (λ c κs. search needs)
     returns-5
     returns-6)

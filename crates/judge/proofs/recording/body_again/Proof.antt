@@ -1,94 +1,72 @@
--- `judge::recording::body_again` meets its contract: each answer is that of the walk, by the laws of Recorded.
--- y: behind the tables; z: the start. Assumes nothing.
-use denote.Ref.{now}
+-- `judge::recording::body_again` meets its contract: one law of Recorded for each return.
+-- x: behind the tables; y: the 140's place in the body. Assumes nothing.
 use native.Mathlib.Omega.{arith}
-use lib.ListN.{length}
-use Rattle.judge.proofs.Recorded.{tables-stop, again-short, again-holds, body-continues}
+use denote.Ref.{now}
+use Prim.Native.Nat.{_+_}
+use Rattle.descriptions.specs.Tabled.{TablesOf}
+use Rattle.descriptions.specs.declared.Tabled.the-variants as Tabled
+use Rattle.judge.proofs.Recorded.{again-stops, again-short, again-holds}
 use borrow.Author.Needs.{needs}
 use Rattle.judge.proofs.recording.body_again.Statement.{statement}
 use Rattle.judge.proofs.recording.body_again.Tie as tie
 
-add-base : tie.Need-add-base
-add-base c = search needs
+abbrev start : tie.After-read-tables → tie.Start
+start x = x .before .before
 
-read-tables-requires : tie.Need-read-tables-requires
-read-tables-requires c κs = search needs
+abbrev from-tabled : tie.After-tabled → tie.Start
+from-tabled x = start (x .before .before)
 
-enum-known-tabled : tie.Need-enum-known-tabled
-enum-known-tabled c = search needs
+abbrev to-tabled : tie.After-next → tie.After-tabled
+to-tabled y = y .before .before
 
-enum-told : tie.Need-enum-told
-enum-told c = search needs
-
-of-tables-requires : tie.Need-of-tables-requires
-of-tables-requires c κs = search needs
+-- the tables that passed
+tables : (x : tie.After-tabled) →
+    let a = from-tabled x .args in
+    TablesOf (a .o) (a .at + 16) (now (a .s)) (a .before) (Tabled.On (x .tabled .given .0 .0))
+tables x = rw (x .tabled .given .1) at (x .before .before .read-tables .ensures)
 
 returns : tie.Need-returns
 returns c =
-    let z = c .before .before .before .before .before in
-    simp (c .of-tables .ensures, c .before .enum-told .given .1) ((λ file held h x e is has fills g. tables-stop (z .args .o) file (z .args .at) (now (z .args .s)) (z .args .before) held h fills (rw (c .before .enum-told .given .1) at (c .before .before .before .read-tables .ensures .0 file held is has))), λ n l w. tt)
+    let x : tie.After-read-tables = c .before .before .before in
+    let a = start x .args in
+    simp (c .of-tables .ensures, c .before .enum-told .given .1) (again-stops (a .o) (now (a .s)) (a .at) (a .before) (rw (c .before .enum-told .given .1) at (x .read-tables .ensures)))
 
 add-place : tie.Need-add-place
-add-place c =
-    let y = c .before .before in
-    let b = rw (y .tabled .given .1) at (y .before .before .read-tables .ensures .1) in
-    omega (arith, b .fits, y .before .before .before .before .pre)
+add-place c = let x = to-tabled c in omega (arith, tables x .bounds .fits, from-tabled x .pre)
 
 add-if1 : tie.Need-add-if1
-add-if1 c =
-    let y = c .before .before in
-    let b = rw (y .tabled .given .1) at (y .before .before .read-tables .ensures .1) in
-    omega (arith, b .fits, y .before .before .before .before .pre)
+add-if1 c = let x = to-tabled c in omega (arith, tables x .bounds .fits, from-tabled x .pre)
 
 returns-2 : tie.Need-returns-2
 returns-2 c =
-    let y = c .before .before .before in
-    let z = y .before .before .before .before in
-    ((λ file held h x e is has fills g. absurd (again-short (z .args .o) file (z .args .at) (now (z .args .s)) (z .args .before) held h fills (rw (y .tabled .given .1) at (y .before .before .read-tables .ensures .0 file held is has)) g (c .if1 .taken))), λ n l w. tt)
-
-add-number4 : tie.Need-add-number4
-add-number4 c = search needs
-
-number4-requires : tie.Need-number4-requires
-number4-requires c κs = search needs
-
-add-number4-2 : tie.Need-add-number4-2
-add-number4-2 c = search needs
-
-number4-requires-2 : tie.Need-number4-requires-2
-number4-requires-2 c κs = search needs
-
-cast-frame : tie.Need-cast-frame
-cast-frame c = search needs
-
-places-for-requires : tie.Need-places-for-requires
-places-for-requires c κs = search needs
+    let x = to-tabled (c .before) in
+    let a = from-tabled x .args in
+    again-short (a .o) (now (a .s)) (a .at) (a .before) (tables x) (c .if1 .taken)
 
 returns-3 : tie.Need-returns-3
 returns-3 c =
-    let y = c .before .before .before .before .before .before in
-    let z = y .before .before .before .before in
-    let b = rw (y .tabled .given .1) at (y .before .before .read-tables .ensures .1) in
-    rw (c .places-for .ensures)
-    ((λ file held h x e is has fills g. again-holds (z .args .o) file (z .args .at) (now (z .args .s)) (z .args .before) held h fills (rw (y .tabled .given .1) at (y .before .before .read-tables .ensures .0 file held is has)) g (c .before .number42 .result) (c .before .before .number4 .result) (c .before .before .number4 .ensures .0) (c .before .number42 .ensures .0) (b .fits)), λ n l w. body-continues (z .args .at) (length (now (z .args .s))) n (z .args .before) (y .tabled .given .0 .0) b l w (c .before .number42 .result) (c .before .before .number4 .result))
+    let m : tie.After-number4 = c .before .before in
+    let x = to-tabled (m .before .before) in
+    let a = from-tabled x .args in
+    rw (c .places-for .ensures) (again-holds (a .o) (now (a .s)) (a .at) (a .before) (tables x) (m .number4 .ensures .0) (c .before .number42 .ensures .0))
 
 pub body-again-spec : {M : Type 1} → statement M
 body-again-spec =
     tie.close
     (tie.spec
-    add-base
-    read-tables-requires
-    enum-known-tabled
-    enum-told
-    of-tables-requires
+    (λ c. search needs)
+    (λ c κs. search needs)
+    (λ c. search needs)
+    (λ c. search needs)
+    (λ c κs. search needs)
     returns
     add-place
     add-if1
     returns-2
-    add-number4
-    number4-requires
-    add-number4-2
-    number4-requires-2
-    cast-frame
-    places-for-requires
+    (λ c. search needs)
+    (λ c κs. search needs)
+    (λ c. search needs)
+    (λ c κs. search needs)
+    (λ c. search needs)
+    (λ c κs. search needs)
     returns-3)

@@ -1,121 +1,69 @@
--- `judge::recording::recording_again` meets its contract: each answer is that of the walk, by the laws of Recorded.
--- x: behind the head; y: behind its tests; z: the start. Assumes nothing.
-use denote.Ref.{now}
-use mathlib.Core.Path.{_∙_}
-use Prim.Native.Nat.{_+_}
+-- `judge::recording::recording_again` meets its contract: a head that is refused is none that was accepted, or the body says what it is.
+-- x: behind the head. Assumes nothing.
 use native.Mathlib.Omega.{arith}
-use lib.ListN.{length}
-use Rattle.judge.proofs.Recorded.{head-stop, code-is, admitted, not-refused, recorded-body, part-asked}
+use denote.Ref.{now}
+use lib.ListN.{take, drop}
+use Prim.Native.Nat.{_+_, _-_}
+use Rattle.rules.specs.declared.Kind.the-variants as Kind
+use Rattle.records.specs.Says.{OpenAt}
+use Rattle.records.specs.declared.kinds.Opened.the-variants as Opened
+use Rattle.judge.specs.Recorded.{BodyIn}
+use Rattle.judge.proofs.Recorded.{body-asked, again-refused, again-body}
 use borrow.Author.Needs.{needs}
 use Rattle.judge.proofs.recording.recording_again.Statement.{statement}
 use Rattle.judge.proofs.recording.recording_again.Tie as tie
 
-head-at-requires : tie.Need-head-at-requires
-head-at-requires c κs = search needs
+abbrev start : tie.After-open → tie.Start
+start x = x .before .before
 
-enum-known-found : tie.Need-enum-known-found
-enum-known-found c = search needs
+-- the head that passed, and what its body is
+begun : (x : tie.After-opened) →
+    let a = start (x .before .before) .args in
+    OpenAt (a .o) 0 (now (a .file)) (a .p) Kind.Any (Opened.On (x .opened .given .0 .0) (x .opened .given .0 .1 .0))
+begun x = rw (x .opened .given .1) at (x .before .before .«open» .ensures)
 
-enum-told : tie.Need-enum-told
-enum-told c = search needs
-
-of-head-requires : tie.Need-of-head-requires
-of-head-requires c κs = search needs
+asked : (x : tie.After-opened) →
+    let a = start (x .before .before) .args in
+    let q = x .opened .given .0 .1 .0 in
+    BodyIn (now (a .file)) (take (q - (a .p + 16)) (drop (a .p + 16) (now (a .file)))) (a .p) (a .before)
+asked x =
+    let st = begun x .stands in
+    let z = start (x .before .before) in
+    body-asked (now (z .args .file)) (z .args .p) (x .opened .given .0 .1 .0) (omega arith) (st .inside) (z .pre)
 
 returns : tie.Need-returns
 returns c =
-    let z = c .before .before .before .before .before in
-    simp (c .of-head .ensures, c .before .enum-told .given .1) ((λ held i x e has g. head-stop (z .args .o) (now (z .args .file)) (z .args .p) i held (rw (c .before .enum-told .given .1) at (c .before .before .before .head-at .ensures .seen))), tt)
+    simp (c .of-open .ensures, c .before .enum-told .given .1) (again-refused (rw (c .before .enum-told .given .1) at (c .before .before .before .«open» .ensures)))
 
-admit-requires : tie.Need-admit-requires
-admit-requires c κs =
-    let x = c .before in
-    let w = rw (x .found .given .1) at (x .before .before .head-at .ensures .stands) in
-    search needs
+sub-body-again : tie.Need-sub-body-again
+sub-body-again c = let st = begun (c .before) .stands in omega arith
 
-enum-known-room : tie.Need-enum-known-room
-enum-known-room c = search needs
+part-body-again-start : tie.Need-part-body-again-start
+part-body-again-start c = let st = begun (c .before) .stands in omega arith
 
-enum-told-2 : tie.Need-enum-told-2
-enum-told-2 c = search needs
+part-body-again-end : tie.Need-part-body-again-end
+part-body-again-end c = begun (c .before) .stands .inside
 
-of-step-requires : tie.Need-of-step-requires
-of-step-requires c κs = search needs
+body-again-requires : tie.Need-body-again-requires
+body-again-requires c κs = let b = asked (c .before .before) in omega (arith, b .inside, b .short)
 
 returns-2 : tie.Need-returns-2
 returns-2 c =
-    let x = c .before .before .before .before .before in
-    let z = x .before .before .before .before in
-    let o = z .args .o in
-    let file = now (z .args .file) in
-    let w = rw (x .found .given .1) at (x .before .before .head-at .ensures .stands) in
-    simp (c .of-step .ensures, c .before .enum-told2 .given .1) ((λ held i u e has g. absurd (not-refused o file (z .args .p) i held _ (rw (x .found .given .1) at (x .before .before .head-at .ensures .seen)) (w .0) g (rw (c .before .enum-told2 .given .1) at (c .before .before .before .admit .ensures .seen o 0 file)))), tt)
-
-add-body-again : tie.Need-add-body-again
-add-body-again c = search needs
-
-sub-body-again : tie.Need-sub-body-again
-sub-body-again c =
-    let x = c .before .before .before .before .before in
-    let w = rw (x .found .given .1) at (x .before .before .head-at .ensures .stands) in
-    let v = rw (c .before .room .given .1) at (c .before .before .before .admit .ensures .stands) in
-    omega arith
-
-part-body-again-start : tie.Need-part-body-again-start
-part-body-again-start c =
-    let x = c .before .before .before .before .before in
-    let w = rw (x .found .given .1) at (x .before .before .head-at .ensures .stands) in
-    let v = rw (c .before .room .given .1) at (c .before .before .before .admit .ensures .stands) in
-    omega arith
-
-part-body-again-end : tie.Need-part-body-again-end
-part-body-again-end c =
-    let x = c .before .before .before .before .before in
-    let w = rw (x .found .given .1) at (x .before .before .head-at .ensures .stands) in
-    let v = rw (c .before .room .given .1) at (c .before .before .before .admit .ensures .stands) in
-    omega arith
-
-body-again-requires : tie.Need-body-again-requires
-body-again-requires c κs =
-    let y = c .before .before in
-    let x = y .before .before .before .before in
-    let z = x .before .before .before .before in
-    let w = rw (x .found .given .1) at (x .before .before .head-at .ensures .stands) in
-    let v = rw (y .room .given .1) at (y .before .before .admit .ensures .stands) in
-    let a = part-asked (now (z .args .file)) (z .args .p + 16) (y .room .given .0 .0) (omega arith) (omega arith) (z .args .before) (z .pre .1) (z .pre .2) in
-    omega (arith, a .1, a .2)
-
-returns-3 : tie.Need-returns-3
-returns-3 c =
-    let y = c .before .before .before in
-    let x = y .before .before .before .before in
-    let z = x .before .before .before .before in
-    let o = z .args .o in
-    let file = now (z .args .file) in
-    let p = z .args .p in
-    let w = rw (x .found .given .1) at (x .before .before .head-at .ensures .stands) in
-    let v = rw (y .room .given .1) at (y .before .before .admit .ensures .stands) in
-    let f = rw (x .found .given .1) at (x .before .before .head-at .ensures .seen) in
-    let a = part-asked file (p + 16) (y .room .given .0 .0) (omega arith) (omega arith) (z .args .before) (z .pre .1) (z .pre .2) in
-    ((λ held i u e has g. recorded-body o file p i held (x .found .given .0 .0 .at) f (w .0) (code-is o file p i held _ f (w .0) g) (y .room .given .0 .0) (admitted o file p i held _ f (w .0) g) (v .0) (v .1) (v .2) (z .args .before) (c .body-again .result) (λ l d. c .body-again .ensures .0 file held _ u e (a .0) has l (d ∙ g))), c .body-again .ensures .1 (length file) (a .1) (a .3))
+    let x : tie.After-opened = c .before .before .before in
+    again-body (begun x) (asked x) (c .body-again .ensures)
 
 pub recording-again-spec : {M : Type 1} → statement M
 recording-again-spec =
     tie.close
     (tie.spec
-    head-at-requires
-    enum-known-found
-    enum-told
-    of-head-requires
+    (λ c κs. search needs)
+    (λ c. search needs)
+    (λ c. search needs)
+    (λ c κs. search needs)
     returns
-    admit-requires
-    enum-known-room
-    enum-told-2
-    of-step-requires
-    returns-2
-    add-body-again
+    (λ c. search needs)
     sub-body-again
     part-body-again-start
     part-body-again-end
     body-again-requires
-    returns-3)
+    returns-2)

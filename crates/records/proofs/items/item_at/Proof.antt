@@ -64,7 +64,7 @@ add-t21 c = search needs
 
 returns-5 : tie.Need-returns-5
 unfolding item see over gate _>>=_ _>>_
-returns-5 c = record { seen = simp (places, tests, leb-fits _ _ (c .before .before .before .before .before .before .before .before .before .pre .0), c .if5 .taken, ← c .before .code-ok .ensures, ← c .before .before .number42 .ensures .0, c .before .before .before .if4 .left, c .before .before .before .before .if3 .left, c .before .before .before .before .before .if2 .left, ← c .before .before .before .before .before .before .number4 .ensures .0, c .before .before .before .before .before .before .before .if1 .left) (ap (λ (x : ℕ). goes tt x) (omega arith)); stands = omega arith }
+returns-5 c = record { seen = simp (places, tests, leb-fits _ _ (c .before .before .before .before .before .before .before .before .before .pre .0), c .if5 .taken, ← c .before .code-ok .ensures, ← c .before .before .number42 .ensures .0, c .before .before .before .if4 .left, c .before .before .before .before .if3 .left, c .before .before .before .before .before .if2 .left, ← c .before .before .before .before .before .before .number4 .ensures .0, c .before .before .before .before .before .before .before .if1 .left) (ap (λ (x : ℕ). goes tt x) (omega arith)); stands = record { low = omega arith; inside = omega arith } }
 
 add-t9 : tie.Need-add-t9
 add-t9 c = search needs

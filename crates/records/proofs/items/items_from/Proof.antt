@@ -43,10 +43,10 @@ loop-less c = search needs
 loop-again : tie.Need-loop-again Inv-loop μ-loop
 loop-again c =
     let v = rw (c .before .step .given .1) at (c .before .before .before .item-at .ensures .stands) in
-    (search needs, omega arith, v .1, c .before .before .before .before .before .loop .inv .3 ∙ list-go _ _ _ _ _ _ _ _ (c .before .before .before .before .loop-test .taken) (c .before .before .before .before .before .loop .inv .2) (rw (c .before .step .given .1) at (c .before .before .before .item-at .ensures .seen)))
+    (search needs, omega arith, v .inside, c .before .before .before .before .before .loop .inv .3 ∙ list-go _ _ _ _ _ _ _ _ (c .before .before .before .before .loop-test .taken) (c .before .before .before .before .before .loop .inv .2) (rw (c .before .step .given .1) at (c .before .before .before .item-at .ensures .seen)))
 
 returns-2 : tie.Need-returns-2 Inv-loop μ-loop
-returns-2 c = record { seen = c .before .loop .inv .3 ∙ list-none _ _ _ _ _ _ _ _ (c .loop-test .left); stands = (c .before .loop .inv .1, c .before .loop .inv .2) }
+returns-2 c = record { seen = c .before .loop .inv .3 ∙ list-none _ _ _ _ _ _ _ _ (c .loop-test .left); stands = record { low = c .before .loop .inv .1; inside = c .before .loop .inv .2 } }
 
 pub items-from-spec : {M : Type 1} → statement M
 items-from-spec =

@@ -37,7 +37,7 @@ maker-code-requires c κs = search needs
 returns-2 : tie.Need-returns-2 Inv-loop μ-loop
 returns-2 c =
     let w = rw (c .before .before .before .found .given .1) at (c .before .before .before .before .before .head-at .ensures .stands) in
-    record { seen = (λ fuel h. fueled-done (c .before .before .before .before .before .before .loop .inv .2 fuel h) (c .before .before .before .before .before .before .loop .inv .1) (rw (c .before .before .before .found .given .1) at (c .before .before .before .before .before .head-at .ensures .seen)) _ (w .0) (sym (c .before .maker-code .ensures) ∙ (not-true (c .before .maker-code .result) (c .if1 .taken)))); stands = omega arith }
+    record { seen = (λ fuel h. fueled-done (c .before .before .before .before .before .before .loop .inv .2 fuel h) (c .before .before .before .before .before .before .loop .inv .1) (rw (c .before .before .before .found .given .1) at (c .before .before .before .before .before .head-at .ensures .seen)) _ (w .0) (sym (c .before .maker-code .ensures) ∙ (not-true (c .before .maker-code .result) (c .if1 .taken)))); stands = record { low = omega arith; inside = omega arith } }
 
 admit-requires : tie.Need-admit-requires Inv-loop μ-loop
 admit-requires c κs = let w = rw (c .before .before .before .found .given .1) at (c .before .before .before .before .before .head-at .ensures .stands) in search needs

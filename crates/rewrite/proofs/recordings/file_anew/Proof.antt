@@ -61,7 +61,7 @@ recording-requires c κs =
     let l = y .before .before in
     let x = along-fits (l .loop .inv .along) (y .before .loop-test .taken) _ (y .recording-again .ensures) (st .step .given .1) in
     record {
-      source = record { start = x .0; end = x .1; short = start (l .before .before) .pre .counts .file .short; room = x .2 };
+      source = record { start = x .start; end = x .end; short = start (l .before .before) .pre .counts .file .short; room = x .channels };
       target = omega (arith, l .loop .inv .fits, l .loop .inv .same);
     }
 

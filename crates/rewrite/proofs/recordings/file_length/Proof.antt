@@ -39,7 +39,7 @@ measure-at-requires c κs =
     let y = c .before .before .before in
     let l = y .before .before in
     let x = along-fits (l .loop .inv .along) (y .before .loop-test .taken) _ (y .recording-again .ensures) (c .before .step .given .1) in
-    record { start = x .0; end = x .1; short = l .before .before .pre .file .short; room = x .2 }
+    record { start = x .start; end = x .end; short = l .before .before .pre .file .short; room = x .channels }
 
 add-sum : tie.Need-add-sum Inv-loop μ-loop
 add-sum c =

@@ -63,7 +63,7 @@ returns-4 c =
       reads = r .reads;
       told = λ held i x y.
           let w = within (a .o) s (a .p) (a .q .end) held i (y .went) in
-          r .told held (w .top) x (a .q .end) (w .fills) (record { count = y .channels .0; kept = y .channels .1 }) (omega (arith, y .frames, tested c .if2 .left)) (w .body);
+          r .told held (w .top) x (a .q .end) (w .fills) (y .channels) (omega (arith, y .frames, tested c .if2 .left)) (w .body);
     }
 
 pub measure-at-spec : {M : Type 1} → statement M

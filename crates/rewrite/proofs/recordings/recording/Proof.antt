@@ -85,7 +85,7 @@ body-requires c κs =
     let t = known m .bounds in
     let l : length (take n (drop (a .p + 16) (a .file .now))) ≡ n = length-take-le n (drop (a .p + 16) (a .file .now)) (rw length-drop (omega (arith, z .pre .source .end))) in
     record {
-      channels = record { inside = z .pre .source .room .0; few = z .pre .source .room .1 };
+      channels = z .pre .source .room;
       short = rw l (omega (arith, z .pre .source .short, z .pre .source .end, t .frames, t .end, t .last));
       bounds = rw l t;
       room = room-behind _ (a .k) (measure m .whole .length) (omega (arith, t .whole)) (omega (arith, y .out .given .1, to-room y .if1 .left, z .pre .target));

@@ -1,71 +1,62 @@
--- `signals::frames::all_divide` meets its contract: each of the m channels whose records 125 stand from byte `subs` of s on has a whole number of samples in t seconds.
+-- `signals::frames::all_divide` meets its contract. The loop's invariant: the channels up to i are tested, and stand before byte p.
+-- The measure is how many are left. x: behind the two fields. Assumes nothing.
 use mathlib.Core.Path.{_≡_, refl, sym, _∙_}
 use mathlib.Core.List.{List}
-use Prim.Native.Nat.{_-_, _≤_, _+_, _*_}
+use Prim.Native.Nat.{ℕ, _-_, _≤_, _+_, _*_}
 use native.Mathlib.Nat.{sub-zero}
 use native.Mathlib.Omega.{arith}
-use lib.ListN.{length}
 use borrow.Author.Needs.{needs}
 use borrow.Author.Tests.{not-true, not-false}
+use Rattle.words.specs.declared.Order.{Order}
 use Rattle.rules.specs.Rules as R
-use Rattle.records.specs.Says.{Kept}
+use Rattle.rules.specs.declared.Channels.{Channels}
+use Rattle.records.specs.Says.{ChannelsStand}
 use Rattle.signals.proofs.Divided.{Divided, divided-none, divided-stop, divided-more}
 use Rattle.signals.proofs.frames.all_divide.Statement.{statement}
 use Rattle.signals.proofs.frames.all_divide.Tie as tie
 
+record Going (o : Order) (file : List ℕ) (cs : Channels) (t p i : ℕ) : Type 0 where
+  few : i ≤ cs .count
+  place : p ≡ cs .subs + 256 * i
+  left : (ch : List R.Channel) → ChannelsStand o file cs ch → Divided o file p t (cs .count - i) ch
+
 abbrev Inv-loop : tie.InvT-loop
-Inv-loop o s subs m t p₀ i₀ p i = (i ≤ m) × (p ≡ subs + 256 * i) × ((cs : List R.Channel) → length cs ≡ m → Kept o s subs cs → Divided o s p t (m - i) cs)
+Inv-loop o file t m p₀ i₀ p i = Going o file (record { subs = p₀; count = m }) t p i
 
 abbrev μ-loop : tie.MeasureT-loop
-μ-loop o s subs m t p₀ i₀ p i = m - i
+μ-loop o file t m p₀ i₀ p i = m - i
 
 loop-holds : tie.Need-loop-holds Inv-loop μ-loop
-loop-holds c = (search needs, search needs, λ cs e k. record { rest = cs; count = e ∙ sym (sub-zero _); kept = k; same = refl })
+loop-holds c = record { few = search needs; place = search needs; left = λ ch st. record { rest = ch; count = st .count ∙ sym (sub-zero _); kept = st .kept; same = refl } }
 
-add-number4 : tie.Need-add-number4 Inv-loop μ-loop
-add-number4 c = search needs
-
-number4-requires : tie.Need-number4-requires Inv-loop μ-loop
-number4-requires c κs = search needs
-
-add-number4-2 : tie.Need-add-number4-2 Inv-loop μ-loop
-add-number4-2 c = search needs
-
-number4-requires-2 : tie.Need-number4-requires-2 Inv-loop μ-loop
-number4-requires-2 c κs = search needs
-
-divides-requires : tie.Need-divides-requires Inv-loop μ-loop
-divides-requires c κs = search needs
+abbrev looping : tie.After-number4 Inv-loop μ-loop → tie.At-loop Inv-loop μ-loop
+looping x = x .before .before
 
 returns : tie.Need-returns Inv-loop μ-loop
 returns c =
-    λ cs e k. divided-stop (c .before .before .before .before .before .loop .inv .2 cs e k)
-    (λ x f r. c .before .divides .ensures x (f ∙ sym (c .before .before .before .number4 .ensures .0)) (r ∙ sym (c .before .before .number42 .ensures .0)))
+    let x : tie.After-divides Inv-loop μ-loop = c .before in
+    let w = looping (x .before .before) in
+    λ ch st. divided-stop (w .loop .inv .left ch st)
+    (λ d f r. x .divides .ensures d (f ∙ sym (x .before .before .number4 .ensures .0)) (r ∙ sym (x .before .number42 .ensures .0)))
     (omega arith)
-    (not-true (c .before .divides .result) (c .if1 .taken))
-
-add-p : tie.Need-add-p Inv-loop μ-loop
-add-p c = search needs
-
-add-i : tie.Need-add-i Inv-loop μ-loop
-add-i c = search needs
-
-loop-less : tie.Need-loop-less Inv-loop μ-loop
-loop-less c = search needs
+    (not-true (x .divides .result) (c .if1 .taken))
 
 loop-again : tie.Need-loop-again Inv-loop μ-loop
-loop-again c = (
-  omega arith,
-  omega arith,
-  λ cs e k. divided-more (c .before .before .before .before .before .loop .inv .2 cs e k)
-      (λ x f r. c .before .divides .ensures x (f ∙ sym (c .before .before .before .number4 .ensures .0)) (r ∙ sym (c .before .before .number42 .ensures .0)))
-      _
-      (omega arith)
-      (not-false (c .before .divides .result) (c .if1 .left)),
-)
+loop-again c =
+    let x : tie.After-divides Inv-loop μ-loop = c .before in
+    let w = looping (x .before .before) in
+    record {
+      few = omega arith;
+      place = omega (arith, w .loop .inv .place);
+      left = λ ch st. divided-more (w .loop .inv .left ch st)
+          (λ d f r. x .divides .ensures d (f ∙ sym (x .before .before .number4 .ensures .0)) (r ∙ sym (x .before .number42 .ensures .0)))
+          _
+          (omega arith)
+          (not-false (x .divides .result) (c .if1 .left));
+    }
 
 returns-2 : tie.Need-returns-2 Inv-loop μ-loop
-returns-2 c = let l = c .loop-test .left in λ cs e k. divided-none (c .before .loop .inv .2 cs e k) (omega arith)
+returns-2 c = let l = c .loop-test .left in λ ch st. divided-none (c .before .loop .inv .left ch st) (omega arith)
 
 pub all-divide-spec : {M : Type 1} → statement M
 all-divide-spec =
@@ -74,14 +65,14 @@ all-divide-spec =
     Inv-loop
     μ-loop
     loop-holds
-    add-number4
-    number4-requires
-    add-number4-2
-    number4-requires-2
-    divides-requires
+    (λ c. search needs)
+    (λ c κs. search needs)
+    (λ c. search needs)
+    (λ c κs. search needs)
+    (λ c κs. search needs)
     returns
-    add-p
-    add-i
-    loop-less
+    (λ c. search needs)
+    (λ c. search needs)
+    (λ c. search needs)
     loop-again
     returns-2)

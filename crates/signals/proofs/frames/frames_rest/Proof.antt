@@ -1,97 +1,91 @@
--- `signals::frames::frames_rest` meets its contract: the frames of the record 140 at `at`, and the padding behind them.
-use Prim.Native.Nat.{_-_}
-use mathlib.Core.Path.{refl}
+-- `signals::frames::frames_rest` meets its contract: one law of Answers for each return.
+-- x: behind the frames; t: where they stop; y: behind the padding. Assumes nothing.
+use Prim.Native.Nat.{ℕ, _*_, _-_, _≤_}
 use native.Mathlib.Omega.{arith}
-use Rattle.records.specs.declared.Tested.the-variants as Tested
-use Rattle.signals.proofs.FramesBody.{frames-short, rest-stop, rest-held}
+use denote.Ref.{now}
+use Rattle.records.specs.declared.Step.the-variants as Step
+use Rattle.signals.proofs.FramesBody.{frames-short}
+use Rattle.signals.proofs.Answers.{Taken, rest-refused, rest-unpadded, rest-holds}
 use borrow.Author.Needs.{needs}
 use Rattle.signals.proofs.frames.frames_rest.Statement.{statement}
 use Rattle.signals.proofs.frames.frames_rest.Tie as tie
 
-add-frames-from : tie.Need-add-frames-from
-add-frames-from c = search needs
+abbrev start : tie.After-frames-from → tie.Start
+start x = x .before .before
 
-frames-from-requires : tie.Need-frames-from-requires
-frames-from-requires c κs = search needs
+abbrev padded : tie.After-padding → tie.After-taken
+padded y = y .before .before
 
-enum-known-taken : tie.Need-enum-known-taken
-enum-known-taken c = search needs
+abbrev from-taken : tie.After-taken → tie.Start
+from-taken t = start (t .before .before)
 
-enum-told : tie.Need-enum-told
-enum-told c = search needs
-
-of-step-requires : tie.Need-of-step-requires
-of-step-requires c κs = search needs
+-- the frames that passed
+passed : (t : tie.After-taken) →
+    let a = from-taken t .args in
+    Taken (a .o) (a .at) (now (a .s)) (a .total) (a .f) (Step.On (t .taken .given .0 .0))
+passed t = rw (t .taken .given .1) at (t .before .before .frames-from .ensures)
 
 returns : tie.Need-returns
 returns c =
-    let u = c .before .before .before .before .before .args in
-    ((λ ch e. simp (c .of-step .ensures, c .before .enum-told .given .1) (rest-stop _ _ _ _ _ _ _ (rw (c .before .enum-told .given .1) at (c .before .before .before .frames-from .ensures .seen (u .f .seconds) ch e)))), tt)
-
-add-padding : tie.Need-add-padding
-add-padding c = search needs
+    let x : tie.After-frames-from = c .before .before .before in
+    let a = start x .args in
+    simp (c .of-step .ensures, c .before .enum-told .given .1) (rest-refused (a .o) (a .at) (now (a .s)) (a .total) (a .f) (rw (c .before .enum-told .given .1) at (x .frames-from .ensures)))
 
 padding-requires : tie.Need-padding-requires
-padding-requires c κs = let v = rw (c .before .taken .given .1) at (c .before .before .before .frames-from .ensures .stands) in (v .1, search needs, search needs)
-
-enum-told-2 : tie.Need-enum-told-2
-enum-told-2 c = search needs
-
-enum-told-3 : tie.Need-enum-told-3
-enum-told-3 c = search needs
-
-of-test-requires : tie.Need-of-test-requires
-of-test-requires c κs = search needs
+padding-requires c κs = (passed (c .before) .stands .1, search needs, search needs)
 
 returns-2 : tie.Need-returns-2
 returns-2 c =
-    let u = c .before .before .before .before .before .before .before .before .before .args in
-    let v = rw (c .before .before .before .before .before .taken .given .1) at (c .before .before .before .before .before .before .before .frames-from .ensures .stands) in
-    ((λ ch e. simp (c .of-test .ensures, c .before .enum-told3 .given .1) (rest-held _ _ _ _ _ _ _ _ _ (Tested.Stop _) e (v .0) (rw (c .before .before .before .before .before .taken .given .1) at (c .before .before .before .before .before .before .before .frames-from .ensures .seen (u .f .seconds) ch e)) (rw (c .before .enum-told3 .given .1) at (c .before .before .before .padding .ensures (u .o))))), tt)
+    let y : tie.After-padding = c .before .before .before in
+    let t = padded y in
+    let a = from-taken t .args in
+    simp (c .of-test .ensures, c .before .enum-told3 .given .1) (rest-unpadded (a .o) (a .at) (now (a .s)) (a .total) (a .f) (passed t) (y .padding .ensures (a .o)) (c .before .enum-told3 .given .1))
 
-sub-padded : tie.Need-sub-padded
-sub-padded c = search needs
+-- where the frames stop, seen from behind the padding
+abbrev to-taken : tie.After-enum-told2 → tie.After-taken
+to-taken c = padded (c .before .before)
+
+short : (c : tie.After-enum-told2) →
+    let a = from-taken (to-taken c) .args in
+    a .total * (a .f .size - a .f .filled) ≤ 2147483648000000
+short c =
+    let z = from-taken (to-taken c) in
+    frames-short (z .args .total) (z .args .f .size - z .args .f .filled) (z .pre .body .few) (omega (arith, z .pre .sized .short))
 
 mul-padded : tie.Need-mul-padded
-mul-padded c = let u = c .before .before .before .before .before .before .before .before .args in record { fits = omega (arith, frames-short (u .total) (u .f .size - u .f .filled) (omega arith) (omega arith)) }
+mul-padded c = record { fits = omega (arith, short c) }
 
 sub-padded-2 : tie.Need-sub-padded-2
-sub-padded-2 c = let v = rw (c .before .before .before .before .taken .given .1) at (c .before .before .before .before .before .before .frames-from .ensures .stands) in omega arith
+sub-padded-2 c = omega (arith, passed (to-taken c) .stands .1)
 
 add-padded : tie.Need-add-padded
-add-padded c =
-    let u = c .before .before .before .before .before .before .before .before .args in
-    let v = rw (c .before .before .before .before .taken .given .1) at (c .before .before .before .before .before .before .frames-from .ensures .stands) in
-    omega (arith, frames-short (u .total) (u .f .size - u .f .filled) (omega arith) (omega arith))
-
-add-t13 : tie.Need-add-t13
-add-t13 c = search needs
+add-padded c = omega (arith, passed (to-taken c) .stands .1, short c)
 
 returns-3 : tie.Need-returns-3
 returns-3 c =
-    let u = c .before .before .before .before .before .before .before .before .args in
-    let v = rw (c .before .before .before .before .taken .given .1) at (c .before .before .before .before .before .before .frames-from .ensures .stands) in
-    ((λ ch e. rest-held _ _ _ _ _ _ _ _ _ Tested.Fine e (v .0) (rw (c .before .before .before .before .taken .given .1) at (c .before .before .before .before .before .before .frames-from .ensures .seen (u .f .seconds) ch e)) (rw (c .enum-told2 .given .1) at (c .before .before .padding .ensures (u .o)))), refl)
+    let t = to-taken c in
+    let a = from-taken t .args in
+    rest-holds (a .o) (a .at) (now (a .s)) (a .total) (a .f) (passed t) (c .before .before .padding .ensures (a .o)) (c .enum-told2 .given .1)
 
 pub frames-rest-spec : {M : Type 1} → statement M
 frames-rest-spec =
     tie.close
     (tie.spec
-    add-frames-from
-    frames-from-requires
-    enum-known-taken
-    enum-told
-    of-step-requires
+    (λ c. search needs)
+    (λ c κs. search needs)
+    (λ c. search needs)
+    (λ c. search needs)
+    (λ c κs. search needs)
     returns
-    add-padding
+    (λ c. search needs)
     padding-requires
-    enum-told-2
-    enum-told-3
-    of-test-requires
+    (λ c. search needs)
+    (λ c. search needs)
+    (λ c κs. search needs)
     returns-2
-    sub-padded
+    (λ c. search needs)
     mul-padded
     sub-padded-2
     add-padded
-    add-t13
+    (λ c. search needs)
     returns-3)

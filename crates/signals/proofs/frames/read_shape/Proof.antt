@@ -1,118 +1,147 @@
--- `signals::frames::read_shape` meets its contract: the tests of the fields of the record 140 at `at`, whose body is the part s.
-use mathlib.Core.Path.{sym, ap, _∙_}
-use Prim.Native.Nat.{ℕ, _+_}
+-- `signals::frames::read_shape` meets its contract: one law of Answers for each return.
+-- Assumes nothing.
+use mathlib.Core.Path.{_≡_, sym, _∙_}
+use mathlib.Core.Bool.{true, _&&_}
+use mathlib.Core.List.{List}
+use Prim.Native.Nat.{_+_}
 use native.Mathlib.Omega.{arith}
-use borrow.Author.Tests.{not-true, not-false, eq-eqb}
-use Rattle.walk.proofs.Seen.{gates, tests}
+use borrow.Author.Tests.{not-true, not-false}
+use denote.Ref.{now}
+use lib.Dec.{ltb}
+use Rattle.rules.specs.Rules as R
+use Rattle.records.specs.Says.{ChannelsStand}
 use Rattle.records.proofs.Facts.{between-in}
-use Rattle.signals.specs.Shaped.{fieldTests}
 use Rattle.signals.proofs.FramesBody.{size-fits}
+use Rattle.signals.proofs.Answers.{stops-seconds, stops-periods, stops-size, stops-count, stops-room, shape-holds}
 use borrow.Author.Needs.{needs}
 use Rattle.signals.proofs.frames.read_shape.Statement.{statement}
 use Rattle.signals.proofs.frames.read_shape.Tie as tie
 
-field-requires : tie.Need-field-requires
-field-requires c κs = search needs
+-- the places: the fields, and each test passed
+abbrev begun : tie.After-field → tie.Start
+begun x = x .before .before .before
 
-field-requires-2 : tie.Need-field-requires-2
-field-requires-2 c κs = search needs
+abbrev start : tie.After-field3 → tie.Start
+start x = begun (x .before .before)
 
-cast-size : tie.Need-cast-size
-cast-size c = search needs
+abbrev fields : tie.Else1 → tie.After-field3
+fields x = x .before .before
 
-field-requires-3 : tie.Need-field-requires-3
-field-requires-3 c κs = search needs
+abbrev timed-at : tie.Else2 → tie.Else1
+timed-at x = x .before .before
 
-between-requires : tie.Need-between-requires
-between-requires c κs = search needs
+abbrev divided-at : tie.Else3 → tie.Else2
+divided-at x = x .before .before .before
 
-add-t15 : tie.Need-add-t15
-add-t15 c = search needs
+-- what the tests say
+timed : (x : tie.Else1) → R.between 1 3600 (fields x .before .before .field .result) ≡ true
+timed x = sym (x .before .between .ensures) ∙ not-false (x .before .between .result) (x .if1 .left)
+
+divided : (x : tie.Else2) →
+    let f = fields (timed-at x) in
+    let a = start f .args in
+    (ch : List R.Channel) → ChannelsStand (a .o) (now (a .file)) (a .cs) ch → R.all (R.divides (f .before .before .field .result)) ch ≡ true
+divided x ch st = sym (x .before .all-divide .ensures ch st) ∙ not-false (x .before .all-divide .result) (x .if2 .left)
+
+filled : (x : tie.Else3) →
+    let bytes = x .before .before .sample-bytes .result in
+    let size = fields (timed-at (divided-at x)) .before .field2 .result in
+    R.between (24 + bytes) (24 + bytes + 127) size && ltb size R.limit ≡ true
+filled x = sym (x .before .size-ok .ensures) ∙ not-false (x .before .size-ok .result) (x .if3 .left)
 
 returns : tie.Need-returns
-unfolding fieldTests
-returns c = ((λ ch e k. record { tests = λ v. simp (gates, tests, not-true (c .before .between .result) (c .if1 .taken), ← c .before .between .ensures, ← c .before .before .field3 .ensures .0, ← c .before .before .before .field2 .ensures .0, ← c .before .before .before .before .field .ensures .0); fields = tt }), tt)
-
-all-divide-requires : tie.Need-all-divide-requires
-all-divide-requires c κs = search needs
-
-add-t17 : tie.Need-add-t17
-add-t17 c = search needs
+returns c =
+    let f : tie.After-field3 = c .before .before in
+    let a = start f .args in
+    stops-seconds (a .o) (now (a .file)) (a .cs) (a .at) (now (a .s)) (a .total) (a .multiplier) (f .before .before .field .ensures .0) (f .before .field2 .ensures .0) (f .field3 .ensures .0)
+    (sym (c .before .between .ensures) ∙ not-true (c .before .between .result) (c .if1 .taken))
 
 returns-2 : tie.Need-returns-2
-unfolding fieldTests
-returns-2 c = ((λ ch e k. record { tests = λ v. simp (gates, tests, not-true (c .before .all-divide .result) (c .if2 .taken), ← c .before .all-divide .ensures ch e k, not-false (c .before .before .before .between .result) (c .before .before .if1 .left), ← c .before .before .before .between .ensures, ← c .before .before .before .before .field3 .ensures .0, ← c .before .before .before .before .before .field2 .ensures .0, ← c .before .before .before .before .before .before .field .ensures .0); fields = tt }), tt)
+returns-2 c =
+    let x : tie.Else1 = c .before .before in
+    let f = fields x in
+    let a = start f .args in
+    stops-periods (a .o) (now (a .file)) (a .cs) (a .at) (now (a .s)) (a .total) (a .multiplier) (f .before .before .field .ensures .0) (f .before .field2 .ensures .0) (f .field3 .ensures .0) (timed x)
+    (λ ch st. sym (c .before .all-divide .ensures ch st) ∙ not-true (c .before .all-divide .result) (c .if2 .taken))
 
 sample-bytes-requires : tie.Need-sample-bytes-requires
-sample-bytes-requires c κs = let h = between-in 1 3600 (c .before .before .before .before .before .before .field .result) (sym (c .before .before .before .between .ensures) ∙ not-false (c .before .before .before .between .result) (c .before .before .if1 .left)) in omega arith
-
-size-ok-requires : tie.Need-size-ok-requires
-size-ok-requires c κs = search needs
-
-add-t19 : tie.Need-add-t19
-add-t19 c = search needs
+sample-bytes-requires c κs = let h = between-in 1 3600 _ (timed (timed-at c)) in omega arith
 
 returns-3 : tie.Need-returns-3
-unfolding fieldTests
-returns-3 c = ((λ ch e k. record { tests = λ v. simp (gates, tests, not-true (c .before .size-ok .result) (c .if3 .taken), ← c .before .size-ok .ensures, ← c .before .before .sample-bytes .ensures ch e k, not-false (c .before .before .before .before .all-divide .result) (c .before .before .before .if2 .left), ← c .before .before .before .before .all-divide .ensures ch e k, not-false (c .before .before .before .before .before .before .between .result) (c .before .before .before .before .before .if1 .left), ← c .before .before .before .before .before .before .between .ensures, ← c .before .before .before .before .before .before .before .field3 .ensures .0, ← c .before .before .before .before .before .before .before .before .field2 .ensures .0, ← c .before .before .before .before .before .before .before .before .before .field .ensures .0); fields = tt }), tt)
-
-add-t21 : tie.Need-add-t21
-add-t21 c = search needs
+returns-3 c =
+    let y : tie.Else2 = c .before .before .before in
+    let x = timed-at y in
+    let f = fields x in
+    let a = start f .args in
+    stops-size (a .o) (now (a .file)) (a .cs) (a .at) (now (a .s)) (a .total) (a .multiplier) (f .before .before .field .ensures .0) (f .before .field2 .ensures .0) (f .field3 .ensures .0) (timed x) (divided y)
+    (λ ch st. c .before .before .sample-bytes .ensures ch (st .count) (st .kept))
+    (sym (c .before .size-ok .ensures) ∙ not-true (c .before .size-ok .result) (c .if3 .taken))
 
 returns-4 : tie.Need-returns-4
-unfolding fieldTests
-returns-4 c = ((λ ch e k. record { tests = λ v. simp (gates, tests, c .if4 .taken, not-false (c .before .before .size-ok .result) (c .before .if3 .left), ← c .before .before .size-ok .ensures, ← c .before .before .before .sample-bytes .ensures ch e k, not-false (c .before .before .before .before .before .all-divide .result) (c .before .before .before .before .if2 .left), ← c .before .before .before .before .before .all-divide .ensures ch e k, not-false (c .before .before .before .before .before .before .before .between .result) (c .before .before .before .before .before .before .if1 .left), ← c .before .before .before .before .before .before .before .between .ensures, ← c .before .before .before .before .before .before .before .before .field3 .ensures .0, ← c .before .before .before .before .before .before .before .before .before .field2 .ensures .0, ← c .before .before .before .before .before .before .before .before .before .before .field .ensures .0); fields = tt }), tt)
-
-add-room-ok : tie.Need-add-room-ok
-add-room-ok c = search needs
+returns-4 c =
+    let z : tie.Else3 = c .before in
+    let y = divided-at z in
+    let x = timed-at y in
+    let f = fields x in
+    let a = start f .args in
+    stops-count (a .o) (now (a .file)) (a .cs) (a .at) (now (a .s)) (a .total) (a .multiplier) (f .before .before .field .ensures .0) (f .before .field2 .ensures .0) (f .field3 .ensures .0) (timed x) (divided y)
+    (λ ch st. z .before .before .sample-bytes .ensures ch (st .count) (st .kept)) (filled z) (c .if4 .taken)
 
 room-ok-requires : tie.Need-room-ok-requires
-room-ok-requires c κs = let z = size-fits (c .before .before .before .sample-bytes .result) (c .before .before .before .before .before .before .before .before .before .field2 .result) (sym (c .before .before .size-ok .ensures) ∙ not-false (c .before .before .size-ok .result) (c .before .if3 .left)) in omega arith
-
-add-t25 : tie.Need-add-t25
-add-t25 c = search needs
+room-ok-requires c κs =
+    let l = size-fits _ _ (filled (c .before)) in
+    record { few = omega arith; short = l .1 }
 
 returns-5 : tie.Need-returns-5
-unfolding fieldTests
-returns-5 c = ((λ ch e k. record { tests = λ v. simp (gates, tests, not-true (c .before .room-ok .result) (c .if5 .taken), ← c .before .room-ok .ensures, eq-eqb _ _ (c .before .before .if4 .left), not-false (c .before .before .before .before .size-ok .result) (c .before .before .before .if3 .left), ← c .before .before .before .before .size-ok .ensures, ← c .before .before .before .before .before .sample-bytes .ensures ch e k, not-false (c .before .before .before .before .before .before .before .all-divide .result) (c .before .before .before .before .before .before .if2 .left), ← c .before .before .before .before .before .before .before .all-divide .ensures ch e k, not-false (c .before .before .before .before .before .before .before .before .before .between .result) (c .before .before .before .before .before .before .before .before .if1 .left), ← c .before .before .before .before .before .before .before .before .before .between .ensures, ← c .before .before .before .before .before .before .before .before .before .before .field3 .ensures .0, ← c .before .before .before .before .before .before .before .before .before .before .before .field2 .ensures .0, ← c .before .before .before .before .before .before .before .before .before .before .before .before .field .ensures .0); fields = tt }), tt)
+returns-5 c =
+    let w : tie.Else4 = c .before .before in
+    let z : tie.Else3 = w .before in
+    let y = divided-at z in
+    let x = timed-at y in
+    let f = fields x in
+    let a = start f .args in
+    stops-room (a .o) (now (a .file)) (a .cs) (a .at) (now (a .s)) (a .total) (a .multiplier) (f .before .before .field .ensures .0) (f .before .field2 .ensures .0) (f .field3 .ensures .0) (timed x) (divided y)
+    (λ ch st. z .before .before .sample-bytes .ensures ch (st .count) (st .kept)) (filled z) (w .if4 .left)
+    (sym (c .before .room-ok .ensures) ∙ not-true (c .before .room-ok .result) (c .if5 .taken))
 
 add-t23 : tie.Need-add-t23
-add-t23 c = let z = size-fits (c .before .before .before .before .before .sample-bytes .result) (c .before .before .before .before .before .before .before .before .before .before .before .field2 .result) (sym (c .before .before .before .before .size-ok .ensures) ∙ not-false (c .before .before .before .before .size-ok .result) (c .before .before .before .if3 .left)) in omega arith
+add-t23 c = let l = size-fits _ _ (filled (c .before .before .before)) in omega arith
 
 returns-6 : tie.Need-returns-6
-unfolding fieldTests
 returns-6 c =
-    let z = size-fits (c .before .before .before .before .before .sample-bytes .result) (c .before .before .before .before .before .before .before .before .before .before .before .field2 .result) (sym (c .before .before .before .before .size-ok .ensures) ∙ not-false (c .before .before .before .before .size-ok .result) (c .before .before .before .if3 .left)) in (
-      (λ ch e k. record {
-        tests = λ v. simp (gates, tests, not-false (c .before .room-ok .result) (c .if5 .left), ← c .before .room-ok .ensures, eq-eqb _ _ (c .before .before .if4 .left), not-false (c .before .before .before .before .size-ok .result) (c .before .before .before .if3 .left), ← c .before .before .before .before .size-ok .ensures, ← c .before .before .before .before .before .sample-bytes .ensures ch e k, not-false (c .before .before .before .before .before .before .before .all-divide .result) (c .before .before .before .before .before .before .if2 .left), ← c .before .before .before .before .before .before .before .all-divide .ensures ch e k, not-false (c .before .before .before .before .before .before .before .before .before .between .result) (c .before .before .before .before .before .before .before .before .if1 .left), ← c .before .before .before .before .before .before .before .before .before .between .ensures, ← c .before .before .before .before .before .before .before .before .before .before .field3 .ensures .0, ← c .before .before .before .before .before .before .before .before .before .before .before .field2 .ensures .0, ← c .before .before .before .before .before .before .before .before .before .before .before .before .field .ensures .0);
-        fields = (c .before .before .before .before .before .before .before .before .before .before .before .before .field .ensures .0, c .before .before .before .before .before .before .before .before .before .before .before .field2 .ensures .0, sym (c .before .before .if4 .left) ∙ c .before .before .before .before .before .before .before .before .before .before .field3 .ensures .0, ap (λ (x : ℕ). 24 + x) (c .before .before .before .before .before .sample-bytes .ensures ch e k));
-      }),
-      (omega arith, z .0, z .1),
-    )
+    let w : tie.Else4 = c .before .before in
+    let z : tie.Else3 = w .before in
+    let y = divided-at z in
+    let x = timed-at y in
+    let f = fields x in
+    let a = start f .args in
+    shape-holds (a .o) (now (a .file)) (a .cs) (a .at) (now (a .s)) (a .total) (a .multiplier) (f .before .before .field .ensures .0) (f .before .field2 .ensures .0) (f .field3 .ensures .0) (timed x) (divided y)
+    (λ ch st. z .before .before .sample-bytes .ensures ch (st .count) (st .kept)) (filled z) (w .if4 .left)
+    (sym (c .before .room-ok .ensures) ∙ not-false (c .before .room-ok .result) (c .if5 .left))
 
 pub read-shape-spec : {M : Type 1} → statement M
 read-shape-spec =
     tie.close
     (tie.spec
-    field-requires
-    field-requires-2
-    cast-size
-    field-requires-3
-    between-requires
-    add-t15
+    (λ c κs. search needs)
+    (λ c κs. search needs)
+    (λ c. search needs)
+    (λ c κs. search needs)
+    (λ c κs. search needs)
+    (λ c. search needs)
     returns
-    all-divide-requires
-    add-t17
+    (λ c κs. search needs)
+    (λ c. search needs)
     returns-2
     sample-bytes-requires
-    size-ok-requires
-    add-t19
+    (λ c κs. search needs)
+    (λ c. search needs)
     returns-3
-    add-t21
+    (λ c. search needs)
     returns-4
-    add-room-ok
+    (λ c. search needs)
     room-ok-requires
-    add-t25
+    (λ c. search needs)
     returns-5
     add-t23
     returns-6)

@@ -7,10 +7,10 @@ use Rattle.signals.proofs.frames.room_ok.Statement.{statement}
 use Rattle.signals.proofs.frames.room_ok.Tie as tie
 
 mul-used : tie.Need-mul-used
-mul-used c = record { fits = omega (arith, frames-short (c .args .total) (c .args .size) (c .pre .0) (omega arith)) }
+mul-used c = record { fits = omega (arith, frames-short (c .args .total) (c .args .size) (c .pre .few) (omega arith)) }
 
 add-used : tie.Need-add-used
-add-used c = omega (arith, frames-short (c .args .total) (c .args .size) (c .pre .0) (omega arith))
+add-used c = omega (arith, frames-short (c .args .total) (c .args .size) (c .pre .few) (omega arith))
 
 returns : tie.Need-returns
 returns c = simp (tests, c .if1 .taken)

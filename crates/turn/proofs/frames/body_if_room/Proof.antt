@@ -35,28 +35,30 @@ fitted : (c : tie.Else2) →
 fitted c = let r = c .before .fits2 in both-true _ _ _ _ (r .result) (r .ensures) (not-false (r .result) (c .if2 .left))
 
 returns : tie.Need-returns
-returns c = (
-  c .before .before .before .before .before .before .before .pre .3,
-  λ b k ch hd f e n kept fills g. absurd (omega (arith, c .if1 .taken, told (c .before) b k ch hd f e fills g .short)),
-)
+returns c = record {
+  inside = c .before .before .before .before .before .before .before .pre .target;
+  wrote = λ b k ch hd f e st fills g. absurd (omega (arith, c .if1 .taken, told (c .before) b k ch hd f e fills g .short));
+}
 
 returns-2 : tie.Need-returns-2
 returns-2 c =
     let x = c .before .before .before .before in
     let r = c .before .fits2 in
-    let m = c .before .before .sample-bytes in (
-      x .before .before .before .before .before .before .pre .3,
-      λ b k ch hd f e n kept fills g. absurd (framed-fits (told x b k ch hd f e fills g) (m .result) (r .result) (m .ensures ch n kept) (r .ensures) (not-true (r .result) (c .if2 .taken))),
-    )
+    let m = c .before .before .sample-bytes in
+    record {
+      inside = x .before .before .before .before .before .before .pre .target;
+      wrote = λ b k ch hd f e st fills g. absurd (framed-fits (told x b k ch hd f e fills g) (m .result) (r .result) (m .ensures ch (st .count) (st .kept)) (r .ensures) (not-true (r .result) (c .if2 .taken)));
+    }
 
 returns-3 : tie.Need-returns-3
 returns-3 c =
     let z = c .before .before .before .before .before .before .before .before .before .before .before in
-    let a = z .args in (
-      z .pre .3,
-      λ b k ch hd f e n kept fills g.
-          pastes-full (now (a .out)) (now (a .out)) (a .k) (a .k) (copy (a .w) b (now (a .s)) b (R.framesBody k ch hd)) (omega (arith, c .if3 .taken, framed-length (a .w) b (now (a .s)) k ch hd fills g (z .pre .2))),
-    )
+    let a = z .args in
+    record {
+      inside = z .pre .target;
+      wrote = λ b k ch hd f e st fills g.
+          pastes-full (now (a .out)) (now (a .out)) (a .k) (a .k) (copy (a .w) b (now (a .s)) b (R.framesBody k ch hd)) (omega (arith, c .if3 .taken, framed-length (a .w) b (now (a .s)) k ch hd fills g (z .pre .fields)));
+    }
 
 add-filled : tie.Need-add-filled
 add-filled c = omega (arith, fitted (c .before) .0, c .before .before .before .before .before .before .field2 .ensures .1)
@@ -68,7 +70,7 @@ frames-body-requires c κs =
     let l = length (now (a .s)) in
     let t = fitted (c .before .before) in
     let e : a .k + l - a .k ≡ l = omega arith in
-    (z .pre .0, omega (arith, c .before .before .before .before .before .if1 .left), omega arith, t .0, t .1, length-take-le (a .k + l - a .k) (drop (a .k) (now (a .out))) (rw length-drop (omega (arith, c .before .if3 .left))) ∙ e)
+    (z .pre .channels .inside, omega (arith, c .before .before .before .before .before .if1 .left), omega arith, t .0, t .1, length-take-le (a .k + l - a .k) (drop (a .k) (now (a .out))) (rw length-drop (omega (arith, c .before .if3 .left))) ∙ e)
 
 returns-4 : tie.Need-returns-4
 returns-4 c =
@@ -76,13 +78,14 @@ returns-4 c =
     let z = x .before .before .before .before .before .before in
     let a = z .args in
     let s = now (a .s) in
-    let m = c .before .before .before .before .before .before .before .sample-bytes in (
-      omega (arith, c .before .before .before .before .if3 .left, z .pre .3),
-      λ b k ch hd f e n kept fills g.
+    let m = c .before .before .before .before .before .before .before .sample-bytes in
+    record {
+      inside = omega (arith, c .before .before .before .before .if3 .left, z .pre .target);
+      wrote = λ b k ch hd f e st fills g.
           pastes-whole (now (a .out)) _ (copy (a .w) b s b (R.framesBody k ch hd)) (a .k) (a .k + length s)
-          (c .before .before .frames-body .ensures b k ch hd f e n kept (ap (λ (i : ℕ). 24 + i) (m .ensures ch n kept)) (sym (x .before .before .field .ensures .0)) (sym (x .before .field2 .ensures .0)) (sym (x .field3 .ensures .0)) fills g)
-          (omega (arith, framed-length (a .w) b s k ch hd fills g (z .pre .2))),
-    )
+          (c .before .before .frames-body .ensures b k ch hd f e st (ap (λ (i : ℕ). 24 + i) (m .ensures ch (st .count) (st .kept))) (sym (x .before .before .field .ensures .0)) (sym (x .before .field2 .ensures .0)) (sym (x .field3 .ensures .0)) fills g)
+          (omega (arith, framed-length (a .w) b s k ch hd fills g (z .pre .fields)));
+    }
 
 pub body-if-room-spec : {M : Type 1} → statement M
 body-if-room-spec =

@@ -72,7 +72,7 @@ same-length : tie.Need-same-length
 same-length c = search needs
 
 returns : tie.Need-returns
-returns c b room i ch n k e =
+returns c b room i ch st e =
     let x = c .before .before .before .before .before .before .before in
     let y = x .before .before .before .before .before in
     let z = y .before .before .before .before .before .before in
@@ -80,7 +80,7 @@ returns c b room i ch n k e =
     let s = now (a .s) in
     let m : length (take (a .filled - 16) (drop 16 s)) ≡ 8 + sampleBytes (a .t) ch = simp (length-take, length-drop) (omega arith) in
     frame-copied (a .w) b s (now (a .d)) (a .t) (a .filled) room i ch _ _ _ _ _ (z .pre .2) (z .pre .3) (z .pre .4) e
-    (y .numbers .ensures b) refl (x .frame-body .ensures (b + 16) ch n k m) refl (c .before .before .copy-run .ensures)
+    (y .numbers .ensures b) refl (x .frame-body .ensures (b + 16) ch (st .count) (st .kept) m) refl (c .before .before .copy-run .ensures)
 
 pub frame-spec : {M : Type 1} → statement M
 frame-spec =

@@ -11,7 +11,7 @@ returns : tie.Need-returns
 returns c =
     let z = c .before .before .before .before in
     let a = z .args in
-    frames-short (a .w) (now (a .file)) (a .cs) (now (a .s)) (a .p) (a .end) (z .pre .2) (z .pre .3) (now (a .out)) (a .k) (z .pre .4) (c .if1 .taken)
+    frames-short (a .w) (now (a .file)) (a .cs) (now (a .s)) (a .p) (a .end) (z .pre .headed) (z .pre .inside) (now (a .out)) (a .k) (z .pre .target) (c .if1 .taken)
 
 returns-2 : tie.Need-returns-2
 returns-2 c =
@@ -20,7 +20,7 @@ returns-2 c =
     let a = z .args in
     let y = c .before .before .body-if-room in
     let h = x .before .head in
-    frames-sent (a .w) (now (a .file)) (a .cs) (now (a .s)) (a .p) (a .end) (z .pre .2) (z .pre .3) (now (a .out)) (a .k) _ _ (h .result) (y .result) (h .ensures .1) (omega (arith, y .ensures .0, x .out .given)) (y .ensures .1)
+    frames-sent (a .w) (now (a .file)) (a .cs) (now (a .s)) (a .p) (a .end) (z .pre .headed) (z .pre .inside) (now (a .out)) (a .k) _ _ (h .result) (y .result) (h .ensures .1) (omega (arith, y .ensures .inside, x .out .given)) (y .ensures .wrote)
 
 pub frames-spec : {M : Type 1} → statement M
 frames-spec =

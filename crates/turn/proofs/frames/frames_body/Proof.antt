@@ -11,7 +11,7 @@ use lib.Seq.{length-take-le}
 use Rattle.words.specs.Numbers.{numberAt}
 use Rattle.walk.specs.See.{see, goes}
 use Rattle.rules.specs.Rules as R
-use Rattle.records.specs.Says.{Kept}
+use Rattle.records.specs.Says.{ChannelsStand}
 use Rattle.rows.proofs.Written.{series-reach}
 use Rattle.bodies.specs.Copy.{copy}
 use Rattle.turn.proofs.Turning.{Framing, framed, framing-start, framing-more, framing-end}
@@ -22,7 +22,7 @@ use Rattle.turn.proofs.frames.frames_body.Tie as tie
 abbrev Inv-loop : tie.InvT-loop
 Inv-loop w file cs t filled size count s d₀ widths reserve from₀ k₀ i₀ d from k i =
     (i ≤ count) × (k ≡ 16 + size * i) × (k ≤ length s) × (length d ≡ length s) × (from ≡ k) ×
-    ((b : ℕ) (c : R.Basic) (ch : List R.Channel) (hd : R.Head) (f : R.Frames) (e : ℕ) → length ch ≡ cs .count → Kept (w .from) file (cs .subs) ch → filled ≡ 24 + R.sampleBytes t ch →
+    ((b : ℕ) (c : R.Basic) (ch : List R.Channel) (hd : R.Head) (f : R.Frames) (e : ℕ) → ChannelsStand (w .from) file cs ch → filled ≡ 24 + R.sampleBytes t ch →
     numberAt (w .from) 4 s 0 ≡ t → numberAt (w .from) 4 s 4 ≡ size → numberAt (w .from) 4 s 8 ≡ count → R.span hd ≡ 16 + length s → see (w .from) b s b (R.framesBody c ch hd) ≡ goes f e →
     Framing w b s d ch t size count (copy w b s b (R.framesBody c ch hd)) k i)
 
@@ -76,7 +76,7 @@ loop-holds c =
       search needs,
       c .before .d2 .given .1 ∙ (c .before .before .before .before .before .before .d .given .1 ∙ z .pre .5),
       refl,
-      λ b k ch hd f e n g l e₁ e₂ e₃ q v. framing-start (framed (a .w) b (now (a .s)) k ch hd q v (a .t) (a .size) (a .count) e₁ e₂ e₃) (now (a .d)) _ _ _ (z .pre .5) (x .numbers .ensures b) refl (y .reserved .ensures (b + 12)),
+      λ b k ch hd f e st l e₁ e₂ e₃ q v. framing-start (framed (a .w) b (now (a .s)) k ch hd q v (a .t) (a .size) (a .count) e₁ e₂ e₃) (now (a .d)) _ _ _ (z .pre .5) (x .numbers .ensures b) refl (y .reserved .ensures (b + 12)),
     )
 
 -- the frame that a turn writes ends in the body
@@ -140,9 +140,9 @@ loop-again c =
       reach x,
       c .before .d3 .given .1 ∙ l .inv .3,
       omega arith,
-      λ b k ch hd f e n g j e₁ e₂ e₃ q v.
-          framing-more (l .inv .5 b k ch hd f e n g j e₁ e₂ e₃ q v) (l .k + a .size - l .k) (l .k + a .size - l .k) _ (x .loop-test .taken) (reach x) m m
-          (rw (l .inv .4) at (y .frame .ensures (b + l .k) (length (now (a .s)) - l .k) (l .i + 1) ch n g j)),
+      λ b k ch hd f e st j e₁ e₂ e₃ q v.
+          framing-more (l .inv .5 b k ch hd f e st j e₁ e₂ e₃ q v) (l .k + a .size - l .k) (l .k + a .size - l .k) _ (x .loop-test .taken) (reach x) m m
+          (rw (l .inv .4) at (y .frame .ensures (b + l .k) (length (now (a .s)) - l .k) (l .i + 1) ch st j)),
     )
 
 sub-copy-run : tie.Need-sub-copy-run Inv-loop μ-loop
@@ -175,7 +175,7 @@ returns c =
     let l = x .before .loop in
     let z = x .before .before .before .before .before .before .before .before .before .before .before .before .before .before .before .before in
     let h : l .i ≡ z .args .count = omega arith in
-    λ b k ch hd f e n g m e₁ e₂ e₃ q v. framing-end (l .inv .5 b k ch hd f e n g m e₁ e₂ e₃ q v) _ (c .before .before .before .before .before .loop-test .left) (rw h at (l .inv .1)) (l .inv .2) (rw (l .inv .4) at (c .before .before .copy-run .ensures))
+    λ b k ch hd f e st m e₁ e₂ e₃ q v. framing-end (l .inv .5 b k ch hd f e st m e₁ e₂ e₃ q v) _ (c .before .before .before .before .before .loop-test .left) (rw h at (l .inv .1)) (l .inv .2) (rw (l .inv .4) at (c .before .before .copy-run .ensures))
 
 pub frames-body-spec : {M : Type 1} → statement M
 frames-body-spec =

@@ -7,10 +7,10 @@ use native.Mathlib.Omega.{arith}
 use lib.ListN.{length}
 use Rattle.walk.specs.See.{goes, see}
 use Rattle.rules.specs.Rules.{Held, Head, Placed, span, recordingBody}
+use Rattle.records.specs.Says.{ChannelsStand}
 use Rattle.children.specs.Children.{knownOf}
 use Rattle.children.proofs.Visiting.{recorded}
 use Rattle.bodies.specs.Copy.{copy}
-use Rattle.turn.specs.Turn.{Subs}
 use Rattle.turn.proofs.Sent.{SentUpTo, sent-none, sent-more, sent-last}
 use borrow.Author.Needs.{needs}
 use Rattle.turn.proofs.recordings.body.Statement.{statement}
@@ -19,7 +19,7 @@ use Rattle.turn.proofs.recordings.body.Tie as tie
 abbrev Inv-loop : tie.InvT-loop
 Inv-loop w file cs s base out₀ k o p₀ next₀ out p next =
     (p ≤ length s) × (next ≤ length out) × (length out ≡ length out₀) ×
-    ((held : Option Held) (h : Head) (x : Placed) (e : ℕ) → span h ≡ 16 + length s → Subs (w .from) file cs (x .recording .channels) → see (w .from) base s base (recordingBody held h) ≡ goes x e →
+    ((held : Option Held) (h : Head) (x : Placed) (e : ℕ) → span h ≡ 16 + length s → ChannelsStand (w .from) file cs (x .recording .channels) → see (w .from) base s base (recordingBody held h) ≡ goes x e →
     SentUpTo w base s (knownOf x) out₀ out k next p (copy w base s base (recordingBody held h)))
 
 abbrev μ-loop : tie.MeasureT-loop
@@ -39,7 +39,7 @@ child-requires : tie.Need-child-requires Inv-loop μ-loop
 child-requires c κs =
     let y = c .before .before in
     let v = recorded (y .there .given .1) (y .before .before .record-at .ensures) in
-    omega (arith, v .place, v .least, v .inside)
+    record { channels = search needs; headed = omega (arith, v .place, v .least); inside = v .inside; target = search needs }
 
 loop-less : tie.Need-loop-less Inv-loop μ-loop
 loop-less c =

@@ -61,7 +61,7 @@ recording-requires c κs =
     let y = st .before .before in
     let l = y .before .before in
     let x = along-fits (l .loop .inv .along) (y .before .loop-test .taken) _ (y .recording-again .ensures) (st .step .given .1) in
-    (x .0, x .1, start (l .before .before) .pre .1, omega (arith, l .loop .inv .room, l .loop .inv .same), x .2)
+    (x .start, x .end, start (l .before .before) .pre .1, omega (arith, l .loop .inv .room, l .loop .inv .same), x .channels)
 
 loop-again : tie.Need-loop-again Inv-loop μ-loop
 loop-again c =
