@@ -6,7 +6,6 @@ use Prim.Native.Nat.{ℕ}
 use denote.Ref.{RefT}
 use Rattle.walk.proofs.Unique.{one}
 use Rattle.rules.specs.declared.Refusal.{Refusal}
-use Rattle.records.specs.declared.items.Holder.{Holder}
 use Rattle.recordings.specs.Answers.{Answer, value, refusal}
 use Rattle.recordings.specs.declared.FactsTold.{FactsTold}
 use Rattle.recordings.specs.declared.FactsTold.the-variants as FactsTold
@@ -16,8 +15,8 @@ use Rattle.samples.specs.declared.SampleTold.{SampleTold}
 use Rattle.samples.specs.declared.SampleTold.the-variants as SampleTold
 use Rattle.samples.specs.declared.ClockTold.{ClockTold}
 use Rattle.samples.specs.declared.ClockTold.the-variants as ClockTold
+use Rattle.questions.specs.Contracts.{FactsAnswer, ChannelAnswer, PatientItemAnswer, EventItemAnswer, ClockAnswer, CountAnswer, SampleAnswer, ViewAnswer}
 use Rattle.questions.specs.Meanings.{meaningF, meaningD, meaningI, meaningT, meaningC, meaningS}
-use Rattle.questions.specs.Questions.{factsOf, channelOf, itemOf, clockOf, countOf, sampleOf, viewOf, Shows}
 use Rattle.questions.specs.declared.channels.ChannelTold.{ChannelTold}
 use Rattle.questions.specs.declared.channels.ChannelTold.the-variants as ChannelTold
 use Rattle.questions.specs.declared.items.ItemTold.{ItemTold}
@@ -52,26 +51,29 @@ sample-back : (a : SampleTold) → answer SampleTold.Value SampleTold.Refused (m
 sample-back (SampleTold.Value x) = refl
 sample-back (SampleTold.Refused r) = refl
 
--- each question; `item-unique` is both `patient_item` and `event_item`
+-- each question, of the definition that its `ensures` cites
 module _ (s : List ℕ) (i : ℕ) where
-  pub facts-unique : (a b : FactsTold) → meaningF a ≡ factsOf s i → meaningF b ≡ factsOf s i → a ≡ b
+  pub facts-unique : (a b : FactsTold) → FactsAnswer s i a → FactsAnswer s i b → a ≡ b
   facts-unique a b = one meaningF (answer FactsTold.Facts FactsTold.Refused) facts-back
 
-  pub channel-unique : (j : ℕ) (a b : ChannelTold) → meaningD a ≡ channelOf s i j → meaningD b ≡ channelOf s i j → a ≡ b
+  pub channel-unique : (j : ℕ) (a b : ChannelTold) → ChannelAnswer s i j a → ChannelAnswer s i j b → a ≡ b
   channel-unique j a b = one meaningD (answer ChannelTold.Channel ChannelTold.Refused) channel-back
 
-  pub item-unique : (k : Holder) (j : ℕ) (a b : ItemTold) → meaningI a ≡ itemOf k s i j → meaningI b ≡ itemOf k s i j → a ≡ b
-  item-unique k j a b = one meaningI (answer ItemTold.Item ItemTold.Refused) item-back
+  pub patient-item-unique : (j : ℕ) (a b : ItemTold) → PatientItemAnswer s i j a → PatientItemAnswer s i j b → a ≡ b
+  patient-item-unique j a b = one meaningI (answer ItemTold.Item ItemTold.Refused) item-back
 
-  pub clock-unique : (j : ℕ) (a b : ClockTold) → meaningT a ≡ clockOf s i j → meaningT b ≡ clockOf s i j → a ≡ b
+  pub event-item-unique : (j : ℕ) (a b : ItemTold) → EventItemAnswer s i j a → EventItemAnswer s i j b → a ≡ b
+  event-item-unique j a b = one meaningI (answer ItemTold.Item ItemTold.Refused) item-back
+
+  pub clock-unique : (j : ℕ) (a b : ClockTold) → ClockAnswer s i j a → ClockAnswer s i j b → a ≡ b
   clock-unique j a b = one meaningT (answer ClockTold.At ClockTold.Refused) clock-back
 
-  pub count-unique : (j k : ℕ) (a b : CountTold) → meaningC a ≡ countOf s i j k → meaningC b ≡ countOf s i j k → a ≡ b
+  pub count-unique : (j k : ℕ) (a b : CountTold) → CountAnswer s i j k a → CountAnswer s i j k b → a ≡ b
   count-unique j k a b = one meaningC (answer CountTold.Samples CountTold.Refused) count-back
 
-  pub sample-unique : (j k n : ℕ) (a b : SampleTold) → meaningS a ≡ sampleOf s i j k n → meaningS b ≡ sampleOf s i j k n → a ≡ b
+  pub sample-unique : (j k n : ℕ) (a b : SampleTold) → SampleAnswer s i j k n a → SampleAnswer s i j k n b → a ≡ b
   sample-unique j k n a b = one meaningS (answer SampleTold.Value SampleTold.Refused) sample-back
 
 -- its bytes, and where it lies in memory
-pub view-unique : (file : RefT (List ℕ)) (i j k : ℕ) (r u : RefT (List ℕ)) → Shows file (viewOf (file .now) i j k) r → Shows file (viewOf (file .now) i j k) u → (r .now ≡ u .now) × (r .ptr ≡ u .ptr)
+pub view-unique : (file : RefT (List ℕ)) (i j k : ℕ) (r u : RefT (List ℕ)) → ViewAnswer file i j k r → ViewAnswer file i j k u → (r .now ≡ u .now) × (r .ptr ≡ u .ptr)
 view-unique file i j k r u x y = (x .bytes ∙ sym (y .bytes), λ n. ((x .block ∙ sym (y .block)) n, (x .offset ∙ sym (y .offset)) n))

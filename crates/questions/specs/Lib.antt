@@ -2,3 +2,4 @@ pub mod Values
 pub mod Questions
 pub mod Meanings
 pub mod Holding
+pub mod Contracts

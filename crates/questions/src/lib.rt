@@ -3,9 +3,8 @@
 pub mod channels;
 pub mod items;
 
-ghost use mathlib.Core.Path.{_≡_};
-ghost use Rattle.questions.specs.Questions.{factsOf, channelOf, patientItemOf, eventItemOf, clockOf, countOf, sampleOf, viewOf, PartIs, Shows};
-ghost use Rattle.questions.specs.Meanings.{meaningF, meaningD, meaningI, meaningT, meaningC, meaningS};
+ghost use Rattle.questions.specs.Contracts.{FactsAnswer, ChannelAnswer, PatientItemAnswer, EventItemAnswer, ClockAnswer, CountAnswer, SampleAnswer, ViewAnswer};
+ghost use Rattle.questions.specs.Questions.{viewOf, PartIs};
 use crate::channels::ChannelTold;
 use crate::channels::Text;
 use crate::items::ItemTold;
@@ -23,7 +22,7 @@ use samples::SamplesFound;
 
 // How many channels and frames a recording has, and the seconds of a frame: M, F and T.
 pub fn facts(file: &[u8], recording: usize) -> FactsTold
-    ensures { λ a. ⌜ meaningF a ≡ factsOf (now (file .entry)) recording ⌝ }
+    ensures { λ a. ⌜ FactsAnswer (now (file .entry)) recording a ⌝ }
 {
     let found = recordings::recording_asked(file, recording);
     let RecordingFound::At(_, q) = found else {
@@ -34,7 +33,7 @@ pub fn facts(file: &[u8], recording: usize) -> FactsTold
 
 // The descriptor of a channel that holds for a recording.
 pub fn channel(file: &[u8], recording: usize, channel: usize) -> ChannelTold
-    ensures { λ a. ⌜ meaningD a ≡ channelOf (now (file .entry)) recording channel ⌝ }
+    ensures { λ a. ⌜ ChannelAnswer (now (file .entry)) recording channel a ⌝ }
 {
     let found = recordings::recording_asked(file, recording);
     let RecordingFound::At(order, q) = found else {
@@ -49,21 +48,21 @@ pub fn channel(file: &[u8], recording: usize, channel: usize) -> ChannelTold
 
 // An item of the record 130 that holds for a recording.
 pub fn patient_item(file: &[u8], recording: usize, item: usize) -> ItemTold
-    ensures { λ a. ⌜ meaningI a ≡ patientItemOf (now (file .entry)) recording item ⌝ }
+    ensures { λ a. ⌜ PatientItemAnswer (now (file .entry)) recording item a ⌝ }
 {
     items::item_asked(file, Holder::Patient, recording, item)
 }
 
 // An item of a recording's own record 200.
 pub fn event_item(file: &[u8], recording: usize, item: usize) -> ItemTold
-    ensures { λ a. ⌜ meaningI a ≡ eventItemOf (now (file .entry)) recording item ⌝ }
+    ensures { λ a. ⌜ EventItemAnswer (now (file .entry)) recording item a ⌝ }
 {
     items::item_asked(file, Holder::Event, recording, item)
 }
 
 // The clock time of a frame.
 pub fn clock(file: &[u8], recording: usize, frame: usize) -> ClockTold
-    ensures { λ a. ⌜ meaningT a ≡ clockOf (now (file .entry)) recording frame ⌝ }
+    ensures { λ a. ⌜ ClockAnswer (now (file .entry)) recording frame a ⌝ }
 {
     let framed = samples::frame_asked(file, recording, frame);
     let FrameFound::At(order, _, at) = framed else {
@@ -74,7 +73,7 @@ pub fn clock(file: &[u8], recording: usize, frame: usize) -> ClockTold
 
 // How many samples of a channel a frame has.
 pub fn count(file: &[u8], recording: usize, frame: usize, channel: usize) -> CountTold
-    ensures { λ a. ⌜ meaningC a ≡ countOf (now (file .entry)) recording frame channel ⌝ }
+    ensures { λ a. ⌜ CountAnswer (now (file .entry)) recording frame channel a ⌝ }
 {
     let ran = samples::samples_asked(file, recording, frame, channel);
     let SamplesFound::At(_, run) = ran else {
@@ -91,7 +90,7 @@ pub fn sample(
     channel: usize,
     sample: usize,
 ) -> SampleTold
-    ensures { λ a. ⌜ meaningS a ≡ sampleOf (now (file .entry)) recording frame channel sample ⌝ }
+    ensures { λ a. ⌜ SampleAnswer (now (file .entry)) recording frame channel sample a ⌝ }
 {
     let ran = samples::samples_asked(file, recording, frame, channel);
     let SamplesFound::At(order, run) = ran else {
@@ -124,7 +123,7 @@ pub fn view_part(file: &[u8], recording: usize, frame: usize, channel: usize) ->
 
 // The bytes of a channel in a frame, as a part of the file.
 pub fn view(file: &[u8], recording: usize, frame: usize, channel: usize) -> &[u8]
-    ensures { λ r. ⌜ Shows (file .entry) (viewOf (now (file .entry)) recording frame channel) r ⌝ }
+    ensures { λ r. ⌜ ViewAnswer (file .entry) recording frame channel r ⌝ }
 {
     let part = view_part(file, recording, frame, channel);
     let at = part.at;

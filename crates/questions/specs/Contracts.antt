@@ -1,0 +1,41 @@
+-- What each question answers, in one definition: its `ensures` cites it, and that there is one answer is proved of it.
+-- Assumes nothing.
+use mathlib.Core.Path.{_≡_}
+use mathlib.Core.List.{List}
+use Prim.Native.Nat.{ℕ}
+use denote.Ref.{RefT}
+use Rattle.recordings.specs.declared.FactsTold.{FactsTold}
+use Rattle.samples.specs.declared.ClockTold.{ClockTold}
+use Rattle.samples.specs.declared.CountTold.{CountTold}
+use Rattle.samples.specs.declared.SampleTold.{SampleTold}
+use Rattle.questions.specs.Meanings.{meaningF, meaningD, meaningI, meaningT, meaningC, meaningS}
+use Rattle.questions.specs.Questions.{factsOf, channelOf, patientItemOf, eventItemOf, clockOf, countOf, sampleOf, viewOf, Shows}
+use Rattle.questions.specs.declared.channels.ChannelTold.{ChannelTold}
+use Rattle.questions.specs.declared.items.ItemTold.{ItemTold}
+
+-- of the file s: recording i, and in it channel, item or frame j; of a frame channel k, and its sample n
+module _ (s : List ℕ) (i : ℕ) where
+  abbrev pub FactsAnswer : FactsTold → Type 0
+  FactsAnswer a = meaningF a ≡ factsOf s i
+
+  abbrev pub ChannelAnswer : ℕ → ChannelTold → Type 0
+  ChannelAnswer j a = meaningD a ≡ channelOf s i j
+
+  abbrev pub PatientItemAnswer : ℕ → ItemTold → Type 0
+  PatientItemAnswer j a = meaningI a ≡ patientItemOf s i j
+
+  abbrev pub EventItemAnswer : ℕ → ItemTold → Type 0
+  EventItemAnswer j a = meaningI a ≡ eventItemOf s i j
+
+  abbrev pub ClockAnswer : ℕ → ClockTold → Type 0
+  ClockAnswer j a = meaningT a ≡ clockOf s i j
+
+  abbrev pub CountAnswer : ℕ → ℕ → CountTold → Type 0
+  CountAnswer j k a = meaningC a ≡ countOf s i j k
+
+  abbrev pub SampleAnswer : ℕ → ℕ → ℕ → SampleTold → Type 0
+  SampleAnswer j k n a = meaningS a ≡ sampleOf s i j k n
+
+-- the part r of the file's own bytes
+abbrev pub ViewAnswer : RefT (List ℕ) → ℕ → ℕ → ℕ → RefT (List ℕ) → Type 0
+ViewAnswer file i j k r = Shows file (viewOf (file .now) i j k) r
