@@ -14,11 +14,12 @@ use Rattle.words.specs.Values.{signed}
 use Rattle.words.specs.declared.Order.{Order}
 use Rattle.walk.specs.Walk.{Text, laid, Walk, give, refuse, check, number, read, skip, list, _>>=_, _>>_}
 use Rattle.walk.specs.See.{goes, gate, see, Yields}
+use Rattle.walk.proofs.Laid.{laid-text}
 use Rattle.walk.proofs.Seen.{and-left, yields, yields-bind, places, length-bytesAt}
 use Rattle.rules.specs.Rules.{between, Head, span, admit, Item, item, itemSize, itemBytes, itemList, itemsBody, items}
 use Rattle.records.proofs.Facts.{between-in}
-use Rattle.recordings.specs.Answers.{value, refusal}
-use Rattle.recordings.proofs.Chosen.{numbered-in, numbered-out}
+use Rattle.recordings.specs.Answers.{value, refusal, numbered}
+use Rattle.recordings.proofs.Chosen.{numbered-in, numbered-out, numbered-one}
 use Rattle.questions.specs.Holding.{Reaches}
 use Rattle.questions.specs.Questions.{itemIn}
 
@@ -38,6 +39,7 @@ yields-self o b s (list p l c m w) at = yields-self o b s w at
 pub record ItemAt (o : Order) (s : List ℕ) (p : ℕ) (x : Item) : Type 0 where
   pub size : itemSize x ≡ numberAt o 4 s p
   pub code : x .code ≡ numberAt o 4 s (p + 4)
+  pub text : x .content ≡ bytesAt (length (x .content)) s (p + 8)
   pub fits : p + itemSize x ≤ length s
 
 -- the next item stands behind it
@@ -50,7 +52,7 @@ item-next d (x ∷ is) (suc j) h = let i = item-next d is j (omega arith) in ome
 module _ (o : Order) (s : List ℕ) (ok : ℕ → Bool) where
   -- an item that the walk read, if its text ends in the file
   abbrev ReadAt : ℕ → Item → ℕ → Type 0
-  ReadAt p x e = (x .code ≡ numberAt o 4 s (p + 4)) × (e ≡ p + numberAt o 4 s p) × (e ≤ length s → itemSize x ≡ numberAt o 4 s p)
+  ReadAt p x e = (x .code ≡ numberAt o 4 s (p + 4)) × (e ≡ p + numberAt o 4 s p) × (e ≤ length s → itemSize x ≡ numberAt o 4 s p) × (x .content ≡ laid o Text (bytesAt (numberAt o 4 s p - 8) s (p + 8)))
 
   item-size : (n m at : ℕ) → n ≡ m → 8 ≤ m → at + (n - 8) ≤ length s → 8 + length (laid o Text (bytesAt (n - 8) s (at - 0))) ≡ m
   unfolding bytesAt
@@ -60,7 +62,7 @@ module _ (o : Order) (s : List ℕ) (ok : ℕ → Bool) where
   unfolding item _>>=_ _>>_
   yields-item room p _ c _ =
       let l : 8 ≤ numberAt o 4 s p = leb-true 8 (numberAt o 4 s p) (and-left _ _ (simp places at c)) in
-      (simp places, simp places (omega arith), λ h. item-size (numberAt o 4 s (p - 0)) (numberAt o 4 s p) (p + 4 + 4) (simp places) l h)
+      (simp places, simp places (omega arith), λ h. item-size (numberAt o 4 s (p - 0)) (numberAt o 4 s p) (p + 4 + 4) (simp places) l h, simp places)
 
   -- n items, one after the other
   abbrev Lines : ℕ → ℕ → List Item → ℕ → Type 0
@@ -78,7 +80,9 @@ module _ (o : Order) (s : List ℕ) (ok : ℕ → Bool) where
           z = r .2 (omega (arith, u .0))
 
           each : (d : Item) (j : ℕ) → j < suc n → ItemAt o s (p + itemBytes (take j (x ∷ is))) (getD (x ∷ is) j d)
-          each d zero l = rw add-zero (record { size = z; code = r .0; fits = omega (arith, u .0, r .1, z) })
+          each d zero l =
+              let n : numberAt o 4 s p - 8 ≡ length (x .content) = omega (arith, z) in
+              rw add-zero (record { size = z; code = r .0; text = rw n at (r .3 ∙ laid-text o _); fits = omega (arith, u .0, r .1, z) })
           each d (suc j) l =
               let m : q + itemBytes (take j is) ≡ p + (itemSize x + itemBytes (take j is)) = omega (arith, r .1, z) in
               rw m at (u .1 d j (omega arith))
@@ -139,6 +143,13 @@ module _ (o : Order) (s : List ℕ) (at : ℕ) (ok : ℕ → Bool) (room : ℕ) 
 
   pub items-inside : at + 24 ≤ length s
   items-inside = omega (arith, list-ends o s ok (numberAt o 4 s (at + 16)) (span h - 24) (at + 24) opened ends)
+
+  -- one of its items
+  pub item-there : (j : ℕ) {x : Item} → numbered is j ≡ value x → ItemAt o s (at + (24 + itemBytes (take (j - 1) is))) x
+  item-there j {x} nth =
+      let n = numbered-one is j nth .1 in
+      let i = list-item o s ok (numberAt o 4 s (at + 16)) (span h - 24) (at + 24) opened ends x (j - 1) (omega (arith, n .inside, list-count o s ok (numberAt o 4 s (at + 16)) (span h - 24) (at + 24) opened)) in
+      rw (n .is x, add-assoc) at i
 
   -- an item asked for of as many as the record says
   module _ (count : ℕ) (says : count ≡ numberAt o 4 s (at + 16)) (j : ℕ) where

@@ -1,6 +1,10 @@
 pub mod Calibrated
 pub mod Fields
+pub mod Described
 pub mod Entries
 pub mod Owners
 pub mod Replies
+pub mod Readings
+pub mod Texts
+pub mod Views
 pub mod Unique

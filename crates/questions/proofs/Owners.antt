@@ -3,10 +3,10 @@
 use mathlib.Core.Path.{_≡_, refl, sym, ap, _∙_, subst}
 use mathlib.Core.Bool.{Bool, true, false}
 use mathlib.Core.List.{List, []}
-use Prim.Native.Nat.{ℕ, zero, suc, _+_, _≤_}
+use Prim.Native.Nat.{ℕ, zero, suc, _+_, _-_, _≤_}
 use native.Mathlib.Nat.{add-assoc}
 use native.Mathlib.Omega.{arith}
-use lib.ListN.{length}
+use lib.ListN.{length, take}
 use Rattle.words.specs.Numbers.{Bytes}
 use Rattle.words.specs.declared.Order.{Order}
 use Rattle.walk.specs.Walk.{Event, pick, passed, size}
@@ -19,15 +19,15 @@ use Rattle.records.specs.declared.items.Holder.the-variants as Holder
 use Rattle.descriptions.specs.declared.Held.{Held}
 use Rattle.descriptions.specs.declared.Held.the-variants as Held
 use Rattle.descriptions.specs.declared.Places.{Places}
-use Rattle.recordings.specs.Answers.{Answer, refusal, outside, numbered, indexed}
+use Rattle.recordings.specs.Answers.{Answer, value, refusal, outside, numbered, indexed}
 use Rattle.recordings.specs.Recordings.{Chosen, recordingOf, startOf, heldAt, at130}
 use Rattle.recordings.specs.Found.{FoundIn}
-use Rattle.recordings.proofs.Chosen.{One, ChosenIn, chosen-in}
+use Rattle.recordings.proofs.Chosen.{no-value, One, ChosenIn, chosen-in}
 use Rattle.recordings.proofs.Standing.{found-seen, found-ends}
 use Rattle.questions.specs.Questions.{itemsOf, itemsAt, itemIn, itemOf}
 use Rattle.questions.specs.Holding.{eventsIn, holdingOf}
 use Rattle.questions.specs.declared.items.Entry.{Entry}
-use Rattle.questions.proofs.Entries.{items-inside}
+use Rattle.questions.proofs.Entries.{ItemAt, items-inside, item-there}
 
 -- items that the walk of a 130 or a 200 at `at` comes to
 pub record ItemsSeen (o : Order) (s : List ℕ) (at : ℕ) (is : List R.Item) : Type 0 where
@@ -40,6 +40,9 @@ pub record ItemsSeen (o : Order) (s : List ℕ) (at : ℕ) (is : List R.Item) : 
 
 pub items-seen-inside : {o : Order} {s : List ℕ} {at : ℕ} {is : List R.Item} → ItemsSeen o s at is → at ≤ length s
 items-seen-inside {o} {s} {at} x = omega (arith, items-inside o s at (x .ok) (x .room) (x .head) (x .ends) (x .seen))
+
+item-seen : {o : Order} {s : List ℕ} {at : ℕ} {is : List R.Item} → ItemsSeen o s at is → (j : ℕ) {x : R.Item} → numbered is j ≡ value x → ItemAt o s (at + (24 + R.itemBytes (take (j - 1) is))) x
+item-seen {o} {s} {at} z j nth = item-there o s at (z .ok) (z .room) (z .head) (z .ends) (z .seen) j nth
 
 -- in an accepted file, of recording k, from 0
 module _ (s : List ℕ) (b : Bytes s) {v : R.File} {t : List Event} (h : R.judge s ≡ passed v [] t) (k : ℕ) (d : R.Placed) (one : One (v .recordings) k d) where
@@ -76,32 +79,44 @@ numbered-none (suc j) = refl
 no-place : {at : ℕ} → Held.At at ≡ Held.Nothing → ⊥
 no-place h = let z : _≡_ {A = ℕ} 0 1 = cc in omega arith
 
--- a recording that was found
-module _ {s : List ℕ} {i : ℕ} {o : Order} {q : Places} {r : Chosen} (f : FoundIn s i o q r) where
+-- a recording that was found, by the rules' value alone
+module _ (s : List ℕ) (b : Bytes s) (i : ℕ) (r : Chosen) (is : recordingOf s i ≡ value r) where
   abbrev chosen : ChosenIn s i r
-  chosen = chosen-in s (f .bytes) i r (f .is)
+  chosen = chosen-in s b i r is
 
   abbrev again : List R.Placed → Chosen
   again x = record { all = x; index = r .index; this = r .this }
 
-  patient-held : ItemsSeen o s (at130 r) (r .this .recording .patient)
+  patient-held : ItemsSeen (R.orderOf s) s (at130 r) (r .this .recording .patient)
   patient-held =
-      subst (λ (x : List R.Placed). ItemsSeen o s (at130 (again x)) (r .this .recording .patient)) (sym (chosen .all))
-      (rw (f .order) (patient-items s (f .bytes) (chosen .judged) (r .index) (r .this) (chosen .one)))
+      subst (λ (x : List R.Placed). ItemsSeen (R.orderOf s) s (at130 (again x)) (r .this .recording .patient)) (sym (chosen .all))
+      (patient-items s b (chosen .judged) (r .index) (r .this) (chosen .one))
 
-  events-held : r .this .recording .ownEvents ≡ true → ItemsSeen o s (startOf r + r .this .layout .at200) (r .this .recording .events)
+  events-held : r .this .recording .ownEvents ≡ true → ItemsSeen (R.orderOf s) s (startOf r + r .this .layout .at200) (r .this .recording .events)
   events-held own =
-      subst (λ (x : List R.Placed). ItemsSeen o s (startOf (again x) + r .this .layout .at200) (r .this .recording .events)) (sym (chosen .all))
-      (rw (f .order) (event-items s (f .bytes) (chosen .judged) (r .index) (r .this) (chosen .one) own))
+      subst (λ (x : List R.Placed). ItemsSeen (R.orderOf s) s (startOf (again x) + r .this .layout .at200) (r .this .recording .events)) (sym (chosen .all))
+      (event-items s b (chosen .judged) (r .index) (r .this) (chosen .one) own)
 
+  -- one of its items stands behind those before it
+  pub item-held : (k : Holder) (j : ℕ) {x : R.Item} → numbered (itemsOf k r) j ≡ value x → ItemAt (R.orderOf s) s (itemsAt k r + (24 + R.itemBytes (take (j - 1) (itemsOf k r)))) x
+  item-held Holder.Patient j nth = item-seen patient-held j nth
+  item-held Holder.Event j {x} nth = go (r .this .recording .ownEvents) refl nth
+    where
+      go : (b : Bool) → r .this .recording .ownEvents ≡ b → numbered (pick b (r .this .recording .events) []) j ≡ value x →
+          ItemAt (R.orderOf s) s (startOf r + r .this .layout .at200 + (24 + R.itemBytes (take (j - 1) (pick b (r .this .recording .events) [])))) x
+      go true own nth = item-seen (events-held own) j nth
+      go false own nth = absurd (no-value (sym (numbered-none j) ∙ nth))
+
+-- a recording that the code found
+module _ {s : List ℕ} {i : ℕ} {o : Order} {q : Places} {r : Chosen} (f : FoundIn s i o q r) where
   -- where the code holds a place, the items that hold stand there
   holds-at : (k : Holder) (at : ℕ) → holdingOf k q ≡ Held.At at → ItemsSeen o s at (itemsOf k r) × (at ≡ itemsAt k r)
-  holds-at Holder.Patient at h = let e : at ≡ at130 r = cc in (rw e patient-held, e)
+  holds-at Holder.Patient at h = let e : at ≡ at130 r = cc in (rw (e, f .order) (patient-held s (f .bytes) i r (f .is)), e)
   holds-at Holder.Event at h = go (r .this .recording .ownEvents) refl (sym (ap (holdingOf Holder.Event) (f .same)) ∙ h)
     where
       go : (b : Bool) → r .this .recording .ownEvents ≡ b → eventsIn b (pick b (startOf r + r .this .layout .at200) 0) ≡ Held.At at →
           ItemsSeen o s at (pick b (r .this .recording .events) []) × (at ≡ startOf r + r .this .layout .at200)
-      go true own g = let e : at ≡ startOf r + r .this .layout .at200 = cc in (rw e (events-held own), e)
+      go true own g = let e : at ≡ startOf r + r .this .layout .at200 = cc in (rw (e, f .order) (events-held s (f .bytes) i r (f .is) own), e)
       go false own g = absurd (no-place (sym g))
 
   -- where it holds none, there are none

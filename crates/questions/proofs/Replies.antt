@@ -1,40 +1,36 @@
 -- The answers to the questions about a channel, a frame's clock and samples, from what the code found in the file.
 -- Assumes nothing.
 use mathlib.Core.Path.{_≡_, refl, sym, ap, _∙_}
-use mathlib.Core.Bool.{Bool, true, false}
-use mathlib.Core.List.{List, map}
+use mathlib.Core.Bool.{true, false}
+use mathlib.Core.List.{List}
 use Prim.Native.Nat.{ℕ, _+_, _-_, _*_, _≤_, _<_}
 use native.Mathlib.Nat.{mul-le-mul-left}
 use native.Mathlib.Omega.{arith}
 use borrow.Author.Tests.{eq-eqb, ne-eqb}
 use borrow.Rule.Slice.PartAt.{slPart}
 use denote.Ref.{RefT}
-use lib.ListN.{length, getD}
+use lib.ListN.{length}
 use Rattle.words.specs.Numbers.{bytesAt, numberAt}
 use Rattle.words.specs.declared.Order.{Order}
-use Rattle.walk.specs.Walk.{size}
 use Rattle.walk.specs.See.{goes, see}
 use Rattle.rules.specs.Rules as R
-use Rattle.rules.specs.Places.{bytesBefore, holder}
 use Rattle.rules.specs.Reading.{Value, valueOf}
-use Rattle.rules.proofs.Held.{channel-holds-at}
-use Rattle.rules.proofs.Places.{found-at}
 use Rattle.descriptions.specs.declared.Places.{Places}
 use Rattle.recordings.specs.Answers.{Answer, value, refusal, _>>=_}
 use Rattle.recordings.specs.Found.{FoundIn, countsOf}
-use Rattle.recordings.specs.Recordings.{Chosen, recordingOf, heldAt, at120}
-use Rattle.recordings.proofs.Chosen.{indexed-out, numbered-out, numbered-one, One, chosen-in}
-use Rattle.recordings.proofs.Standing.{found-seen}
+use Rattle.recordings.specs.Recordings.{Chosen, recordingOf, at120}
+use Rattle.recordings.proofs.Chosen.{indexed-out, numbered-out}
 use Rattle.samples.specs.Asked.{FrameIn, RunIn}
 use Rattle.samples.specs.Frames.{ChosenFrame, frameOf, Samples, samplesOf, numberIn, timeOf}
 use Rattle.samples.specs.declared.Number.{Number}
 use Rattle.samples.specs.declared.Run.{Run}
 use Rattle.samples.specs.declared.Time.{Time}
-use Rattle.samples.proofs.Framing.{numbered-some, this-one}
+use Rattle.samples.proofs.Framing.{numbered-some}
 use Rattle.questions.specs.Questions.{factsOf, channelOf, clockOf, countOf, sampleOf, viewOf, Shows}
 use Rattle.questions.specs.Values.{textAt, descriptorOf}
 use Rattle.questions.specs.declared.channels.Descriptor.{Descriptor}
 use Rattle.questions.specs.declared.channels.Text.{Text}
+use Rattle.questions.proofs.Described.{subAt, channel-seen}
 
 -- M, F and T
 pub facts-refused : (s : List ℕ) (i : ℕ) {n p : ℕ} → recordingOf s i ≡ refusal n p → refusal n p ≡ factsOf s i
@@ -48,13 +44,6 @@ facts-found {q} {r} f =
 
 -- A channel
 
--- where the record stands that holds, in the file's own recordings
-held-place : (own : R.Recording → Bool) (place : R.Layout → ℕ) (r : Chosen) {ps : List R.Placed} → r .all ≡ ps →
-    let k = holder own (r .this .recording) (r .index) (map (λ (p : R.Placed). p .recording) ps) in
-    heldAt own place r ≡ 32 + bytesBefore k ps + place (getD ps k (r .this) .layout)
-unfolding heldAt
-held-place own place r e = rw (← e)
-
 pub channel-refused : (s : List ℕ) (i j : ℕ) {n p : ℕ} → recordingOf s i ≡ refusal n p → refusal n p ≡ channelOf s i j
 channel-refused s i j h = rw h
 
@@ -62,25 +51,14 @@ module _ {s : List ℕ} {i : ℕ} {o : Order} {q : Places} {r : Chosen} (h : Fou
   pub channel-outside : R.between 1 (q .count) j ≡ false → refusal 19 0 ≡ channelOf s i j
   channel-outside t = rw (h .is, numbered-out (r .this .recording .channels) j (rw (h .owned .stand .count) t))
 
-  -- its record 125 stands where the code looks for it
-  channel-seen : (c : R.Channel) → 1 ≤ j → One (r .this .recording .channels) (j - 1) c → (room : ℕ) × (end : ℕ) × (see o 0 s (at120 r + (32 + 256 * (j - 1))) (R.channel room j) ≡ goes c end)
-  channel-seen c l n =
-      let x = chosen-in s (h .bytes) i r (h .is) in
-      let e = this-one s (h .bytes) i r x in
-      let m : 1 + (j - 1) ≡ j = omega arith in
-      let g = rw (e, n .is c, m) at (channel-holds-at s (h .bytes) (x .judged) (r .this) (r .index) (x .one .inside) c (j - 1) (rw e (n .inside))) in
-      let f = found-at {q = at120 r + (32 + 256 * (j - 1))} (g .1) (omega (arith, held-place (λ (y : R.Recording). y .ownChannels) (λ (y : R.Layout). y .at120) r (x .all))) in
-      (g .0, at120 r + (32 + 256 * (j - 1)) + size (f .events), rw (h .order) (found-seen s (h .bytes) (x .judged) f))
-
   pub channel-told : R.between 1 (q .count) j ≡ true → (d : Descriptor) →
       ((room n : ℕ) (c : R.Channel) (e : ℕ) → see o 0 s (q .channels + 32 + 256 * (j - 1)) (R.channel room n) ≡ goes c e → d ≡ descriptorOf c (q .channels + 32 + 256 * (j - 1))) → value d ≡ channelOf s i j
   channel-told t d told =
       let y = numbered-some (r .this .recording .channels) j (rw (h .owned .stand .count) t) in
-      let n = numbered-one (r .this .recording .channels) j (y .1) in
-      let x = channel-seen (y .0) (n .0) (n .1) in
+      let x = channel-seen s (h .bytes) i r (h .is) j (y .1) in
       let a : q .channels ≡ at120 r = ap (λ (p : Places). p .channels) (h .same) in
-      let e : q .channels + 32 + 256 * (j - 1) ≡ at120 r + (32 + 256 * (j - 1)) = omega arith in
-      rw (h .is, y .1) (ap value (told (x .0) j (y .0) (x .1) (rw e (x .2)) ∙ ap (descriptorOf (y .0)) e))
+      let e : q .channels + 32 + 256 * (j - 1) ≡ subAt r j = omega arith in
+      rw (h .is, y .1) (ap value (told (x .room) j (y .0) (x .end) (rw (e, h .order) (x .seen)) ∙ ap (descriptorOf (y .0)) e))
 
 -- A clock
 

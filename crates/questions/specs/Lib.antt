@@ -3,3 +3,4 @@ pub mod Questions
 pub mod Meanings
 pub mod Holding
 pub mod Contracts
+pub mod Tied

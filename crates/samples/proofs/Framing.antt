@@ -16,13 +16,13 @@ use Rattle.rules.proofs.Places.{Found, frame-found}
 use Rattle.rules.proofs.Asked.{frame-at}
 use Rattle.records.proofs.Facts.{between-in}
 use Rattle.descriptions.specs.declared.Places.{Places}
-use Rattle.recordings.specs.Answers.{value, refusal, numbered}
+use Rattle.recordings.specs.Answers.{value, refusal, _>>=_, numbered}
 use Rattle.recordings.specs.Found.{FoundIn}
 use Rattle.recordings.specs.Recordings.{Chosen, recordingOf, startOf}
-use Rattle.recordings.proofs.Chosen.{numbered-in, numbered-out, numbered-one, One, ChosenIn, chosen-in}
+use Rattle.recordings.proofs.Chosen.{numbered-in, numbered-out, numbered-one, One, answered, ChosenIn, chosen-in}
 use Rattle.recordings.proofs.Standing.{found-seen, found-ends}
 use Rattle.samples.specs.Asked.{FrameFoundAs}
-use Rattle.samples.specs.Frames.{frameOf}
+use Rattle.samples.specs.Frames.{ChosenFrame, frameOf}
 use Rattle.samples.specs.declared.FrameFound.the-variants as FrameFound
 
 -- a number inside its range has its element
@@ -62,6 +62,22 @@ module _ (s : List ℕ) (b : Bytes s) (i : ℕ) (r : Chosen) (x : ChosenIn s i r
         seen = found-seen s b (x .judged) (g .1);
         inside = omega (arith, found-ends s b (x .judged) (g .1), frame-found _ _ _ _ _ (g .1 .plays) .bytes);
       }
+
+-- a frame that is asked for and found, by the rules' value alone
+pub record FrameOf (s : List ℕ) (i j : ℕ) (f : ChosenFrame) : Type 0 where
+  pub asked : recordingOf s i ≡ value (f .of)
+  pub chosen : ChosenIn s i (f .of)
+  pub first : 1 ≤ j
+  pub one : One (f .of .this .recording .frames) (j - 1) (f .frame)
+  pub place : f .at ≡ frameAt (f .of) j
+
+pub frame-of : (s : List ℕ) → Bytes s → (i j : ℕ) {f : ChosenFrame} → frameOf s i j ≡ value f → FrameOf s i j f
+frame-of s b i j {f} h =
+    let a = answered (recordingOf s i) (λ r. numbered (r .this .recording .frames) j >>= λ x. value (record { of = r; frame = x; at = frameAt r j })) h in
+    let c = answered (numbered (a .0 .this .recording .frames) j) (λ x. value (record { of = a .0; frame = x; at = frameAt (a .0) j })) (a .2) in
+    let n = numbered-one (a .0 .this .recording .frames) j (c .1) in
+    let e : record { of = a .0; frame = c .0; at = frameAt (a .0) j } ≡ f = cc (c .2) in
+    rw (← e) (record { asked = a .1; chosen = chosen-in s b i (a .0) (a .1); first = n .0; one = n .1; place = refl })
 
 -- what the code answers: the recording's refusal, 19, or the frame
 pub frame-refused : (s : List ℕ) (i j : ℕ) {n p : ℕ} → recordingOf s i ≡ refusal n p → frameOf s i j ≡ refusal n p

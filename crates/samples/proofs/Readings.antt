@@ -1,6 +1,6 @@
 -- The samples of one channel in a frame's reading: its numbers, each by the channel's format, and how many there are.
 -- Assumes nothing.
-use mathlib.Core.Path.{_≡_, refl}
+use mathlib.Core.Path.{_≡_, refl, ap}
 use mathlib.Core.List.{List, [], _∷_, map}
 use Prim.Native.Nat.{ℕ, zero, suc, _-_, _<_}
 use native.Mathlib.Omega.{arith}
@@ -19,6 +19,13 @@ all-one P d (a ∷ l) zero h k = k .0
 all-one P d (a ∷ l) (suc i) h k = all-one P d l i (omega arith) (k .1)
 
 module _ (t : ℕ) where
+  -- as many as there are channels
+  pub samples-many : (cs : List R.Channel) (ss : List (List ℕ)) → SamplesOk t cs ss → length (samplesReading cs ss) ≡ length cs
+  unfolding samplesReading
+  samples-many [] ss k = refl
+  samples-many (c ∷ cs) [] k = absurd k
+  samples-many (c ∷ cs) (s ∷ ss) k = ap suc (samples-many cs ss (k .2))
+
   -- the channel's numbers among those of a frame
   pub record Reads (cs : List R.Channel) (ss : List (List ℕ)) (i n : ℕ) (x : R.Channel) : Type 0 where
     pub values : numbered (samplesReading cs ss) n ≡ value (map (valueOf (x .format) (width (x .format))) (getD ss i []))

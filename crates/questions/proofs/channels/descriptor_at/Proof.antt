@@ -1,9 +1,10 @@
 -- `questions::channels::descriptor_at` meets its contract, field by field.
 -- Assumes nothing.
 use borrow.Author.Needs.{needs}
-use Prim.Native.Nat.{ℕ, _+_}
+use Prim.Native.Nat.{ℕ}
 use Rattle.samples.proofs.Clocked.{held}
-use Rattle.questions.specs.Values.{descriptorOf, textAt}
+use Rattle.questions.specs.Values.{descriptorOf}
+use Rattle.questions.specs.declared.channels.Descriptor.{Descriptor}
 use Rattle.questions.proofs.Fields.{channel-read}
 use Rattle.questions.proofs.channels.descriptor_at.Statement.{statement}
 use Rattle.questions.proofs.channels.descriptor_at.Tie as tie
@@ -15,6 +16,7 @@ returns c room i x e h =
     let v : tie.After-int43 = u .before .before .before in
     let w : tie.After-calibration-at = v .before .before .before in
     let p : ℕ = w .before .before .before .args .p in
+    let d : Descriptor = descriptorOf x p in
     rw (channel-read _ _ _ room i h)
     (λ j. record {
       number = held (v .before .before .int4 .ok) (v .before .before .int4 .ensures) j;
@@ -27,9 +29,9 @@ returns c room i x e h =
       «low_cut» = held (c .before .before .int47 .ok) (c .before .before .int47 .ensures) j;
       «high_cut» = held (c .before .int48 .ok) (c .before .int48 .ensures) j;
       sensitivity = held (c .int49 .ok) (c .int49 .ensures) j;
-      label = textAt (p + 72) 16;
-      unit = textAt (p + 88) 16;
-      comment = textAt (p + 196) 60;
+      label = d .label;
+      unit = d .unit;
+      comment = d .comment;
     })
 
 pub descriptor-at-spec : {M : Type 1} → statement M

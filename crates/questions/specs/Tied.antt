@@ -1,0 +1,117 @@
+-- What a question asks for in the file's reading; and how an answer shows it: values are the reading's, the bytes that a text names are the reading's
+-- text, and those that a view names are, number by number, the reading's samples.
+-- Assumes nothing.
+use mathlib.Core.Path.{_≡_}
+use mathlib.Core.List.{List, [], _∷_}
+use Prim.Native.Nat.{ℕ, zero, suc, _+_, _*_, _≤_}
+use lib.IntN.{pos, natAbs}
+use lib.ListN.{length}
+use Rattle.words.specs.Numbers.{bytesAt, numberAt}
+use Rattle.words.specs.declared.Order.{Order}
+use Rattle.walk.specs.Walk.{pick}
+use Rattle.rules.specs.Rules.{orderOf, width}
+use Rattle.rules.specs.Reading.{Value, valueOf, ChannelReading, ItemReading, FrameReading, RecordingReading, Reading}
+use Rattle.records.specs.declared.items.Holder.{Holder}
+use Rattle.records.specs.declared.items.Holder.the-variants as Holder
+use Rattle.recordings.specs.Answers.{Answer, value, refusal, _>>=_, indexed, numbered}
+use Rattle.recordings.specs.declared.Counts.{Counts}
+use Rattle.samples.specs.declared.Time.{Time}
+use Rattle.questions.specs.Questions.{viewOf}
+use Rattle.questions.specs.declared.channels.Descriptor.{Descriptor}
+use Rattle.questions.specs.declared.channels.Text.{Text}
+use Rattle.questions.specs.declared.items.Entry.{Entry}
+
+-- In a reading: recordings, channels, items and frames from 1, samples from 0
+
+abbrev pub recordingRead : Reading → ℕ → Answer RecordingReading
+recordingRead v i = numbered (v .recordings) i
+
+abbrev pub channelRead : Reading → ℕ → ℕ → Answer ChannelReading
+channelRead v i j = recordingRead v i >>= λ r. numbered (r .channels) j
+
+-- the patient items that hold; the event items of its own 200
+abbrev pub itemsRead : Holder → RecordingReading → List ItemReading
+itemsRead Holder.Patient r = r .patient
+itemsRead Holder.Event r = pick (r .ownEvents) (r .events) []
+
+abbrev pub itemRead : Holder → Reading → ℕ → ℕ → Answer ItemReading
+itemRead k v i j = recordingRead v i >>= λ r. numbered (itemsRead k r) j
+
+abbrev pub frameRead : Reading → ℕ → ℕ → Answer FrameReading
+frameRead v i j = recordingRead v i >>= λ r. numbered (r .frames) j
+
+-- of channel k in frame j
+abbrev pub samplesRead : Reading → ℕ → ℕ → ℕ → Answer (List Value)
+samplesRead v i j k = frameRead v i j >>= λ f. numbered (f .channels) k
+
+abbrev pub sampleRead : Reading → ℕ → ℕ → ℕ → ℕ → Answer Value
+sampleRead v i j k n = samplesRead v i j k >>= λ vs. indexed vs n
+
+-- an answer about the file, and what the reading has: values of which this holds, or one and the same refusal
+pub data Alike {A B : Type 0} (Holds : A → B → Type 0) : Answer A → Answer B → Type 0 where
+  values : {a : A} {b : B} → Holds a b → Alike Holds (value a) (value b)
+  refusals : {n p : ℕ} → Alike Holds (refusal n p) (refusal n p)
+
+-- M, F and T
+pub record FactsAre (x : Counts) (r : RecordingReading) : Type 0 where
+  pub channels : x .channels ≡ length (r .channels)
+  pub frames : x .frames ≡ length (r .frames)
+  pub seconds : pos (x .seconds) ≡ r .seconds
+
+-- the whole numbers of a channel
+pub record NumbersAre (d : Descriptor) (c : ChannelReading) : Type 0 where
+  pub number : d .number ≡ c .channel
+  pub flags : d .flags ≡ c .flags
+  pub kind : d .kind ≡ c .type
+  pub format : d .format ≡ c .format
+  pub rate : d .rate ≡ c .rate
+  pub frequency : d .frequency ≡ c .calFrequency
+  pub lowCut : d .«low_cut» ≡ c .lowCut
+  pub highCut : d .«high_cut» ≡ c .highCut
+  pub sensitivity : d .sensitivity ≡ c .sensitivity
+
+-- the part p of the file s is the text x
+pub record TextIs (s : List ℕ) (p : Text) (x : List ℕ) : Type 0 where
+  -- no byte of it beyond the file's end
+  pub inside : p .at + p .length ≤ length s
+  -- its bytes
+  pub bytes : bytesAt (p .length) s (p .at) ≡ x
+
+-- the texts of a channel
+pub record TextsAre (s : List ℕ) (d : Descriptor) (c : ChannelReading) : Type 0 where
+  pub label : TextIs s (d .label) (c .label)
+  pub unit : TextIs s (d .unit) (c .unit)
+  pub comment : TextIs s (d .comment) (c .comment)
+
+-- an item
+pub record ItemIs (s : List ℕ) (e : Entry) (x : ItemReading) : Type 0 where
+  pub code : e .code ≡ x .code
+  pub text : TextIs s (e .text) (x .content)
+
+-- the clock of a frame
+pub record ClockIs (x : Time) (f : FrameReading) : Type 0 where
+  pub hour : x .hour ≡ f .hour
+  pub minute : x .minute ≡ f .minute
+  pub second : x .second ≡ f .second
+
+-- a channel's format, a number from 1 to 4
+abbrev pub formatIn : ChannelReading → ℕ
+formatIn c = natAbs (c .format)
+
+-- n samples of this format, one after the other, at p of a list of bytes
+unfoldable pub valuesAt : Order → ℕ → ℕ → List ℕ → ℕ → List Value
+valuesAt o format zero s p = []
+valuesAt o format (suc n) s p = valueOf format (width format) (numberAt o (width format) s p) ∷ valuesAt o format n s (p + width format)
+
+-- the view of channel k in frame j of recording i, where n samples are counted, and the samples vs of the reading v
+pub record ViewIs (s : List ℕ) (v : Reading) (i j k n : ℕ) (vs : List Value) : Type 0 where
+  -- as many as are counted
+  pub count : n ≡ length vs
+  -- the channel
+  pub channel : ChannelReading
+  pub described : channelRead v i k ≡ value channel
+  -- no byte of the view beyond the file's end, and n numbers of the format's width in it
+  pub inside : viewOf s i j k .at + viewOf s i j k .length ≤ length s
+  pub long : viewOf s i j k .length ≡ width (formatIn channel) * n
+  -- its bytes, read in the file's order, are the samples
+  pub shows : valuesAt (orderOf s) (formatIn channel) n (bytesAt (viewOf s i j k .length) s (viewOf s i j k .at)) 0 ≡ vs
