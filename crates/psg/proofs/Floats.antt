@@ -10,7 +10,7 @@ use lib.Dec.{eqb}
 use lib.IntN.{pos, natAbs}
 use lib.ListN.{length, take, drop, length-drop}
 use lib.Seq.{length-take-le}
-use Rattle.words.specs.Floats.{isNan}
+use Rattle.words.specs.Floats.{nanPattern}
 use Rattle.words.specs.Numbers.{Bytes, numberAt}
 use Rattle.words.specs.Values.{signed}
 use Rattle.words.specs.declared.Order.{Order}
@@ -109,9 +109,9 @@ module _ {s : List ℕ} (b : Bytes s) {p j : ℕ} {c : R.Channel} (x : ChannelSe
 
 -- a float of 32 bits, taken apart
 flat-float : (n : ℕ) → n < 2 ^ 32 → flatSample (value (floatIn n)) ≡ record { refusal = 0; position = 0; «is_float» = 1; value = pos 0; bits = n }
-flat-float n h = go (isNan n) refl
+flat-float n h = go (nanPattern n) refl
   where
-    go : (x : Bool) → isNan n ≡ x → flatSample (value (floatIn n)) ≡ record { refusal = 0; position = 0; «is_float» = 1; value = pos 0; bits = n }
+    go : (x : Bool) → nanPattern n ≡ x → flatSample (value (floatIn n)) ≡ record { refusal = 0; position = 0; «is_float» = 1; value = pos 0; bits = n }
     go true e = rw (a-pattern n e)
     go false e = rw (a-float n e) (λ i. record { refusal = 0; position = 0; «is_float» = 1; value = pos 0; bits = bitsOf-floatOf n h e i })
 
