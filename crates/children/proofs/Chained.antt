@@ -36,6 +36,13 @@ rests-maker room h L at s =
     let n : 16 ≤ span h = leb-true 16 (span h) (v .1) in
     (omega (arith, v .0, v .2), λ _ _. (n, v .2, omega (arith, v .0, v .2))))
 
+-- links carried over: φ is what each record then comes to, and ψ what all that is left does
+module _ (o : Order) (b : ℕ) (s : List ℕ) {X Y : Type 0} (join : X → X → X) (fuse : Y → Y → Y) (I : ℕ → Head → X → Type 0) (E : ℕ → X → Type 0) (J : ℕ → Head → Y → Type 0) (F : ℕ → Y → Type 0) (φ ψ : X → Y)
+    (step : (x y : X) → ψ (join x y) ≡ fuse (φ x) (ψ y)) (each : (p : ℕ) (h : Head) (x : X) → I p h x → J p h (φ x)) (end : (p : ℕ) (x : X) → E p x → Links o b s fuse J F p (ψ x)) where
+  carry : {p : ℕ} {x : X} → Links o b s join I E p x → Links o b s fuse J F p (ψ x)
+  carry (more h own rest k i d e) = more h (φ own) (ψ rest) k (each _ h own i) (carry d) (ap ψ e ∙ step own rest)
+  carry (last e) = end _ _ e
+
 -- kn: what the 120 and the 140 are read with
 module _ (o : Order) (b : ℕ) (s : List ℕ) (kn : Known) where
   -- a record that is no 140
@@ -56,8 +63,7 @@ module _ (o : Order) (b : ℕ) (s : List ℕ) (kn : Known) where
   module _ {Y : Type 0} (fuse : Y → Y → Y) (J : ℕ → Head → Y → Type 0) (F : ℕ → Y → Type 0) (φ : Said → Y) (y : Y) (assoc : (l m : Said) → fuse (φ (l then m)) y ≡ fuse (φ l) (fuse (φ m) y)) (unit : fuse (φ nothing) y ≡ y)
       (each : (p : ℕ) (h : Head) (l : Said) → Other p h l → J p h (φ l)) {q : ℕ} (later : Links o b s fuse J F q y) where
     pub onto : {p : ℕ} {l : Said} → Upto q p l → Links o b s fuse J F p (fuse (φ l) y)
-    onto (more h own rest k i d e) = more h (φ own) (fuse (φ rest) y) k (each _ h own i) (onto d) (ap (λ (l : Said). fuse (φ l) y) e ∙ assoc own rest)
-    onto (last e) = rw (e .same, e .none, unit) later
+    onto = carry o b s _then_ fuse Other (Here q) J F φ (λ l. fuse (φ l) y) assoc each (λ p l e. rw (e .same, e .none, unit) later)
 
   -- the head of n stands at byte q
   pub record Stands (q : ℕ) (n : Next) : Type 0 where

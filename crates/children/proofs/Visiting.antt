@@ -17,17 +17,9 @@ use Rattle.rules.specs.declared.Head as At
 use Rattle.rules.specs.Rules.{Head, head, admit, span, limit, basicBody, channels, channelsBody, items, itemsBody, patientCode, eventCode, frames, framesBody, makerCode, delimiter}
 use Rattle.records.specs.Says.{headOf}
 use Rattle.records.proofs.Opened.{halted}
-use Rattle.children.specs.Children.{Said, _then_, Known, Heads, Inner, is100, is120, is130, is200, is140, isMaker, Links, more, last, Chain, Closed, RecordAt, NoRecord, Visits}
+use Rattle.children.specs.Children.{Said, _then_, Known, Heads, Inner, is100, is120, is130, is200, is140, isMaker, Links, more, last, Parted, Chain, Closed, RecordAt, NoRecord, Visits}
 use Rattle.children.specs.declared.Direct.{Direct}
 use Rattle.children.specs.declared.Direct.the-variants as Direct
-
--- the first of links: its head is h, and it ends at byte q
-pub record Parted (o : Order) (b : ℕ) (s : List ℕ) {X : Type 0} (join : X → X → X) (I : ℕ → Head → X → Type 0) (E : ℕ → X → Type 0) (p : ℕ) (h : Head) (q : ℕ) (x : X) : Type 0 where
-  pub own : X
-  pub rest : X
-  pub inner : I p h own
-  pub on : Links o b s join I E q rest
-  pub is : x ≡ join own rest
 
 -- the cursor's answer where it is a record
 pub recorded : {o : Order} {b : ℕ} {s : List ℕ} {p : ℕ} {a : Direct} {h : At.Head} {q : ℕ} → a ≡ Direct.Record h q → Visits o b s p a → RecordAt o b s p h q

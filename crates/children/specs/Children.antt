@@ -49,16 +49,14 @@ pub record Known : Type 0 where
 abbrev pub knownOf : Placed → Known
 knownOf x = record { basic = x .recording .basic; own = x .recording .ownChannels; channels = x .recording .channels; back = x .layout .at140 - 20 }
 
--- at byte p of the part s, which stands at b
+-- in the part s at b a head stands at byte p; the walk, begun behind it, accepts, and the two say l
 module _ (o : Order) (b : ℕ) (s : List ℕ) (p : ℕ) where
-  -- a head, and what it says
   abbrev pub Heads : Head → Type 0
   Heads h = see o b s (b + p) (head (length s - p)) ≡ goes h (b + (p + 16))
 
   abbrev pub heading : Said
   heading = said o b s (b + p) (head (length s - p))
 
-  -- the walk, begun behind that head, accepts, and the two say l
   pub record Reads {A : Type 0} (w : Walk A) (l : Said) : Type 0 where
     pub value : A
     pub end : ℕ
@@ -89,6 +87,14 @@ module _ (o : Order) (b : ℕ) (s : List ℕ) (p : ℕ) where
 pub data Links (o : Order) (b : ℕ) (s : List ℕ) {X : Type 0} (join : X → X → X) (I : ℕ → Head → X → Type 0) (E : ℕ → X → Type 0) : ℕ → X → Type 0 where
   more : {p : ℕ} {x : X} (h : Head) (own rest : X) → Heads o b s p h → I p h own → Links o b s join I E (p + span h) rest → x ≡ join own rest → Links o b s join I E p x
   last : {p : ℕ} {x : X} → E p x → Links o b s join I E p x
+
+-- the first of them: its head is h, and it ends at byte q
+pub record Parted (o : Order) (b : ℕ) (s : List ℕ) {X : Type 0} (join : X → X → X) (I : ℕ → Head → X → Type 0) (E : ℕ → X → Type 0) (p : ℕ) (h : Head) (q : ℕ) (x : X) : Type 0 where
+  pub own : X
+  pub rest : X
+  pub inner : I p h own
+  pub on : Links o b s join I E q rest
+  pub is : x ≡ join own rest
 
 -- the records of a recording's body from byte p on, up to its delimiter, and all that they say
 abbrev pub Chain : Order → ℕ → List ℕ → Known → ℕ → Said → Type 0

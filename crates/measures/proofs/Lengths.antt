@@ -99,6 +99,7 @@ pub record Accepted (o : Order) (b : ℕ) (s : List ℕ) (x : Placed) : Type 0 w
   pub held : Option Held
   pub before : Descriptions
   pub begins : see o b s b (descriptions held (16 + length s)) ≡ goes before (b + (at + 16))
+  pub front : size (tablesEvents before) ≡ at
   pub place : 16 + at ≡ x .layout .at140
   pub inside : at + 16 ≤ length s
   pub top : Head
@@ -119,6 +120,7 @@ pub record Accepted (o : Order) (b : ℕ) (s : List ℕ) (x : Placed) : Type 0 w
   pub count : length (x .recording .frames) ≡ before .basic .frames
   pub framed : size (recordOf (framesHead (x .recording .seconds) (x .recording .channels) (x .recording .frames)) (framesWritten (x .recording .seconds) (x .recording .channels) (x .recording .frames))) ≡ span (framesHead (x .recording .seconds) (x .recording .channels) (x .recording .frames))
   pub makers : ℕ
+  pub wide : size (makerEvents (after .makers)) ≡ makers
   pub left : makers + after .room ≡ length s - (at + span top)
   pub events :
       content (x .recording) ≡
@@ -185,6 +187,7 @@ module _ (o : Order) (b : ℕ) (s : List ℕ) (bytes : Bytes s) (h : Head) (fill
         held = k .held;
         before = t;
         begins = moved o b s (descriptions (k .held)) b b (span h) (16 + length s) m (b + (at + 16)) refl fills (sym (k .long) ∙ omega arith) (k .went);
+        front = refl;
         place = omega arith;
         inside = omega (arith, q .0);
         top = top;
@@ -205,6 +208,7 @@ module _ (o : Order) (b : ℕ) (s : List ℕ) (bytes : Bytes s) (h : Head) (fill
         count = f₂ .0 .count;
         framed = frames-size (t .basic) (t .channels .own) (t .channels .value) (f .seconds) (f .frames) (f₂ .0);
         makers = size (makerEvents (d .makers));
+        wide = refl;
         left = omega (arith, d₂ .left);
         events = content-tables t (f .seconds) (f .frames) (d .makers);
         long = n;

@@ -21,8 +21,7 @@ use Rattle.rules.specs.declared.Head as At
 use Rattle.rules.proofs.Room.{stays-basicBody, stays-channelsBody, stays-itemsBody}
 use Rattle.records.specs.Says.{headOf}
 use Rattle.records.proofs.Opened.{admit-went}
-use Rattle.children.specs.Children.{Said, said, _then_, Known, Reads, Inner, is100, is120, is130, is200, is140, isMaker, Links, Closed}
-use Rattle.children.proofs.Visiting.{Parted}
+use Rattle.children.specs.Children.{Said, said, _then_, Known, Reads, Inner, is100, is120, is130, is200, is140, isMaker, Links, Parted, Closed}
 use Rattle.rows.proofs.Lists.{channelsBody-lists}
 use Rattle.bodies.specs.Copy.{copy, Pastes}
 use Rattle.bodies.specs.declared.Way.{Way}

@@ -1,5 +1,5 @@
 -- `rewrite::recordings::body` meets its contract. The loop's invariant: the records up to byte p are written, and take the first k bytes. The measure is what is left of the part.
--- l: at the loop; y: behind the cursor's step; u: behind the last call. Assumes nothing.
+-- y: behind the cursor's step. Assumes nothing.
 use mathlib.Core.Path.{_≡_, refl}
 use Prim.Native.Nat.{_-_, _≤_}
 use native.Mathlib.Omega.{arith}
@@ -23,19 +23,15 @@ abbrev μ-loop : tie.MeasureT-loop
 abbrev start : tie.At-loop Inv-loop μ-loop → tie.Start Inv-loop μ-loop
 start c = c .before .before .before .before
 
-abbrev to-there : tie.After-child Inv-loop μ-loop → tie.After-there Inv-loop μ-loop
-to-there c = c .before .before .before
-
 loop-holds : tie.Need-loop-holds Inv-loop μ-loop
 loop-holds c = (omega arith, omega arith, refl, λ x g. renewed-none g (bytes (c .before .before .before .args .s .now) (λ i. c .before .shared-slice-known2 .given i .fits)))
 
 returns : tie.Need-returns Inv-loop μ-loop
 returns c =
-    let u = c .before .before in
-    let y = u .before .before in
+    let y = c .before .before .before .before in
     let l = y .before .before .before in
     let v = rw (y .enum-told .given .1) at (y .before .before .record-at .ensures) in
-    λ x g. renewed-last g (l .loop .inv .3 x g) _ (start l .pre .room) (l .loop .inv .2) (c .before .d .given .1) v (u .clear-run .ensures)
+    λ x g. renewed-last g (l .loop .inv .3 x g) _ (start l .pre .room) (l .loop .inv .2) (c .before .d .given .1) v (c .before .before .clear-run .ensures)
 
 child-requires : tie.Need-child-requires Inv-loop μ-loop
 child-requires c κs =
@@ -46,17 +42,16 @@ child-requires c κs =
 
 loop-less : tie.Need-loop-less Inv-loop μ-loop
 loop-less c =
-    let y = to-there (c .before .before) in
+    let y = c .before .before .before .before .before in
     let v = recorded (y .there .given .1) (y .before .before .record-at .ensures) in
     omega (arith, v .least, v .inside)
 
 loop-again : tie.Need-loop-again Inv-loop μ-loop
 loop-again c =
-    let u = c .before .before in
-    let y = to-there u in
+    let y = c .before .before .before .before .before in
     let w = y .before .before .before .loop .inv in
     let v = recorded (y .there .given .1) (y .before .before .record-at .ensures) in
-    let d = u .child .ensures in
+    let d = c .before .before .child .ensures in
     (v .inside, omega (arith, d .inside), search needs, λ x g. renewed-more g (w .3 x g) _ _ v d)
 
 pub body-spec : {M : Type 1} → statement M
