@@ -3,7 +3,8 @@
 pub mod channels;
 pub mod items;
 
-ghost use Rattle.questions.specs.Contracts.{FactsAnswer, ChannelAnswer, PatientItemAnswer, EventItemAnswer, ClockAnswer, CountAnswer, SampleAnswer, ViewAnswer};
+ghost use Rattle.questions.specs.Contracts.{FactsAnswer, ChannelAnswer, PatientItemAnswer, EventItemAnswer};
+ghost use Rattle.questions.specs.Contracts.{ClockAnswer, CountAnswer, SampleAnswer, ViewAnswer};
 ghost use Rattle.questions.specs.Questions.{viewOf, PartIs};
 use crate::channels::ChannelTold;
 use crate::channels::Text;

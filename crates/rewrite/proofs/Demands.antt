@@ -1,4 +1,4 @@
--- One answer and one buffer meet the contract of `rewrite`; demand 2, and the last part of demand 3, said of what `rewrite` answers and writes.
+-- One answer and one buffer meet the contract of `rewrite`; and what `rewrite` answers and writes of an accepted file, on which demands 2 and 3 (crate `demands`) rest.
 -- Assumes nothing.
 use mathlib.Core.Path.{_≡_, refl, sym, ap, _∙_}
 use mathlib.Core.Bool.{Bool, true, false}

@@ -44,7 +44,7 @@ module _ (o : Order) (b : ℕ) (s : List ℕ) (p code : ℕ) where
   unfolding heldRows
   held-none n₁ n₂ = rw (ne-eqb code 120 n₁, ne-eqb code 140 n₂)
 
-silent-basicBody : Silent basicBody
+pub silent-basicBody : Silent basicBody
 unfolding basicBody _>>=_ _>>_
 silent-basicBody = λ _ _ _ _ _ _ _ _ _ _ _ _. tt
 

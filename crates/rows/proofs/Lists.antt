@@ -41,11 +41,11 @@ unfolding samples
 silent-samples t [] = tt
 silent-samples t (c ∷ cs) = silent-bind (numberList (width (c .format)) (samplesIn t c)) _ (silent-numbers (width (c .format)) (samplesIn t c)) (λ _. silent-bind (samples t cs) _ (silent-samples t cs) (λ _. tt))
 
-silent-frameBody : (size t : ℕ) (cs : List Channel) → Silent (frameBody size t cs)
+pub silent-frameBody : (size t : ℕ) (cs : List Channel) → Silent (frameBody size t cs)
 unfolding frameBody _>>=_ _>>_
 silent-frameBody size t cs = λ _ _ _. silent-bind (samples t cs) _ (silent-samples t cs) (λ _. silent-bind (padding (size - (24 + sampleBytes t cs))) _ (silent-padding (size - (24 + sampleBytes t cs))) (λ _. tt))
 
-silent-channelBody : Silent channelBody
+pub silent-channelBody : Silent channelBody
 unfolding channelBody _>>=_ _>>_
 silent-channelBody = λ _ _ _ _ _ _ _ _ _ _ _ _ _ _ _ _. tt
 
@@ -58,7 +58,7 @@ unfolding itemList
 silent-itemList ok zero room = tt
 silent-itemList ok (suc n) room = silent-bind (item ok room) _ (silent-item ok room) (λ i. silent-bind (itemList ok n (room - itemSize i)) _ (silent-itemList ok n (room - itemSize i)) (λ _. tt))
 
-silent-itemsBody : (ok : ℕ → Bool) (n : ℕ) → Silent (itemsBody ok n)
+pub silent-itemsBody : (ok : ℕ → Bool) (n : ℕ) → Silent (itemsBody ok n)
 unfolding itemsBody _>>=_ _>>_
 silent-itemsBody ok n = λ m. silent-bind (itemList ok m (n - 24)) _ (silent-itemList ok m (n - 24)) (λ _. tt)
 

@@ -1,4 +1,4 @@
--- One answer and one buffer meet the contract of `turn`; and demand 3, said of what `turn` answers and writes.
+-- One answer and one buffer meet the contract of `turn`; and what `turn` answers and writes of an accepted file, on which demand 3 (crate `demands`) rests.
 -- Assumes nothing.
 use mathlib.Core.Path.{_≡_, sym, ap, _∙_}
 use mathlib.Core.List.{List, []}
@@ -33,7 +33,7 @@ module _ (s : List ℕ) {v : File} {t : List Event} (h : judge s ≡ passed v []
     pub turn-answers : (a ≡ Written.Bytes (length s)) × (take (length s) out′ ≡ turned s) × (drop (length s) out′ ≡ drop (length s) out)
     turn-answers = writes-bytes (length s) (turned s) out out′ a (turn-length s b h) (said s h free out out′ a room x)
 
-    -- what was written is accepted, with the file's value, and so its reading, and its events, and so its table; it is as long, and in the other order
+    -- what was written is accepted, with the file's value and its events; it is as long, and in the other order
     pub turn-accepted : (judge (take (length s) out′) ≡ passed v [] t) × (length (take (length s) out′) ≡ length s) × (orderOf (take (length s) out′) ≡ other (orderOf s))
     turn-accepted =
         let y : take (length s) out′ ≡ turned s = turn-answers .1 in

@@ -1,0 +1,6 @@
+pub mod Makers
+pub mod Refusing
+pub mod Agreeing
+pub mod Samples
+pub mod Telling
+pub mod Demands

@@ -1,0 +1,366 @@
+-- The three demands on the library. Each speaks of every answer and every final buffer that meets a public call's contract, by the definition that the call's
+-- `ensures` cites; that each call ends, for every input, is the language's own check. `proofs/Demands.antt` proves them of every list of bytes.
+-- Assumes nothing.
+use mathlib.Core.Path.{_≡_}
+use mathlib.Core.Bool.{Bool, true, _||_}
+use mathlib.Core.List.{List, []}
+use mathlib.Core.Option.{none}
+use Prim.Native.Nat.{ℕ, _+_, _*_, _≤_}
+use denote.Ref.{RefT}
+use lib.Dec.{eqb}
+use lib.IntN.{ℤ}
+use lib.ListN.{length, take, drop}
+use Rattle.words.specs.Floats.{bitsOf}
+use Rattle.words.specs.Numbers.{Bytes, bytesAt, other}
+use Rattle.words.specs.Runs.{numbersIn}
+use Rattle.words.specs.Values.{unsigned}
+use Rattle.words.specs.declared.Order.{Order}
+use Rattle.walk.specs.Walk.{pick, Row, Event, Outcome, refused, passed, rows}
+use Rattle.rules.specs.Canonical.{rewritten, Canonical}
+use Rattle.rules.specs.Reading.{Value, whole, float, ChannelReading, ItemReading, FrameReading, RecordingReading, Reading, reading}
+use Rattle.rules.specs.Rules as R
+use Rattle.rules.specs.declared.FileHeader.{FileHeader}
+use Rattle.rules.specs.declared.Refusal.{Refusal}
+use Rattle.header.specs.Opened.{lettered}
+use Rattle.header.specs.declared.Lettered.the-variants as Lettered
+use Rattle.judge.specs.Judged.{AcceptedAs, JudgedAs}
+use Rattle.judge.specs.declared.Judged.{Judged}
+use Rattle.judge.specs.declared.Judged.the-variants as Judged
+use Rattle.rows.specs.Rows.{flat}
+use Rattle.table.specs.Table.{Lists}
+use Rattle.table.specs.declared.Listed.{Listed}
+use Rattle.table.specs.declared.Listed.the-variants as Listed
+use Rattle.recordings.specs.Answers.{Answer, value, refusal, _>>=_, indexed, numbered}
+use Rattle.recordings.specs.declared.Counts.{Counts}
+use Rattle.recordings.specs.declared.FactsTold.{FactsTold}
+use Rattle.recordings.specs.declared.FactsTold.the-variants as FactsTold
+use Rattle.samples.specs.declared.ClockTold.{ClockTold}
+use Rattle.samples.specs.declared.ClockTold.the-variants as ClockTold
+use Rattle.samples.specs.declared.CountTold.{CountTold}
+use Rattle.samples.specs.declared.CountTold.the-variants as CountTold
+use Rattle.samples.specs.declared.Number.{Number}
+use Rattle.samples.specs.declared.Number.the-variants as Number
+use Rattle.samples.specs.declared.SampleTold.{SampleTold}
+use Rattle.samples.specs.declared.SampleTold.the-variants as SampleTold
+use Rattle.samples.specs.declared.Time.{Time}
+use Rattle.questions.specs.Contracts.{FactsAnswer, ChannelAnswer, PatientItemAnswer, EventItemAnswer, ClockAnswer, CountAnswer, SampleAnswer, ViewAnswer}
+use Rattle.questions.specs.Meanings.{meaningF, meaningD, meaningI, meaningT, meaningC, meaningS}
+use Rattle.questions.specs.declared.channels.Calibration.{Calibration}
+use Rattle.questions.specs.declared.channels.Calibration.the-variants as Calibration
+use Rattle.questions.specs.declared.channels.ChannelTold.{ChannelTold}
+use Rattle.questions.specs.declared.channels.ChannelTold.the-variants as ChannelTold
+use Rattle.questions.specs.declared.channels.Descriptor.{Descriptor}
+use Rattle.questions.specs.declared.items.Entry.{Entry}
+use Rattle.questions.specs.declared.items.ItemTold.{ItemTold}
+use Rattle.questions.specs.declared.items.ItemTold.the-variants as ItemTold
+use Rattle.makers.specs.Makers.{firstMaker}
+use Rattle.permit.specs.declared.Written.{Written}
+use Rattle.permit.specs.declared.Written.the-variants as Written
+use Rattle.turn.specs.Turn.{Turns}
+use Rattle.rewrite.specs.Rewrite.{barrier, rewrittenIn, Rewrites}
+
+-- Demand 1: every call answers, with a value or with a refusal that document 01 gives for it; and a buffer keeps what the answer does not state
+
+-- the numbers: of a file, 1 to 16, and of each call
+abbrev pub ofFile : ℕ → Bool
+ofFile = R.between 1 16
+
+abbrev pub ofTable : ℕ → Bool
+ofTable n = ofFile n || eqb n 17
+
+abbrev pub ofTurn : ℕ → Bool
+ofTurn n = ofFile n || (eqb n 18 || eqb n 17)
+
+abbrev pub ofRewrite : ℕ → Bool
+ofRewrite n = ofFile n || (eqb n 19 || (eqb n 18 || eqb n 17))
+
+abbrev pub ofQuestion : ℕ → Bool
+ofQuestion n = ofFile n || eqb n 19
+
+-- the refusal r, of a file of `size` bytes, by a call that has these numbers and needs so many elements of its buffer
+pub record Refuses (numbers : ℕ → Bool) (size need : ℕ) (r : Refusal) : Type 0 where
+  -- it is one of the numbers, and so not 0
+  pub number : numbers (r .0) ≡ true
+  pub nonzero : 1 ≤ r .0
+  -- of the file, or 18: a byte of the file or its end
+  pub file : r .0 ≤ 16 → r .1 ≤ size
+  pub maker : r .0 ≡ 18 → r .1 ≤ size
+  -- 17: the length needed
+  pub room : r .0 ≡ 17 → r .1 ≡ need
+  -- 19: 0
+  pub range : r .0 ≡ 19 → r .1 ≡ 0
+
+-- the answer a is a value, or such a refusal
+abbrev pub Answered : {E : Type 0} → (Refusal → E) → (ℕ → Bool) → ℕ → ℕ → E → Type 0
+Answered refuse numbers size need a = (r : Refusal) → a ≡ refuse r → Refuses numbers size need r
+
+-- a buffer after the answer a, which is a refusal, or that n times so many elements were written
+pub record KeepsRest {A E : Type 0} (refuse : Refusal → E) (wrote : ℕ → E) (each : ℕ) (out out′ : List A) (a : E) : Type 0 where
+  -- a refusal leaves it as it was
+  pub refused : (r : Refusal) → a ≡ refuse r → out′ ≡ out
+  -- what is written fits, and all but it is as it was
+  pub fits : (n : ℕ) → a ≡ wrote n → each * n ≤ length out
+  pub beyond : (n : ℕ) → a ≡ wrote n → drop (each * n) out′ ≡ drop (each * n) out
+  -- it is as long as it was
+  pub long : length out′ ≡ length out
+
+-- the empty part at the file's start
+pub record AtStart (at : ℕ) (r : RefT (List ℕ)) : Type 0 where
+  pub first : at ≡ 0
+  pub empty : r .now ≡ []
+
+-- a view is no refusal: it is a part of the file
+pub record Shown (file : RefT (List ℕ)) (i j k : ℕ) (r : RefT (List ℕ)) : Type 0 where
+  -- from this byte of the file on, in its own memory
+  pub at : ℕ
+  pub block : r .ptr .0 ≡ file .ptr .0
+  pub offset : r .ptr .1 ≡ file .ptr .1 + at
+  -- inside it, and with its bytes
+  pub inside : at + length (r .now) ≤ length (file .now)
+  pub bytes : r .now ≡ bytesAt (length (r .now)) (file .now) at
+  -- the empty part at its start where the count that is asked for alike is refused, or is none
+  pub refused : (x : Refusal) → CountAnswer (file .now) i j k (CountTold.Refused x) → AtStart at r
+  pub none : CountAnswer (file .now) i j k (CountTold.Samples 0) → AtStart at r
+
+-- the rows that the rules list of a file: none where they refuse it
+abbrev pub listedRows : Outcome R.File → List Row
+listedRows (refused n p) = []
+listedRows (passed v l t) = rows 0 t
+
+-- of the file s: what each public call answers, whatever else it is asked
+pub record Demand-1 (s : List ℕ) : Type 0 where
+  -- judge
+  pub judge : (a : Judged) → JudgedAs s a → Answered Judged.Refused ofFile (length s) 0 a
+  -- table: 17 counts in numbers, four a row
+  pub table : (out out′ : List ℤ) (a : Listed) → Lists s out out′ a → Answered Listed.Refused ofTable (length s) (4 * length (listedRows (R.judge s))) a
+  pub table-keeps : (out out′ : List ℤ) (a : Listed) → Lists s out out′ a → KeepsRest Listed.Refused Listed.Rows 4 out out′ a
+  -- turn
+  pub turn : (out out′ : List ℕ) (a : Written) → Turns s out out′ a → Answered Written.Refused ofTurn (length s) (length s) a
+  pub turn-keeps : (out out′ : List ℕ) (a : Written) → Turns s out out′ a → KeepsRest Written.Refused Written.Bytes 1 out out′ a
+  -- rewrite, whatever the letter
+  pub rewrite : (order : ℕ) (out out′ : List ℕ) (a : Written) → Rewrites s order out out′ a → Answered Written.Refused ofRewrite (length s) (length (rewrittenIn (lettered order) s)) a
+  pub rewrite-keeps : (order : ℕ) (out out′ : List ℕ) (a : Written) → Rewrites s order out out′ a → KeepsRest Written.Refused Written.Bytes 1 out out′ a
+  -- the questions
+  pub facts : (i : ℕ) (a : FactsTold) → FactsAnswer s i a → Answered FactsTold.Refused ofQuestion (length s) 0 a
+  pub channel : (i j : ℕ) (a : ChannelTold) → ChannelAnswer s i j a → Answered ChannelTold.Refused ofQuestion (length s) 0 a
+  pub patient-item : (i j : ℕ) (a : ItemTold) → PatientItemAnswer s i j a → Answered ItemTold.Refused ofQuestion (length s) 0 a
+  pub event-item : (i j : ℕ) (a : ItemTold) → EventItemAnswer s i j a → Answered ItemTold.Refused ofQuestion (length s) 0 a
+  pub clock : (i j : ℕ) (a : ClockTold) → ClockAnswer s i j a → Answered ClockTold.Refused ofQuestion (length s) 0 a
+  pub count : (i j k : ℕ) (a : CountTold) → CountAnswer s i j k a → Answered CountTold.Refused ofQuestion (length s) 0 a
+  pub sample : (i j k n : ℕ) (a : SampleTold) → SampleAnswer s i j k n a → Answered SampleTold.Refused ofQuestion (length s) 0 a
+  pub view : (file : RefT (List ℕ)) → file .now ≡ s → (i j k : ℕ) (r : RefT (List ℕ)) → ViewAnswer file i j k r → Shown file i j k r
+
+-- Demand 2: a file is accepted exactly when the rules accept it, every answer is what they say, and a file written anew is the canonical one
+
+-- the rules accept the file s: v is what they read, and t what they met on the way
+abbrev pub Accepted : List ℕ → R.File → List Event → Type 0
+Accepted s v t = R.judge s ≡ passed v [] t
+
+-- the header that `judge` answers: the order letter, the script and K
+abbrev pub headerOf : List ℕ → R.File → FileHeader
+headerOf s v = record { order = R.orderOf s; heading = record { script = v .heading .script }; count = length (v .recordings) }
+
+abbrev pub refusalOf : ℕ → ℕ → Refusal
+refusalOf n p = record { 0 = n; 1 = p }
+
+pub record JudgesByRules (s : List ℕ) (a : Judged) : Type 0 where
+  -- accepted exactly when the rules accept
+  pub accepts : (v : R.File) (t : List Event) → Accepted s v t → a ≡ Judged.Accepted (headerOf s v)
+  pub accepted : (h : FileHeader) → a ≡ Judged.Accepted h → AcceptedAs s h
+  -- refused exactly when they refuse, by their number and at their position
+  pub refuses : (n p : ℕ) → R.judge s ≡ refused n p → a ≡ Judged.Refused (refusalOf n p)
+  pub refused : (n p : ℕ) → a ≡ Judged.Refused (refusalOf n p) → R.judge s ≡ refused n p
+
+-- every other call hands the rules' refusal up
+pub record HandsUp (s : List ℕ) (n p : ℕ) : Type 0 where
+  pub table : (out out′ : List ℤ) (a : Listed) → Lists s out out′ a → a ≡ Listed.Refused (refusalOf n p)
+  pub turn : (out out′ : List ℕ) (a : Written) → Turns s out out′ a → a ≡ Written.Refused (refusalOf n p)
+  pub rewrite : (order : ℕ) (out out′ : List ℕ) (a : Written) → Rewrites s order out out′ a → a ≡ Written.Refused (refusalOf n p)
+  pub facts : (i : ℕ) (a : FactsTold) → FactsAnswer s i a → a ≡ FactsTold.Refused (refusalOf n p)
+  pub channel : (i j : ℕ) (a : ChannelTold) → ChannelAnswer s i j a → a ≡ ChannelTold.Refused (refusalOf n p)
+  pub patient-item : (i j : ℕ) (a : ItemTold) → PatientItemAnswer s i j a → a ≡ ItemTold.Refused (refusalOf n p)
+  pub event-item : (i j : ℕ) (a : ItemTold) → EventItemAnswer s i j a → a ≡ ItemTold.Refused (refusalOf n p)
+  pub clock : (i j : ℕ) (a : ClockTold) → ClockAnswer s i j a → a ≡ ClockTold.Refused (refusalOf n p)
+  pub count : (i j k : ℕ) (a : CountTold) → CountAnswer s i j k a → a ≡ CountTold.Refused (refusalOf n p)
+  pub sample : (i j k m : ℕ) (a : SampleTold) → SampleAnswer s i j k m a → a ≡ SampleTold.Refused (refusalOf n p)
+
+-- the table of these rows: how many, and the numbers of each in front
+pub record TableHolds (rs : List Row) (out′ : List ℤ) (a : Listed) : Type 0 where
+  pub answer : a ≡ Listed.Rows (length rs)
+  pub holds : take (4 * length rs) out′ ≡ flat rs
+
+-- What a reading says of recording i, and of channel, item or frame j in it, from 1; of a frame, the samples of channel k. 19 outside
+module _ (g : Reading) (i : ℕ) where
+  abbrev pub recordingSaid : Answer RecordingReading
+  recordingSaid = numbered (g .recordings) i
+
+  abbrev pub channelSaid : ℕ → Answer ChannelReading
+  channelSaid j = recordingSaid >>= λ r. numbered (r .channels) j
+
+  abbrev pub patientItemSaid : ℕ → Answer ItemReading
+  patientItemSaid j = recordingSaid >>= λ r. numbered (r .patient) j
+
+  abbrev pub eventItemSaid : ℕ → Answer ItemReading
+  eventItemSaid j = recordingSaid >>= λ r. numbered (pick (r .ownEvents) (r .events) []) j
+
+  abbrev pub frameSaid : ℕ → Answer FrameReading
+  frameSaid j = recordingSaid >>= λ r. numbered (r .frames) j
+
+  abbrev pub valuesSaid : ℕ → ℕ → Answer (List Value)
+  valuesSaid j k = frameSaid j >>= λ f. numbered (f .channels) k
+
+-- What an answer of the code tells, as the reading has it: a float is its bits
+
+-- four calibration numbers
+pub record Calibrated : Type 0 where
+  pub cal : Value
+  pub calAD : Value
+  pub offsetAD : Value
+  pub offsetCal : Value
+
+abbrev pub calibratedBy : Calibration → Calibrated
+calibratedBy (Calibration.Floats a b c d) = record { cal = float (bitsOf a); calAD = float (bitsOf b); offsetAD = float (bitsOf c); offsetCal = float (bitsOf d) }
+calibratedBy (Calibration.Numbers a b c d) = record { cal = whole a; calAD = whole b; offsetAD = whole c; offsetCal = whole d }
+calibratedBy (Calibration.Patterns a b c d) = record { cal = float a; calAD = float b; offsetAD = float c; offsetCal = float d }
+
+abbrev pub valueTold : Number → Value
+valueTold (Number.Whole z) = whole z
+valueTold (Number.Float v) = float (bitsOf v)
+valueTold (Number.Pattern n) = float n
+
+-- M, F and T of a recording, and the clock of a frame
+abbrev pub countsIn : RecordingReading → Counts
+countsIn r = record { channels = length (r .channels); frames = length (r .frames); seconds = unsigned 4 (r .seconds) }
+
+abbrev pub timeIn : FrameReading → Time
+timeIn f = record { hour = f .hour; minute = f .minute; second = f .second }
+
+-- the descriptor d tells the channel c
+-- (place for its texts: the file's bytes at `label`, `unit` and `comment` are c's)
+pub record DescriptorTells (c : ChannelReading) (d : Descriptor) : Type 0 where
+  pub number : d .number ≡ c .channel
+  pub flags : d .flags ≡ c .flags
+  pub kind : d .kind ≡ c .type
+  pub format : d .format ≡ c .format
+  pub rate : d .rate ≡ c .rate
+  pub calibration : calibratedBy (d .calibration) ≡ record { cal = c .cal; calAD = c .calAD; offsetAD = c .offsetAD; offsetCal = c .offsetCal }
+  pub frequency : d .frequency ≡ c .calFrequency
+  pub low-cut : d .«low_cut» ≡ c .lowCut
+  pub high-cut : d .«high_cut» ≡ c .highCut
+  pub sensitivity : d .sensitivity ≡ c .sensitivity
+
+-- the entry e tells the item x
+-- (place for its text: the file's bytes at `text` are x's)
+pub record EntryTells (x : ItemReading) (e : Entry) : Type 0 where
+  pub code : e .code ≡ x .code
+  pub long : e .text .length ≡ length (x .content)
+
+-- two answers agree: the same refusal, or two values that are related
+pub data Agree {A B : Type 0} (T : A → B → Type 0) : Answer A → Answer B → Type 0 where
+  values : {a : A} {b : B} → T a b → Agree T (value a) (value b)
+  refusals : {n p : ℕ} → Agree T (refusal n p) (refusal n p)
+
+-- each question about a file with this reading answers what the reading says
+-- (place for `view`: its bytes, by the channel's width and the file's order, are the reading's samples)
+pub record Tells (s : List ℕ) (g : Reading) : Type 0 where
+  pub facts : (i : ℕ) (a : FactsTold) → FactsAnswer s i a → meaningF a ≡ (recordingSaid g i >>= λ r. value (countsIn r))
+  pub channel : (i j : ℕ) (a : ChannelTold) → ChannelAnswer s i j a → Agree DescriptorTells (channelSaid g i j) (meaningD a)
+  pub patient-item : (i j : ℕ) (a : ItemTold) → PatientItemAnswer s i j a → Agree EntryTells (patientItemSaid g i j) (meaningI a)
+  pub event-item : (i j : ℕ) (a : ItemTold) → EventItemAnswer s i j a → Agree EntryTells (eventItemSaid g i j) (meaningI a)
+  pub clock : (i j : ℕ) (a : ClockTold) → ClockAnswer s i j a → meaningT a ≡ (frameSaid g i j >>= λ f. value (timeIn f))
+  pub count : (i j k : ℕ) (a : CountTold) → CountAnswer s i j k a → meaningC a ≡ (valuesSaid g i j k >>= λ l. value (length l))
+  pub sample : (i j k n : ℕ) (a : SampleTold) → SampleAnswer s i j k n a → (meaningS a >>= λ x. value (valueTold x)) ≡ (valuesSaid g i j k >>= λ l. indexed l n)
+
+-- what `rewrite` wrote of a file with the reading g, in the order `to`
+pub record WrittenAnew (g : Reading) (to : Order) (out′ : List ℕ) (a : Written) : Type 0 where
+  -- so many bytes: the file that was written
+  pub count : ℕ
+  pub answer : a ≡ Written.Bytes count
+  -- it is accepted, and has this reading
+  pub file : R.File
+  pub events : List Event
+  pub accepted : Accepted (take count out′) file events
+  pub same : reading file ≡ g
+  -- it is in the order asked for
+  pub order : R.orderOf (take count out′) ≡ to
+  -- it is canonical, and the only such file (place for the canonical form as a predicate on a file)
+  pub canonical : Canonical g (take count out′)
+  pub only : (s : List ℕ) → Bytes s → Canonical g s → R.orderOf s ≡ to → s ≡ take count out′
+
+pub record Demand-2 (s : List ℕ) : Type 0 where
+  -- accepted exactly when the rules accept, and refused by every call as they refuse
+  pub judges : (a : Judged) → JudgedAs s a → JudgesByRules s a
+  pub refuses : (n p : ℕ) → R.judge s ≡ refused n p → HandsUp s n p
+  -- the table, with room, is that of the rules' rows
+  pub lists : (v : R.File) (t : List Event) → Accepted s v t → (out out′ : List ℤ) (a : Listed) → 4 * length (rows 0 t) ≤ length out → Lists s out out′ a → TableHolds (rows 0 t) out′ a
+  -- the questions
+  pub answers : (v : R.File) (t : List Event) → Accepted s v t → Tells s (reading v)
+  -- with a letter that names an order, no maker's record in the way, and room, the file is written anew
+  pub rewrites : (v : R.File) (t : List Event) → Accepted s v t → (order : ℕ) (to : Order) → lettered order ≡ Lettered.Names to → barrier (R.orderOf s) to (firstMaker (rows 0 t)) ≡ none →
+      (out out′ : List ℕ) (a : Written) → length (rewritten to s) ≤ length out → Rewrites s order out out′ a → WrittenAnew (reading v) to out′ a
+
+-- Demand 3: a file and what `turn` wrote of it say the same
+
+-- the file xs was written into a buffer
+pub record Gives (xs out′ : List ℕ) (a : Written) : Type 0 where
+  pub answer : a ≡ Written.Bytes (length xs)
+  pub holds : take (length xs) out′ ≡ xs
+
+-- two calls with one buffer: one answer, and one content of the buffer afterwards; with two buffers, one answer and the same n bytes in front
+pub record SameEnd {A E : Type 0} (a b : E) (out₁ out₂ : List A) : Type 0 where
+  pub answer : a ≡ b
+  pub buffer : out₁ ≡ out₂
+
+pub record SameFront (n : ℕ) (a b : Written) (out₁ out₂ : List ℕ) : Type 0 where
+  pub answer : a ≡ b
+  pub front : take n out₁ ≡ take n out₂
+
+-- bytes of two files are the same words of so many bytes, each file's in its own order
+pub record SameWords (w : ℕ) (o o′ : Order) (xs xs′ : List ℕ) : Type 0 where
+  pub words : List ℕ
+  pub first : xs ≡ numbersIn o w words
+  pub second : xs′ ≡ numbersIn o′ w words
+
+-- the views r and r′ of two files show the same numbers of channel k of recording i
+pub record SameNumbers (g : Reading) (i k : ℕ) (file r file′ r′ : RefT (List ℕ)) : Type 0 where
+  -- at the same place of each file, and as long
+  pub at : ℕ
+  pub offset : r .ptr .1 ≡ file .ptr .1 + at
+  pub offset′ : r′ .ptr .1 ≡ file′ .ptr .1 + at
+  pub long : length (r .now) ≡ length (r′ .now)
+  -- the same words, by the width of the channel's samples
+  pub words : (c : ChannelReading) → channelSaid g i k ≡ value c → SameWords (R.width (unsigned 4 (c .format))) (R.orderOf (file .now)) (R.orderOf (file′ .now)) (r .now) (r′ .now)
+
+-- the file s with the reading g, and the file s′ that `turn` wrote of it
+pub record Same (s : List ℕ) (g : Reading) (s′ : List ℕ) : Type 0 where
+  -- s′ is accepted, and has the same reading; it is as long, and in the other order
+  pub file : R.File
+  pub events : List Event
+  pub accepted : Accepted s′ file events
+  pub same : reading file ≡ g
+  pub long : length s′ ≡ length s
+  pub order : R.orderOf s′ ≡ other (R.orderOf s)
+  -- the same table: the answer, and the rows in the buffer
+  pub table : (out out₁ out₂ : List ℤ) (a b : Listed) → Lists s out out₁ a → Lists s′ out out₂ b → SameEnd a b out₁ out₂
+  -- the same answer to each question
+  pub facts : (i : ℕ) (a b : FactsTold) → FactsAnswer s i a → FactsAnswer s′ i b → a ≡ b
+  pub channel : (i j : ℕ) (a b : ChannelTold) → ChannelAnswer s i j a → ChannelAnswer s′ i j b → a ≡ b
+  pub patient-item : (i j : ℕ) (a b : ItemTold) → PatientItemAnswer s i j a → PatientItemAnswer s′ i j b → a ≡ b
+  pub event-item : (i j : ℕ) (a b : ItemTold) → EventItemAnswer s i j a → EventItemAnswer s′ i j b → a ≡ b
+  pub clock : (i j : ℕ) (a b : ClockTold) → ClockAnswer s i j a → ClockAnswer s′ i j b → a ≡ b
+  pub count : (i j k : ℕ) (a b : CountTold) → CountAnswer s i j k a → CountAnswer s′ i j k b → a ≡ b
+  pub sample : (i j k n : ℕ) (a b : SampleTold) → SampleAnswer s i j k n a → SampleAnswer s′ i j k n b → a ≡ b
+  pub view : (i j k : ℕ) (file r file′ r′ : RefT (List ℕ)) → file .now ≡ s → file′ .now ≡ s′ → ViewAnswer file i j k r → ViewAnswer file′ i j k r′ → SameNumbers g i k file r file′ r′
+  -- turned again, with room, it is the first file, byte for byte
+  pub back : (out out′ : List ℕ) (a : Written) → length s ≤ length out → Turns s′ out out′ a → Gives s out′ a
+  -- rewritten in one order, with room, either gives the same answer and bytes
+  pub anew : (order : ℕ) (to : Order) → lettered order ≡ Lettered.Names to →
+      (out₁ out₁′ : List ℕ) (a : Written) → length (rewritten to s) ≤ length out₁ → Rewrites s order out₁ out₁′ a →
+      (out₂ out₂′ : List ℕ) (b : Written) → length (rewritten to s) ≤ length out₂ → Rewrites s′ order out₂ out₂′ b →
+      SameFront (length (rewritten to s)) a b out₁′ out₂′
+
+pub record Demand-3 (s : List ℕ) : Type 0 where
+  -- of an accepted file without makers' records, and with room, `turn` writes as many bytes as the file has: a file that says the same
+  pub answers : (v : R.File) (t : List Event) → Accepted s v t → firstMaker (rows 0 t) ≡ none → (out out′ : List ℕ) (a : Written) → length s ≤ length out → Turns s out out′ a → a ≡ Written.Bytes (length s)
+  pub turned : (v : R.File) (t : List Event) → Accepted s v t → firstMaker (rows 0 t) ≡ none → (out out′ : List ℕ) (a : Written) → length s ≤ length out → Turns s out out′ a →
+      Same s (reading v) (take (length s) out′)
