@@ -15,7 +15,8 @@ use Rattle.walk.specs.Walk.{Row, Event, Outcome, refused, passed, rows}
 use Rattle.rules.specs.Canonical.{rewritten, canonical}
 use Rattle.rules.specs.Reading.{ChannelReading, channelReading, reading}
 use Rattle.rules.specs.Rules as R
-use Rattle.rules.proofs.Rewrite.{rewrite-bytes, canonical-unique}
+use Rattle.rules.proofs.CanonicalForm.{canonical-form, form-unique}
+use Rattle.rules.proofs.Rewrite.{rewrite-bytes}
 use Rattle.rules.proofs.Turn.{is-render, nothing-left, turn-bytes}
 use Rattle.judge.proofs.Verdicts.{judge-accepted, judge-refused}
 use Rattle.rows.specs.Rows.{written, flat}
@@ -33,23 +34,26 @@ use Rattle.samples.specs.declared.CountTold.the-variants as CountTold
 use Rattle.samples.specs.declared.SampleTold.the-variants as SampleTold
 use Rattle.records.specs.declared.items.Holder.the-variants as Holder
 use Rattle.questions.specs.Contracts.{ViewAnswer}
+use Rattle.questions.specs.Tied.{recordingRead, channelRead}
 use Rattle.questions.specs.Meanings.{meaningF, meaningD, meaningI, meaningT, meaningC, meaningS}
 use Rattle.questions.specs.Questions.{viewOf}
 use Rattle.questions.specs.Values.{textAt}
 use Rattle.questions.specs.declared.channels.ChannelTold.the-variants as ChannelTold
 use Rattle.questions.specs.declared.channels.Text.{Text}
 use Rattle.questions.specs.declared.items.ItemTold.the-variants as ItemTold
+use Rattle.questions.proofs.Texts.{channel-texts, item-text}
+use Rattle.questions.proofs.Views.{view-samples}
 use Rattle.questions.proofs.Unique.{facts-unique, channel-unique, patient-item-unique, event-item-unique, clock-unique, count-unique, sample-unique}
 use Rattle.permit.specs.Permit as Permit
 use Rattle.turn.proofs.Answers.{turns-refused}
 use Rattle.turn.proofs.Demands.{turn-unique, turn-answers, turn-accepted, turn-twice}
 use Rattle.rewrite.proofs.Answers.{rewrites-refused}
 use Rattle.rewrite.proofs.Demands.{rewrite-unique, rewrite-answers, rewrite-accepted, rewrite-both}
-use Rattle.demands.specs.Demands.{ofFile, AtStart, Shown, Demand-1, Accepted, HandsUp, TableHolds, channelSaid, recordingSaid, Tells, Demand-2, SameEnd, SameNumbers, Demand-3}
+use Rattle.demands.specs.Demands.{ofFile, AtStart, Shown, Demand-1, Accepted, HandsUp, TableHolds, Tells, Demand-2, SameEnd, SameNumbers, Demand-3}
 use Rattle.demands.proofs.Agreeing.{agree-first, numbered-image}
 use Rattle.demands.proofs.Refusing.{of-file, table-refuses, table-keeps, turn-refuses, turn-keeps, rewrite-refuses, rewrite-keeps, question, proper-facts, proper-channel, proper-item, proper-clock, proper-count, proper-sample}
 use Rattle.demands.proofs.Samples.{recording-picked, view-inside, view-words, view-refused, view-none}
-use Rattle.demands.proofs.Telling.{channel-words, facts-told, channel-agrees, patient-agrees, event-agrees, clock-told, count-told, sample-told}
+use Rattle.demands.proofs.Telling.{channel-words, facts-told, channel-agrees, clock-told, count-told, sample-told}
 
 -- A view
 
@@ -134,11 +138,13 @@ tells : (s : List ℕ) → Bytes s → {v : R.File} {t : List Event} → Accepte
 tells s b h = record {
   facts = λ i a x. x ∙ facts-told s b h i;
   channel = λ i j a x. rw x (channel-agrees s b h i j);
-  patient-item = λ i j a x. rw x (patient-agrees s b h i j);
-  event-item = λ i j a x. rw x (event-agrees s b h i j);
+  texts = λ i j a x. rw x (channel-texts s b h i j);
+  patient-item = λ i j a x. rw x (item-text s b h i j Holder.Patient);
+  event-item = λ i j a x. rw x (item-text s b h i j Holder.Event);
   clock = λ i j a x. x ∙ clock-told s b h i j;
   count = λ i j k a x. x ∙ count-told s b h i j k;
   sample = λ i j k n a x. rw x (sample-told s b h i j k n);
+  view = λ i j k a x. rw x (view-samples s b h i j k);
 }
 
 pub demand-2 : (s : List ℕ) → Bytes s → Demand-2 s
@@ -155,6 +161,8 @@ demand-2 s b = record {
   rewrites = λ v t h order to names free out out′ a room x.
       let y = rewrite-answers s h order to names free out out′ a room x in
       let z = rewrite-accepted s h order to names free out out′ a room x b in
+      let bs : Bytes (take (length (rewritten to s)) out′) = rw (y .1) (rewrite-bytes s b h to) in
+      let form = canonical-form (reading v) (take (length (rewritten to s)) out′) bs (z .0) in
       record {
         count = length (rewritten to s);
         answer = y .0;
@@ -163,8 +171,8 @@ demand-2 s b = record {
         accepted = z .0 .judged;
         same = z .0 .same;
         order = z .1;
-        canonical = z .0;
-        only = λ q d c e. canonical-unique (reading v) q _ d (rw (y .1) (rewrite-bytes s b h to)) c (z .0) (e ∙ sym (z .1));
+        form = form;
+        only = λ q u m d k f e o. form-unique q _ d bs k (z .0 .judged) (e ∙ sym (z .0 .same)) f form (o ∙ sym (z .1));
       };
 }
 
@@ -178,7 +186,7 @@ module _ (s s′ : List ℕ) (e : R.judge s′ ≡ R.judge s) where
       record { answer = z .0; buffer = z .1 }
 
 -- the channel of a reading is that of the file's value
-module _ (s : List ℕ) {v : R.File} {t : List Event} (h : Accepted s v t) (i k : ℕ) (c : ChannelReading) (has : channelSaid (reading v) i k ≡ value c) where
+module _ (s : List ℕ) {v : R.File} {t : List Event} (h : Accepted s v t) (i k : ℕ) (c : ChannelReading) (has : channelRead (reading v) i k ≡ value c) where
   record Behind : Type 0 where
     of : R.Placed
     is : numbered (v .recordings) i ≡ value of
@@ -188,7 +196,7 @@ module _ (s : List ℕ) {v : R.File} {t : List Event} (h : Accepted s v t) (i k 
 
   behind : Behind
   behind =
-      let a = answered (recordingSaid (reading v) i) (λ r. numbered (r .channels) k) has in
+      let a = answered (recordingRead (reading v) i) (λ r. numbered (r .channels) k) has in
       let p = agree-first (recording-picked s h i) (a .1) in
       let y = agree-first (numbered-image channelReading (p .0 .this .recording .channels) k) (rw (p .2 .reads) at (a .2)) in
       record { of = p .0 .this; is = p .2 .is; channel = y .0; holds = y .1; reads = y .2 .maps }

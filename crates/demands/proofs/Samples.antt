@@ -30,7 +30,8 @@ use Rattle.samples.specs.Frames.{ChosenFrame, frameOf, Samples, samplesOf}
 use Rattle.questions.specs.Questions.{countOf, partOf, viewOf}
 use Rattle.questions.specs.Values.{textAt}
 use Rattle.questions.specs.declared.channels.Text.{Text}
-use Rattle.demands.specs.Demands.{Accepted, Agree, values, refusals, recordingSaid, frameSaid, valuesSaid}
+use Rattle.questions.specs.Tied.{recordingRead, frameRead, samplesRead}
+use Rattle.demands.specs.Demands.{Accepted, Agree, values, refusals}
 use Rattle.demands.proofs.Agreeing.{agree-then, agree-on, agree-second, numbered-image}
 
 -- Numbers, one after the other, in events and in bytes
@@ -159,13 +160,13 @@ abbrev pub sampledAs : ℕ → ChosenFrame → R.Channel → List Value → Samp
 sampledAs k f c vs = record { at = f .at + (24 + sampleBytes (f .of .this .recording .seconds) (take (k - 1) (f .of .this .recording .channels))); format = c .format; values = vs }
 
 module _ (s : List ℕ) {v : R.File} {t : List Event} (h : Accepted s v t) (i : ℕ) where
-  pub recording-picked : Agree (Picked v i) (recordingSaid (reading v) i) (recordingOf s i)
+  pub recording-picked : Agree (Picked v i) (recordingRead (reading v) i) (recordingOf s i)
   recording-picked =
       rw (h, map-map recordingReading (λ (p : R.Placed). p .recording) (v .recordings))
       (agree-on (chosenAs v i) (numbered-image (λ (p : R.Placed). recordingReading (p .recording)) (v .recordings) i)
       (λ r p e. record { is = e .is; reads = e .maps; all = refl; index = refl }))
 
-  pub frame-picked : (j : ℕ) → Agree (PickedFrame v i j) (frameSaid (reading v) i j) (frameOf s i j)
+  pub frame-picked : (j : ℕ) → Agree (PickedFrame v i j) (frameRead (reading v) i j) (frameOf s i j)
   frame-picked j =
       agree-then (λ r. numbered (r .frames) j) (λ c. numbered (c .this .recording .frames) j >>= λ f. value (framedAs j c f)) recording-picked
       (λ r c p.
@@ -208,7 +209,7 @@ module _ (s : List ℕ) (b : Bytes s) {v : R.File} {t : List Event} (h : Accepte
   channel-stands (refusal n q) isC w isV = rw (sym isV ∙ none-numbered cs (f .frame .channels) k isC) refusals
 
 module _ (s : List ℕ) (b : Bytes s) {v : R.File} {t : List Event} (h : Accepted s v t) (i j k : ℕ) where
-  pub samples-stand : Agree (Stand v t i k) (valuesSaid (reading v) i j k) (samplesOf s i j k)
+  pub samples-stand : Agree (Stand v t i k) (samplesRead (reading v) i j k) (samplesOf s i j k)
   samples-stand =
       agree-then (λ g. numbered (g .channels) k)
       (λ f. numbered (f .of .this .recording .channels) k >>= λ c. numbered (samplesReading (f .of .this .recording .channels) (f .frame .channels)) k >>= λ vs. value (sampledAs k f c vs)) (frame-picked s h i j)

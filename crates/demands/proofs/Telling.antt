@@ -8,7 +8,7 @@ use native.Mathlib.Omega.{arith}
 use borrow.Author.Tests.{eqb-true}
 use lib.Dec.{eqb}
 use lib.ListN.{length, take, getD, length-map, List·getD-map}
-use Rattle.words.specs.Floats.{isNan}
+use Rattle.words.specs.Floats.{nanPattern}
 use Rattle.words.specs.Numbers.{Bytes}
 use Rattle.words.specs.Values.{signed, unsigned}
 use Rattle.words.proofs.Floats.{bitsOf-floatOf}
@@ -16,7 +16,8 @@ use Rattle.walk.specs.Plays.{Plays}
 use Rattle.walk.specs.Walk as W
 use Rattle.walk.specs.Walk.{pick, Event}
 use Rattle.walk.proofs.Laws.{by-parts, checked, traced}
-use Rattle.rules.specs.Reading.{Value, whole, float, valueOf, channelReading, channelWords, itemReading, frameReading, recordingReading, recordingWords, reading}
+use Rattle.rules.specs.Reading.{Value, whole, float, valueOf, channelReading, frameReading, recordingReading, reading}
+use Rattle.rules.specs.Words.{channelWords, recordingWords}
 use Rattle.rules.specs.Rules as R
 use Rattle.rules.specs.Rules.{fixed, head, admit, channelBody, width}
 use Rattle.rules.proofs.Held.{channel-holds-at}
@@ -27,20 +28,21 @@ use Rattle.recordings.proofs.Chosen.{indexed-one, numbered-one}
 use Rattle.samples.specs.Frames.{timeOf, Samples, numberIn, floatIn}
 use Rattle.samples.specs.declared.Number.{Number}
 use Rattle.samples.proofs.Bits.{a-pattern, a-float}
-use Rattle.questions.specs.Questions.{factsOf, channelOf, itemIn, patientItemOf, eventItemOf, clockOf, countOf, sampleOf}
+use Rattle.questions.specs.Questions.{factsOf, channelOf, clockOf, countOf, sampleOf}
+use Rattle.questions.specs.Tied.{recordingRead, channelRead, frameRead, samplesRead, sampleRead}
 use Rattle.questions.specs.Values.{someNan, floatsOf, calibrationOf, descriptorOf, entryOf}
 use Rattle.questions.specs.declared.channels.Calibration.the-variants as Calibration
 use Rattle.questions.proofs.Calibrated.{plain, patterns, floats}
-use Rattle.demands.specs.Demands.{Accepted, recordingSaid, channelSaid, patientItemSaid, eventItemSaid, frameSaid, valuesSaid, calibratedBy, valueTold, countsIn, timeIn, DescriptorTells, EntryTells, Agree, values, refusals}
+use Rattle.demands.specs.Demands.{Accepted, calibratedBy, valueTold, countsIn, timeIn, DescriptorTells, Agree, values, refusals}
 use Rattle.demands.proofs.Agreeing.{agree-then, agree-on, agree-equal, numbered-image, image-value}
 use Rattle.demands.proofs.Samples.{numbers-small, Stand, recording-picked, frame-picked, samples-stand}
 
 -- Numbers: what the code answers keeps a float's bits
 
 float-told : (n : ℕ) → n < 2 ^ 32 → valueTold (floatIn n) ≡ float n
-float-told n h = go (isNan n) refl
+float-told n h = go (nanPattern n) refl
   where
-    go : (c : Bool) → isNan n ≡ c → valueTold (floatIn n) ≡ float n
+    go : (c : Bool) → nanPattern n ≡ c → valueTold (floatIn n) ≡ float n
     go true e = rw (a-pattern n e)
     go false e = rw (a-float n e) (ap float (bitsOf-floatOf n h e))
 
@@ -115,15 +117,6 @@ channel-told c p h = record {
   sensitivity = refl;
 }
 
--- items of a record, and of one that may be absent
-items-told : (is : List R.Item) (p j : ℕ) → Agree EntryTells (numbered (map itemReading is) j) (itemIn is p j)
-unfolding itemIn
-items-told is p j = agree-on (λ x. entryOf x (p + (24 + R.itemBytes (take (j - 1) is)))) (numbered-image itemReading is j) (λ x y e. rw (e .maps) (record { code = refl; long = refl }))
-
-events-told : (own : Bool) (is : List R.Item) (p j : ℕ) → Agree EntryTells (numbered (pick own (map itemReading is) []) j) (itemIn (pick own is []) p j)
-events-told true is p j = items-told is p j
-events-told false is p j = items-told [] p j
-
 -- The questions about an accepted file
 
 module _ (s : List ℕ) (b : Bytes s) {v : R.File} {t : List Event} (h : Accepted s v t) (i : ℕ) where
@@ -139,7 +132,7 @@ module _ (s : List ℕ) (b : Bytes s) {v : R.File} {t : List Event} (h : Accepte
       let y = image-value channelWords _ k (image-value channelReading (p .recording .channels) k has) in
       cc (sym y ∙ (ap (λ (r : R.Recording). numbered (r .channels) k) (recording-words p is) ∙ has))
 
-  pub facts-told : factsOf s i ≡ (recordingSaid (reading v) i >>= λ r. value (countsIn r))
+  pub facts-told : factsOf s i ≡ (recordingRead (reading v) i >>= λ r. value (countsIn r))
   facts-told =
       agree-equal
       (agree-then (λ r. value (countsIn r))
@@ -159,7 +152,7 @@ module _ (s : List ℕ) (b : Bytes s) {v : R.File} {t : List Event} (h : Accepte
       let g = channel-holds-at s b h p (i - 1) (x .inside) c (j - 1) (rw e (y .inside)) in
       rw (e, y .is c) at (channel-small (g .0) _ (g .1 .plays))
 
-  pub channel-agrees : (j : ℕ) → Agree DescriptorTells (channelSaid (reading v) i j) (channelOf s i j)
+  pub channel-agrees : (j : ℕ) → Agree DescriptorTells (channelRead (reading v) i j) (channelOf s i j)
   channel-agrees j =
       agree-then (λ r. numbered (r .channels) j) (λ c. numbered (c .this .recording .channels) j >>= λ x. value (descriptorOf x (at120 c + (32 + 256 * (j - 1)))))
       (recording-picked s h i)
@@ -168,23 +161,12 @@ module _ (s : List ℕ) (b : Bytes s) {v : R.File} {t : List Event} (h : Accepte
       (agree-on (λ x. descriptorOf x (at120 c + (32 + 256 * (j - 1)))) (numbered-image channelReading (c .this .recording .channels) j)
       (λ x y e. rw (e .maps) (channel-told y _ (channel-is-small (c .this) (p .is) j y (e .is))))))
 
-  pub patient-agrees : (j : ℕ) → Agree EntryTells (patientItemSaid (reading v) i j) (patientItemOf s i j)
-  patient-agrees j =
-      agree-then (λ r. numbered (r .patient) j) (λ c. itemIn (c .this .recording .patient) (at130 c) j) (recording-picked s h i)
-      (λ r c p. rw (p .reads) (items-told (c .this .recording .patient) (at130 c) j))
-
-  pub event-agrees : (j : ℕ) → Agree EntryTells (eventItemSaid (reading v) i j) (eventItemOf s i j)
-  event-agrees j =
-      agree-then (λ r. numbered (pick (r .ownEvents) (r .events) []) j)
-      (λ c. itemIn (pick (c .this .recording .ownEvents) (c .this .recording .events) []) (startOf c + c .this .layout .at200) j) (recording-picked s h i)
-      (λ r c p. rw (p .reads) (events-told (c .this .recording .ownEvents) (c .this .recording .events) (startOf c + c .this .layout .at200) j))
-
-  pub clock-told : (j : ℕ) → clockOf s i j ≡ (frameSaid (reading v) i j >>= λ f. value (timeIn f))
+  pub clock-told : (j : ℕ) → clockOf s i j ≡ (frameRead (reading v) i j >>= λ f. value (timeIn f))
   clock-told j =
       agree-equal (agree-then (λ f. value (timeIn f)) (λ f. value (timeOf (f .frame))) (frame-picked s h i j) (λ g f p. rw (p .reads) (values refl)))
 
   module _ (j k : ℕ) where
-    pub count-told : countOf s i j k ≡ (valuesSaid (reading v) i j k >>= λ l. value (length l))
+    pub count-told : countOf s i j k ≡ (samplesRead (reading v) i j k >>= λ l. value (length l))
     count-told =
         agree-equal (agree-then (λ l. value (length l)) (λ x. value (length (x .values))) (samples-stand s b h i j k) (λ l x st. values (ap length (st .values))))
 
@@ -199,6 +181,6 @@ module _ (s : List ℕ) (b : Bytes s) {v : R.File} {t : List Event} (h : Accepte
         go (value u) e = values (sample-kept st n e)
         go (refusal m p) e = refusals
 
-    pub sample-told : (n : ℕ) → (sampleOf s i j k n >>= λ y. value (valueTold y)) ≡ (valuesSaid (reading v) i j k >>= λ l. indexed l n)
+    pub sample-told : (n : ℕ) → (sampleOf s i j k n >>= λ y. value (valueTold y)) ≡ sampleRead (reading v) i j k n
     sample-told n =
         agree-equal (agree-on valueTold (agree-then (λ l. indexed l n) (λ x. indexed (x .values) n >>= λ u. value (numberIn u)) (samples-stand s b h i j k) (one-told n)) (λ u y e. e))

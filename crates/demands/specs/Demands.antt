@@ -16,11 +16,13 @@ use Rattle.words.specs.Runs.{numbersIn}
 use Rattle.words.specs.Values.{unsigned}
 use Rattle.words.specs.declared.Order.{Order}
 use Rattle.walk.specs.Walk.{pick, Row, Event, Outcome, refused, passed, rows}
-use Rattle.rules.specs.Canonical.{rewritten, Canonical}
+use Rattle.rules.specs.Canonical.{rewritten}
+use Rattle.rules.specs.CanonicalForm.{CanonicalForm}
 use Rattle.rules.specs.Reading.{Value, whole, float, ChannelReading, ItemReading, FrameReading, RecordingReading, Reading, reading}
 use Rattle.rules.specs.Rules as R
 use Rattle.rules.specs.declared.FileHeader.{FileHeader}
 use Rattle.rules.specs.declared.Refusal.{Refusal}
+use Rattle.records.specs.declared.items.Holder.the-variants as Holder
 use Rattle.header.specs.Opened.{lettered}
 use Rattle.header.specs.declared.Lettered.the-variants as Lettered
 use Rattle.judge.specs.Judged.{AcceptedAs, JudgedAs}
@@ -44,6 +46,7 @@ use Rattle.samples.specs.declared.SampleTold.{SampleTold}
 use Rattle.samples.specs.declared.SampleTold.the-variants as SampleTold
 use Rattle.samples.specs.declared.Time.{Time}
 use Rattle.questions.specs.Contracts.{FactsAnswer, ChannelAnswer, PatientItemAnswer, EventItemAnswer, ClockAnswer, CountAnswer, SampleAnswer, ViewAnswer}
+use Rattle.questions.specs.Tied.{recordingRead, channelRead, itemRead, frameRead, samplesRead, sampleRead, Alike, TextsAre, ItemIs, ViewIs}
 use Rattle.questions.specs.Meanings.{meaningF, meaningD, meaningI, meaningT, meaningC, meaningS}
 use Rattle.questions.specs.declared.channels.Calibration.{Calibration}
 use Rattle.questions.specs.declared.channels.Calibration.the-variants as Calibration
@@ -189,26 +192,6 @@ pub record TableHolds (rs : List Row) (out′ : List ℤ) (a : Listed) : Type 0 
   pub answer : a ≡ Listed.Rows (length rs)
   pub holds : take (4 * length rs) out′ ≡ flat rs
 
--- What a reading says of recording i, and of channel, item or frame j in it, from 1; of a frame, the samples of channel k. 19 outside
-module _ (g : Reading) (i : ℕ) where
-  abbrev pub recordingSaid : Answer RecordingReading
-  recordingSaid = numbered (g .recordings) i
-
-  abbrev pub channelSaid : ℕ → Answer ChannelReading
-  channelSaid j = recordingSaid >>= λ r. numbered (r .channels) j
-
-  abbrev pub patientItemSaid : ℕ → Answer ItemReading
-  patientItemSaid j = recordingSaid >>= λ r. numbered (r .patient) j
-
-  abbrev pub eventItemSaid : ℕ → Answer ItemReading
-  eventItemSaid j = recordingSaid >>= λ r. numbered (pick (r .ownEvents) (r .events) []) j
-
-  abbrev pub frameSaid : ℕ → Answer FrameReading
-  frameSaid j = recordingSaid >>= λ r. numbered (r .frames) j
-
-  abbrev pub valuesSaid : ℕ → ℕ → Answer (List Value)
-  valuesSaid j k = frameSaid j >>= λ f. numbered (f .channels) k
-
 -- What an answer of the code tells, as the reading has it: a float is its bits
 
 -- four calibration numbers
@@ -235,8 +218,7 @@ countsIn r = record { channels = length (r .channels); frames = length (r .frame
 abbrev pub timeIn : FrameReading → Time
 timeIn f = record { hour = f .hour; minute = f .minute; second = f .second }
 
--- the descriptor d tells the channel c
--- (place for its texts: the file's bytes at `label`, `unit` and `comment` are c's)
+-- the numbers of the descriptor d tell the channel c
 pub record DescriptorTells (c : ChannelReading) (d : Descriptor) : Type 0 where
   pub number : d .number ≡ c .channel
   pub flags : d .flags ≡ c .flags
@@ -249,27 +231,24 @@ pub record DescriptorTells (c : ChannelReading) (d : Descriptor) : Type 0 where
   pub high-cut : d .«high_cut» ≡ c .highCut
   pub sensitivity : d .sensitivity ≡ c .sensitivity
 
--- the entry e tells the item x
--- (place for its text: the file's bytes at `text` are x's)
-pub record EntryTells (x : ItemReading) (e : Entry) : Type 0 where
-  pub code : e .code ≡ x .code
-  pub long : e .text .length ≡ length (x .content)
-
 -- two answers agree: the same refusal, or two values that are related
 pub data Agree {A B : Type 0} (T : A → B → Type 0) : Answer A → Answer B → Type 0 where
   values : {a : A} {b : B} → T a b → Agree T (value a) (value b)
   refusals : {n p : ℕ} → Agree T (refusal n p) (refusal n p)
 
 -- each question about a file with this reading answers what the reading says
--- (place for `view`: its bytes, by the channel's width and the file's order, are the reading's samples)
 pub record Tells (s : List ℕ) (g : Reading) : Type 0 where
-  pub facts : (i : ℕ) (a : FactsTold) → FactsAnswer s i a → meaningF a ≡ (recordingSaid g i >>= λ r. value (countsIn r))
-  pub channel : (i j : ℕ) (a : ChannelTold) → ChannelAnswer s i j a → Agree DescriptorTells (channelSaid g i j) (meaningD a)
-  pub patient-item : (i j : ℕ) (a : ItemTold) → PatientItemAnswer s i j a → Agree EntryTells (patientItemSaid g i j) (meaningI a)
-  pub event-item : (i j : ℕ) (a : ItemTold) → EventItemAnswer s i j a → Agree EntryTells (eventItemSaid g i j) (meaningI a)
-  pub clock : (i j : ℕ) (a : ClockTold) → ClockAnswer s i j a → meaningT a ≡ (frameSaid g i j >>= λ f. value (timeIn f))
-  pub count : (i j k : ℕ) (a : CountTold) → CountAnswer s i j k a → meaningC a ≡ (valuesSaid g i j k >>= λ l. value (length l))
-  pub sample : (i j k n : ℕ) (a : SampleTold) → SampleAnswer s i j k n a → (meaningS a >>= λ x. value (valueTold x)) ≡ (valuesSaid g i j k >>= λ l. indexed l n)
+  pub facts : (i : ℕ) (a : FactsTold) → FactsAnswer s i a → meaningF a ≡ (recordingRead g i >>= λ r. value (countsIn r))
+  pub channel : (i j : ℕ) (a : ChannelTold) → ChannelAnswer s i j a → Agree DescriptorTells (channelRead g i j) (meaningD a)
+  -- the bytes that a text names lie in the file, and are the reading's text
+  pub texts : (i j : ℕ) (a : ChannelTold) → ChannelAnswer s i j a → Alike (TextsAre s) (meaningD a) (channelRead g i j)
+  pub patient-item : (i j : ℕ) (a : ItemTold) → PatientItemAnswer s i j a → Alike (ItemIs s) (meaningI a) (itemRead Holder.Patient g i j)
+  pub event-item : (i j : ℕ) (a : ItemTold) → EventItemAnswer s i j a → Alike (ItemIs s) (meaningI a) (itemRead Holder.Event g i j)
+  pub clock : (i j : ℕ) (a : ClockTold) → ClockAnswer s i j a → meaningT a ≡ (frameRead g i j >>= λ f. value (timeIn f))
+  pub count : (i j k : ℕ) (a : CountTold) → CountAnswer s i j k a → meaningC a ≡ (samplesRead g i j k >>= λ l. value (length l))
+  pub sample : (i j k n : ℕ) (a : SampleTold) → SampleAnswer s i j k n a → (meaningS a >>= λ x. value (valueTold x)) ≡ sampleRead g i j k n
+  -- the bytes of a view, by the channel's width and the file's order, are the reading's samples, as many as are counted
+  pub view : (i j k : ℕ) (a : CountTold) → CountAnswer s i j k a → Alike (ViewIs s g i j k) (meaningC a) (samplesRead g i j k)
 
 -- what `rewrite` wrote of a file with the reading g, in the order `to`
 pub record WrittenAnew (g : Reading) (to : Order) (out′ : List ℕ) (a : Written) : Type 0 where
@@ -283,9 +262,9 @@ pub record WrittenAnew (g : Reading) (to : Order) (out′ : List ℕ) (a : Writt
   pub same : reading file ≡ g
   -- it is in the order asked for
   pub order : R.orderOf (take count out′) ≡ to
-  -- it is canonical, and the only such file (place for the canonical form as a predicate on a file)
-  pub canonical : Canonical g (take count out′)
-  pub only : (s : List ℕ) → Bytes s → Canonical g s → R.orderOf s ≡ to → s ≡ take count out′
+  -- it has the canonical form, and is the only such file
+  pub form : CanonicalForm (take count out′) file events
+  pub only : (q : List ℕ) (v : R.File) (t : List Event) → Bytes q → Accepted q v t → CanonicalForm q v t → reading v ≡ g → R.orderOf q ≡ to → q ≡ take count out′
 
 pub record Demand-2 (s : List ℕ) : Type 0 where
   -- accepted exactly when the rules accept, and refused by every call as they refuse
@@ -329,7 +308,7 @@ pub record SameNumbers (g : Reading) (i k : ℕ) (file r file′ r′ : RefT (Li
   pub offset′ : r′ .ptr .1 ≡ file′ .ptr .1 + at
   pub long : length (r .now) ≡ length (r′ .now)
   -- the same words, by the width of the channel's samples
-  pub words : (c : ChannelReading) → channelSaid g i k ≡ value c → SameWords (R.width (unsigned 4 (c .format))) (R.orderOf (file .now)) (R.orderOf (file′ .now)) (r .now) (r′ .now)
+  pub words : (c : ChannelReading) → channelRead g i k ≡ value c → SameWords (R.width (unsigned 4 (c .format))) (R.orderOf (file .now)) (R.orderOf (file′ .now)) (r .now) (r′ .now)
 
 -- the file s with the reading g, and the file s′ that `turn` wrote of it
 pub record Same (s : List ℕ) (g : Reading) (s′ : List ℕ) : Type 0 where

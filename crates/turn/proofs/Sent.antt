@@ -132,8 +132,8 @@ module _ (w : Way) where
   abbrev pub sentOf : Said → List ℕ
   sentOf l = written (w .keep) (w .to) (l .events)
 
-  pub sent-none : (out : List ℕ) → AfterHeader out out 32 (sentOf nothing)
-  sent-none out = record { is = rw (written-none (w .keep) (w .to)) (pastes-nothing out 32) }
+  pub sent-first : (out : List ℕ) → AfterHeader out out 32 (sentOf nothing)
+  sent-first out = record { is = rw (written-none (w .keep) (w .to)) (pastes-nothing out 32) }
 
   module _ {s : List ℕ} {p : ℕ} where
     -- one recording more: the code has its places q, and wrote it where it stands in the file

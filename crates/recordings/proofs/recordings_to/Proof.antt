@@ -7,7 +7,6 @@ use denote.Ref.{now}
 use borrow.Author.Needs.{needs}
 use Rattle.descriptions.specs.declared.Before.the-variants as Before
 use Rattle.words.proofs.Words.{bytes}
-use Rattle.children.proofs.Again.{bounds}
 use Rattle.recordings.proofs.Reach.{Walked, ok-of, going-start, met, met-reached}
 use Rattle.recordings.proofs.recordings_to.Statement.{statement}
 use Rattle.recordings.proofs.recordings_to.Tie as tie

@@ -12,7 +12,7 @@ use Rattle.descriptions.specs.declared.Before.{Before}
 use Rattle.children.specs.Children.{said}
 use Rattle.children.proofs.Again.{Along, along-start, along-stop, along-fits, along-next, along-end}
 use Rattle.bodies.specs.declared.Way.{Way}
-use Rattle.turn.proofs.Sent.{AfterHeader, whole-file, sentOf, sent-none, sent-next, sent-length, header-first}
+use Rattle.turn.proofs.Sent.{AfterHeader, whole-file, sentOf, sent-first, sent-next, sent-length, header-first}
 use borrow.Author.Needs.{needs}
 use Rattle.turn.proofs.recordings.file_turned.Statement.{statement}
 use Rattle.turn.proofs.recordings.file_turned.Tie as tie
@@ -48,7 +48,7 @@ header-requires c κs = (length-take-le 32 (c .before .before .before .before .b
 loop-holds : tie.Need-loop-holds Inv-loop μ-loop
 loop-holds c =
     let z = start (c .before) in
-    record { room = omega (arith, c .before .out .given .1, z .pre .2); same = refl; along = along-start (z .pre .0) (sent-none (way (c .before)) _) }
+    record { room = omega (arith, c .before .out .given .1, z .pre .2); same = refl; along = along-start (z .pre .0) (sent-first (way (c .before)) _) }
 
 returns : tie.Need-returns Inv-loop μ-loop
 returns c =
