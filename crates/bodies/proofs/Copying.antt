@@ -12,7 +12,7 @@ use Rattle.walk.specs.Trace.{trace, written}
 use Rattle.walk.specs.Walk.{Walk, give, _>>=_, _>>_}
 use Rattle.walk.proofs.Tracing.{trace-bind, trace-give, trace-part, trace-body, size-trace, written-append, written-row, length-written}
 use Rattle.rules.specs.Rules.{Head, admit, span}
-use Rattle.bodies.specs.Copy.{copy, Pastes, Holds}
+use Rattle.bodies.specs.Copy.{copy, Pastes, HoldsFrom}
 use Rattle.bodies.specs.declared.Way.{Way}
 
 module _ {A B : Type 0} (w : Way) (b : ℕ) (s : List ℕ) (at : ℕ) where
@@ -52,7 +52,7 @@ module _ {A : Type 0} (w : Way) where
 
 -- bytes pasted behind others
 module _ (out out₁ out₂ : List ℕ) (k k₁ k₂ : ℕ) (xs ys : List ℕ) where
-  pub holds-join : Pastes out out₁ k k₁ xs → Holds out₁ out₂ k₁ ys → Holds out out₂ k (xs ++ ys)
+  pub holds-join : Pastes out out₁ k k₁ xs → HoldsFrom out₁ out₂ k₁ ys → HoldsFrom out out₂ k (xs ++ ys)
   holds-join f g h =
       let n : length (xs ++ ys) ≡ length xs + length ys = length-append xs ys in
       let p = f (omega (arith, n)) in

@@ -33,8 +33,8 @@ abbrev pub Pastes : List ℕ → List ℕ → ℕ → ℕ → List ℕ → Type 
 Pastes out out′ k k′ xs = (k + length xs ≤ length out → (k′ ≡ k + length xs) × (out′ ≡ pasted out k xs))
 
 -- the same where nothing is said of what follows
-abbrev pub Holds : List ℕ → List ℕ → ℕ → List ℕ → Type 0
-Holds out out′ k xs = (k + length xs ≤ length out → out′ ≡ pasted out k xs)
+abbrev pub HoldsFrom : List ℕ → List ℕ → ℕ → List ℕ → Type 0
+HoldsFrom out out′ k xs = (k + length xs ≤ length out → out′ ≡ pasted out k xs)
 
 -- a frame's clock and its samples, without what pads it
 unfoldable pub filling : ℕ → List R.Channel → Walk (List (List ℕ))

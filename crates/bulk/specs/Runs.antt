@@ -13,7 +13,7 @@ pub record Run (w n : ℕ) (s d : List ℕ) : Type 0 where
   pub room : length d ≡ n * w
 
 -- n numbers of three bytes among their neighbours, and their room
-pub record Within (n : ℕ) (s d : List ℕ) : Type 0 where
+pub record RunFits (n : ℕ) (s d : List ℕ) : Type 0 where
   -- s is the numbers, with two bytes before them and two behind them
   pub source : length s ≡ n * 3 + 4
   -- d has room for the numbers alone

@@ -6,7 +6,7 @@ ghost use lib.ListN.{length, drop, replicate};
 ghost use Rattle.words.specs.Numbers.{word, bytesOf};
 ghost use Rattle.words.specs.Runs.{turned};
 ghost use Rattle.bulk.specs.Masks.{Widened, wovenWord};
-ghost use Rattle.bulk.specs.Runs.{Run, Within};
+ghost use Rattle.bulk.specs.Runs.{Run, RunFits};
 
 // One number of two bytes, turned.
 fn one_of_2(s: &[u8], d: &mut [u8])
@@ -180,7 +180,7 @@ fn put_words(d: &mut [u8], w: Words)
 
 // Eight numbers of three bytes, turned, from their bytes with two before and two behind.
 fn eight_of_3(s: &[u8], d: &mut [u8])
-    requires { ⌜ Within 8 (now s) (now d) ⌝ }
+    requires { ⌜ RunFits 8 (now s) (now d) ⌝ }
     ensures { λ _. ⌜ now (d .exit) ≡ turned 3 8 (drop 2 (now (s .entry))) ⌝ }
 {
     let w = turned_words(s);
@@ -189,7 +189,7 @@ fn eight_of_3(s: &[u8], d: &mut [u8])
 
 // Sixteen numbers of three bytes: all loads, then all stores, which the compiler makes three times sixteen bytes.
 fn sixteen_of_3(s: &[u8], d: &mut [u8])
-    requires { ⌜ Within 16 (now s) (now d) ⌝ }
+    requires { ⌜ RunFits 16 (now s) (now d) ⌝ }
     ensures { λ _. ⌜ now (d .exit) ≡ turned 3 16 (drop 2 (now (s .entry))) ⌝ }
 {
     let v = turned_words(&s[0..28]);
@@ -298,7 +298,7 @@ fn rest_of_4(src: &[u8], dst: &mut [u8], n: usize)
 }
 
 // A run of n numbers of two bytes, turned.
-pub fn turn2(src: &[u8], dst: &mut [u8], n: usize)
+fn turn2(src: &[u8], dst: &mut [u8], n: usize)
     requires { ⌜ Run 2 n (now src) (now dst) ⌝ }
     ensures { λ _. ⌜ now (dst .exit) ≡ turned 2 n (now (src .entry)) ⌝ }
 {
@@ -314,7 +314,7 @@ pub fn turn2(src: &[u8], dst: &mut [u8], n: usize)
 }
 
 // A run of n numbers of three bytes, turned. The first and the last are turned by themselves, since a block reads two bytes before it and two behind it.
-pub fn turn3(src: &[u8], dst: &mut [u8], n: usize)
+fn turn3(src: &[u8], dst: &mut [u8], n: usize)
     requires { ⌜ Run 3 n (now src) (now dst) ⌝ }
     ensures { λ _. ⌜ now (dst .exit) ≡ turned 3 n (now (src .entry)) ⌝ }
 {
@@ -340,7 +340,7 @@ pub fn turn3(src: &[u8], dst: &mut [u8], n: usize)
 }
 
 // A run of n numbers of four bytes, turned.
-pub fn turn4(src: &[u8], dst: &mut [u8], n: usize)
+fn turn4(src: &[u8], dst: &mut [u8], n: usize)
     requires { ⌜ Run 4 n (now src) (now dst) ⌝ }
     ensures { λ _. ⌜ now (dst .exit) ≡ turned 4 n (now (src .entry)) ⌝ }
 {

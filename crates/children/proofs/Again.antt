@@ -11,7 +11,7 @@ use Rattle.walk.specs.See.{goes, see, Goes}
 use Rattle.walk.proofs.Went.{goes-same}
 use Rattle.rules.specs.declared.Refusal.{Refusal}
 use Rattle.rules.specs.Rules.{Held, Placed, recording}
-use Rattle.descriptions.specs.Tabled.{Within, HeldAs}
+use Rattle.descriptions.specs.DescriptionsJudged.{HeldWithin, HeldAs}
 use Rattle.descriptions.specs.declared.Before.{Before}
 use Rattle.descriptions.specs.declared.Before.the-variants as Before
 use Rattle.descriptions.specs.declared.Places.{Places}
@@ -60,7 +60,7 @@ module _ {o : Order} {s : List ℕ} {count : ℕ} {ps : List Placed} {p i : ℕ}
 pub record Along (o : Order) (s : List ℕ) (count p i : ℕ) (before : Before) (Q : List Placed → Said → Type 0) : Type 0 where
   pub few : i ≤ count
   pub inside : p ≤ length s
-  pub room : Within (length s) before
+  pub room : HeldWithin (length s) before
   pub sofar : (ps : List Placed) (e : ℕ) → ReadAs o s count ps e → Sofar o s count ps p i (Knowing o s before Q)
 
 module _ {o : Order} {s : List ℕ} {count : ℕ} {Q : List Placed → Said → Type 0} where

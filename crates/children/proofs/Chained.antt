@@ -313,7 +313,7 @@ module _ (o : Order) (b : ℕ) (s : List ℕ) (kn : Known) where
       said-then o b s (b + (p + 16)) (delimiter (n .head)) _ (w .is) ∙ ap (λ (l : Said). said o b s (b + (p + 16)) (delimiter (n .head)) then l) (q₁ .2 ∙ q₂ .2 ∙ said-give o b s (w .end) (padding (n .room - 16)) (λ _. r)) in
       record { head = n .head; stands = at .heads; ends = rw z at (w .is); is = ap (λ (l : Said). heading o b s p then l) (i ∙ rw (z, at .room)) }
 
--- what the 120 and the 140 are read with, as the walk of the tables gives it
+-- what the 120 and the 140 are read with, as the walk of the descriptions gives it
 signals-known : (o : Order) (b : ℕ) (s : List ℕ) (at : ℕ) (t : Descriptions) (h : Head) {x : Placed} {e : ℕ} → see o b s at (signals t h) ≡ goes x e →
     knownOf x ≡ record { basic = t .basic; own = t .channels .own; channels = t .channels .value; back = countBack (span h) (t .events .next .room) }
 unfolding signals see

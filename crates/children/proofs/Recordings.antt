@@ -24,7 +24,7 @@ use Rattle.records.specs.Says.{headOf}
 use Rattle.records.proofs.Opened.{Opened, opened, admit-passed, halted}
 use Rattle.judge.specs.Recorded.{leaves}
 use Rattle.judge.proofs.Led.{Led, led}
-use Rattle.children.specs.Children.{Said, said, _then_, Heads, Admits, RecordAt, NoRecord}
+use Rattle.children.specs.Children.{Said, said, _then_, Heads, AdmitsAny, RecordAt, NoRecord}
 use Rattle.children.specs.Recordings.{allOf, ReadAs, UpTo}
 use Rattle.children.proofs.Saying.{nothing, then-assoc, then-nothing, nothing-then, said-bind, said-give, said-gave}
 
@@ -54,7 +54,7 @@ pub record Within (o : Order) (s : List ℕ) (p q : ℕ) (held : Option Held) (i
   pub top : Head
   pub heads : Heads o 0 s p top
   pub kind : top .code ≡ 10
-  pub admits : Admits o 0 s p top
+  pub admits : AdmitsAny o 0 s p top
   pub ends : q ≡ p + span top
   pub starts : p + 16 ≤ q
   pub fills : span top ≡ 16 + length (bodyOf s p q)

@@ -102,15 +102,15 @@ Chain o b s k = Links o b s _then_ (λ p. Inner o b s p k) (Closed o b s)
 
 -- the head h is admitted, whatever its serial: what every record meets but the delimiter
 module _ (o : Order) (b : ℕ) (s : List ℕ) (p : ℕ) where
-  abbrev pub Admits : Head → Type 0
-  Admits h = see o b s (b + (p + 16)) (admitBy anyRule (length s - p) h) ≡ goes tt (b + (p + 16))
+  abbrev pub AdmitsAny : Head → Type 0
+  AdmitsAny h = see o b s (b + (p + 16)) (admitBy anyRule (length s - p) h) ≡ goes tt (b + (p + 16))
 
   -- a record other than the delimiter stands at byte p of the part s: h is its head as the code has it, and it ends at byte q
   pub record RecordAt (h : At.Head) (q : ℕ) : Type 0 where
     pub place : h .at ≡ p
     pub heads : Heads o b s p (headOf h)
     pub kind : h .code ≡ 0 → ⊥
-    pub admits : Admits (headOf h)
+    pub admits : AdmitsAny (headOf h)
     pub ends : q ≡ p + span (headOf h)
     -- its head is inside it, and it is inside the part
     pub least : p + 16 ≤ q
@@ -118,7 +118,7 @@ module _ (o : Order) (b : ℕ) (s : List ℕ) (p : ℕ) where
 
   -- none stands there
   pub record NoRecord : Type 0 where
-    pub none : (h : Head) → Heads o b s p h → (h .code ≡ 0 → ⊥) → Admits h → ⊥
+    pub none : (h : Head) → Heads o b s p h → (h .code ≡ 0 → ⊥) → AdmitsAny h → ⊥
 
 -- byte p is inside the part s, which stands at b, or at its end; and the bytes up to there can be counted
 pub record Inside (b : ℕ) (s : List ℕ) (p : ℕ) : Type 0 where

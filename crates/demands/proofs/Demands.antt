@@ -128,8 +128,8 @@ written-front : (out : List ℤ) (rs : List Row) → take (4 * length rs) (writt
 unfolding written
 written-front out rs = take-at (flat rs) (drop (0 + 4 * length rs) out) (4 * length rs) (length-flat rs)
 
-tabled : (s : List ℕ) {v : R.File} {t : List Event} → Accepted s v t → (out out′ : List ℤ) (a : Listed) → 4 * length (rows 0 t) ≤ length out → Lists s out out′ a → TableHolds (rows 0 t) out′ a
-tabled s {v} {t} h out out′ a room x =
+described : (s : List ℕ) {v : R.File} {t : List Event} → Accepted s v t → (out out′ : List ℤ) (a : Listed) → 4 * length (rows 0 t) ≤ length out → Lists s out out′ a → TableHolds (rows 0 t) out′ a
+described s {v} {t} h out out′ a room x =
     let l = le-leb (4 * length (rows 0 t)) (length out) room in
     let y = table-unique s out out′ (written true out 0 (rows 0 t)) a (Listed.Rows (length (rows 0 t))) x (record { answer = rw (h, l); buffer = rw (h, l) }) in
     record { answer = y .0; holds = ap (take (4 * length (rows 0 t))) (y .1) ∙ written-front out (rows 0 t) }
@@ -156,7 +156,7 @@ demand-2 s b = record {
     refused = λ n p i. rw i at x;
   };
   refuses = hands-up s;
-  lists = λ v t h out out′ a room x. tabled s h out out′ a room x;
+  lists = λ v t h out out′ a room x. described s h out out′ a room x;
   answers = λ v t h. tells s b h;
   rewrites = λ v t h order to names free out out′ a room x.
       let y = rewrite-answers s h order to names free out out′ a room x in

@@ -1,3 +1,3 @@
 pub mod Stands
 pub mod Parts
-pub mod Tabling
+pub mod Describing

@@ -18,7 +18,7 @@ use Rattle.rules.specs.declared.Head.{Head}
 use Rattle.rules.specs.declared.Refusal.{Refusal}
 use Rattle.rules.proofs.Room.{Rests}
 use Rattle.records.specs.Says.{halts, headOf, headroom, Headroom}
-use Rattle.descriptions.specs.Tabled.{lacking, Follows, There, Stood, Meets, Judges, Behind}
+use Rattle.descriptions.specs.DescriptionsJudged.{lacking, Follows, There, Stood, Meets, Judges, Behind}
 use Rattle.descriptions.specs.declared.Held.{Held}
 use Rattle.descriptions.specs.declared.Held.the-variants as Held
 use Rattle.descriptions.specs.declared.Parted.{Parted}

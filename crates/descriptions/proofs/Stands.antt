@@ -19,17 +19,17 @@ use Rattle.rules.specs.Rules.{fixed, head, admit, basicBody, channels, channels
 use Rattle.records.specs.Says.{Kept, subsAt, ChannelsIn, ChannelsStand}
 use Rattle.records.proofs.Facts.{between-in}
 use Rattle.records.proofs.Steps.{yields-channels}
-use Rattle.descriptions.specs.Tabled.{HeldIs, HeldAs, Within, Owned, Value, heldAt, channelsIn, countIn}
+use Rattle.descriptions.specs.DescriptionsJudged.{HeldIs, HeldAs, HeldWithin, Owned, PartValue, heldAt, channelsIn, countIn}
 use Rattle.descriptions.specs.declared.Before.{Before}
 use Rattle.descriptions.specs.declared.Before.the-variants as Before
 
 -- a 100 that passed counts so many
-pub record Counted (channels frames : ℕ) : Type 0 where
+pub record CountsBounded (channels frames : ℕ) : Type 0 where
   pub one : 1 ≤ channels
   pub few : channels ≤ 128
   pub short : frames ≤ 1000000
 
-pub yields-basic : (o : Order) (b : ℕ) (s : List ℕ) (room at : ℕ) → Yields o b s at (R.basic room) (λ x e. Counted (x .channels) (x .frames))
+pub yields-basic : (o : Order) (b : ℕ) (s : List ℕ) (room at : ℕ) → Yields o b s at (R.basic room) (λ x e. CountsBounded (x .channels) (x .frames))
 unfolding fixed head admit basicBody _>>=_ _>>_
 yields-basic o b s room at _ _ _ _ _ _ c f _ _ _ _ _ _ _ = record { one = between-in 1 128 _ c .0; few = between-in 1 128 _ c .1; short = between-in 1 1000000 _ f .1 }
 
@@ -98,7 +98,7 @@ module _ (o : Order) (base n : ℕ) (s file : List ℕ) (is : s ≡ take n (drop
 
 -- the channels that hold: own ones, or those of the recording before
 module _ (o : Order) (base : ℕ) (s : List ℕ) (p m : ℕ) where
-  pub stand : (file : List ℕ) (before : Before) (held : Option R.Held) (own : Bool) (at : ℕ) (cs : List R.Channel) → s ≡ take (length s) (drop base file) → HeldAs o file before held → Value (Owned o s p m) (R.heldChannels held) own cs → at ≡ pick own (base + p) (heldAt (channelsIn before)) → ChannelsStand o file (subsAt at (pick own m (countIn before))) cs
+  pub stand : (file : List ℕ) (before : Before) (held : Option R.Held) (own : Bool) (at : ℕ) (cs : List R.Channel) → s ≡ take (length s) (drop base file) → HeldAs o file before held → PartValue (Owned o s p m) (R.heldChannels held) own cs → at ≡ pick own (base + p) (heldAt (channelsIn before)) → ChannelsStand o file (subsAt at (pick own m (countIn before))) cs
   stand file before held true at cs is h v e = rw e (stand-part o base (length s) s file is p m cs (v .room .inside) (v .stand))
   stand file Before.Nothing none false at cs is h v e = absurd (let z : _≡_ {A = ℕ} 0 1 = cc in omega arith)
   stand file Before.Nothing (some x) false at cs is h v e = absurd h
@@ -107,7 +107,7 @@ module _ (o : Order) (base : ℕ) (s : List ℕ) (p m : ℕ) where
       let d : cs ≡ x .channels = cc in
       rw (e, d) h
 
-  pub room : (before : Before) (hv : Option (List R.Channel)) (own : Bool) (at : ℕ) (cs : List R.Channel) → HeldIs (channelsIn before) hv → Value (Owned o s p m) hv own cs → at ≡ pick own (base + p) (heldAt (channelsIn before)) → (L : ℕ) → base + length s ≤ L → Within L before → ChannelsIn L (subsAt at (pick own m (countIn before)))
+  pub room : (before : Before) (hv : Option (List R.Channel)) (own : Bool) (at : ℕ) (cs : List R.Channel) → HeldIs (channelsIn before) hv → PartValue (Owned o s p m) hv own cs → at ≡ pick own (base + p) (heldAt (channelsIn before)) → (L : ℕ) → base + length s ≤ L → HeldWithin L before → ChannelsIn L (subsAt at (pick own m (countIn before)))
   room before hv true at cs i v e L l w = record { inside = omega (arith, v .room .inside); few = v .room .few }
   room Before.Nothing none false at cs i v e L l w = absurd (let z : _≡_ {A = ℕ} 0 1 = cc in omega arith)
   room Before.Nothing (some x) false at cs i v e L l w = absurd i

@@ -1,11 +1,11 @@
-// The tables of a recording: record 100, and 120, 130 and 200, each of which may be absent.
+// The descriptions of a recording: record 100, and 120, 130 and 200, each of which may be absent.
 ghost use mathlib.Core.Path.{_≡_};
 ghost use Prim.Native.Nat.{_+_, _<_};
 ghost use Rattle.words.specs.Sizes.{Addressable};
 ghost use Rattle.walk.specs.Walk.{pick};
 ghost use Rattle.records.specs.Says.{subsAt};
-ghost use Rattle.descriptions.specs.Tabled.{refusalBasic, refusalPart, refusalTables, channelsIn, patientIn, countIn, kindOf, lacking};
-ghost use Rattle.descriptions.specs.Tabled.{HeadIn, RecordIn, BodyAt, Behind, ChannelsPart, ItemsPart, TablesOf};
+ghost use Rattle.descriptions.specs.DescriptionsJudged.{refusalBasic, refusalPart, refusalDescriptions, channelsIn, patientIn, countIn, kindOf, lacking};
+ghost use Rattle.descriptions.specs.DescriptionsJudged.{HeadIn, RecordIn, BodyAt, Behind, ChannelsPart, ItemsPart, DescriptionsOf};
 use records::Headed;
 use records::Step;
 use records::basic::Basiced;
@@ -60,7 +60,7 @@ pub enum Parted {
 }
 
 // The parts before the 140, and its head; `count` is how many channels hold.
-pub struct Tables {
+pub struct Described {
     pub basic: Basic,
     pub own: bool,
     pub channels: usize,
@@ -71,8 +71,8 @@ pub struct Tables {
     pub next: Head,
 }
 
-pub enum Tabled {
-    On(Tables),
+pub enum DescriptionsJudged {
+    On(Described),
     Stop(Refusal),
 }
 
@@ -94,12 +94,12 @@ fn of_part(a: Parted) -> Refusal
     }
 }
 
-pub fn of_tables(a: Tabled) -> Refusal
-    ensures { λ r. ⌜ r ≡ refusalTables a ⌝ }
+pub fn of_descriptions(a: DescriptionsJudged) -> Refusal
+    ensures { λ r. ⌜ r ≡ refusalDescriptions a ⌝ }
 {
     match a {
-        Tabled::On(_) => Refusal(0, 0),
-        Tabled::Stop(r) => r,
+        DescriptionsJudged::On(_) => Refusal(0, 0),
+        DescriptionsJudged::Stop(r) => r,
     }
 }
 
@@ -208,33 +208,33 @@ fn items_part(o: Order, k: Holder, s: &[u8], base: usize, h: Head, held: Held) -
     behind(o, s, base, h.at, end)
 }
 
-// The tables of the recording whose body is s, which stands at `base` in the file.
-pub fn read_tables(o: Order, s: &[u8], base: usize, before: Before) -> Tabled
+// Judges the descriptions of the recording whose body is s, which stands at `base` in the file.
+pub fn judge_descriptions(o: Order, s: &[u8], base: usize, before: Before) -> DescriptionsJudged
     requires { ⌜ BodyAt base (now s) ⌝ }
-    ensures { λ a. ⌜ TablesOf o base (now (s .entry)) before a ⌝ }
+    ensures { λ a. ⌜ DescriptionsOf o base (now (s .entry)) before a ⌝ }
 {
     let first = records::basic::basic_at(o, s, base, 0);
     let Basiced::Holds(basic) = first else {
-        return Tabled::Stop(of_basic(first));
+        return DescriptionsJudged::Stop(of_basic(first));
     };
     let found = records::makers::next_head(o, s, base, Basic::LENGTH);
     let Headed::At(h) = found else {
-        return Tabled::Stop(records::of_head(found));
+        return DescriptionsJudged::Stop(records::of_head(found));
     };
     let cs = channels_part(o, s, base, h, basic.channels, held_channels(before));
     let Parted::On(c) = cs else {
-        return Tabled::Stop(of_part(cs));
+        return DescriptionsJudged::Stop(of_part(cs));
     };
     let ps = items_part(o, Holder::Patient, s, base, c.next, held_patient(before));
     let Parted::On(p) = ps else {
-        return Tabled::Stop(of_part(ps));
+        return DescriptionsJudged::Stop(of_part(ps));
     };
     let es = items_part(o, Holder::Event, s, base, p.next, Held::At(0));
     let Parted::On(e) = es else {
-        return Tabled::Stop(of_part(es));
+        return DescriptionsJudged::Stop(of_part(es));
     };
     let next = e.next;
-    Tabled::On(Tables {
+    DescriptionsJudged::On(Described {
         basic,
         own: c.own,
         channels: c.at,
@@ -247,7 +247,7 @@ pub fn read_tables(o: Order, s: &[u8], base: usize, before: Before) -> Tabled
 }
 
 // The channels of a recording: its own, or those taken over.
-pub fn channels_of(t: Tables) -> Channels
+pub fn channels_of(t: Described) -> Channels
     requires { ⌜ t .channels + 32 < 18446744073709551616 ⌝ }
     ensures { λ r. ⌜ r ≡ subsAt (t .channels) (t .count) ⌝ }
 {

@@ -29,20 +29,20 @@ use Rattle.records.specs.Says.{halts, headOf, subsAt, ChannelsIn, opened, OpenA
 use Rattle.records.specs.declared.kinds.Opened.the-variants as Opened
 use Rattle.records.proofs.Bodies.{body-opened}
 use Rattle.records.proofs.Opened.{halted, require-went, admit-went, admit-passed}
-use Rattle.descriptions.specs.Tabled.{Within, placeOf, channelsIn, patientIn, heldAt, Keeps, Bounds, tabled, TablesOf}
+use Rattle.descriptions.specs.DescriptionsJudged.{HeldWithin, placeOf, channelsIn, patientIn, heldAt, Keeps, DescribedBounds, described, DescriptionsOf}
 use Rattle.descriptions.specs.declared.Before.{Before}
 use Rattle.descriptions.specs.declared.Places.{Places}
-use Rattle.descriptions.specs.declared.Tabled.the-variants as Tabled
-use Rattle.descriptions.specs.declared.Tables.{Tables}
-use Rattle.signals.specs.Framed.{SignalsIn}
-use Rattle.signals.specs.Signaled.{Known, Whole, WholeAt, SignalsOf}
-use Rattle.signals.specs.declared.frames.Framed.the-variants as Framed
+use Rattle.descriptions.specs.declared.DescriptionsJudged.the-variants as DescriptionsJudged
+use Rattle.descriptions.specs.declared.Described.{Described}
+use Rattle.signals.specs.FramesJudged.{SignalsIn}
+use Rattle.signals.specs.Signaled.{DescriptionsKnown, Whole, WholeAt, SignalsOf}
+use Rattle.signals.specs.declared.frames.FramesJudged.the-variants as FramesJudged
 use Rattle.signals.proofs.Signaled.{yields-signals}
 use Rattle.judge.specs.Recorded.{placesOf, placesFor, Places-of, recorded, PlacedIn, RecordingIn, BodyIn, BodyJudged, RecordingAt, BodyAgain, RecordingAgain}
 use Rattle.judge.specs.declared.recording.Recorded.{Recorded}
 use Rattle.judge.specs.declared.recording.Recorded.the-variants as Recorded
 
--- the place of a part of a recording at `start`, whose body has n bytes: by the room, as the tables have it, and as the layout has it
+-- the place of a part of a recording at `start`, whose body has n bytes: by the room, as the descriptions have it, and as the layout has it
 part-place : (start n room bytes at : ℕ) → bytes ≡ 16 + n → at ≡ bytes - room → placeOf (start + 16) n room ≡ start + at
 part-place start n room bytes at e d = omega arith
 
@@ -60,7 +60,7 @@ alike : {a a' b b' c c' d d' e e' g g' k k' l l' m m' n n' : ℕ} {x x' : Bool} 
 alike e₁ e₂ e₃ e₄ e₅ e₆ e₇ e₈ e₉ e₁₀ e₁₁ = cc
 
 -- the code's places are the walk's
-places-same : (o : Order) (file : List ℕ) (at n : ℕ) (before : Before) (t : Tables) (f : Frames) (X : R.Descriptions) (e : ℕ) (h : R.Head) (x : R.Placed) → Keeps o file (at + 16) n before t X e → Whole X h f x → R.span h ≡ 16 + n → t .next .at + 16 ≤ n → placesFor at n t (f .size) (f .seconds) ≡ placesOf at before x
+places-same : (o : Order) (file : List ℕ) (at n : ℕ) (before : Before) (t : Described) (f : Frames) (X : R.Descriptions) (e : ℕ) (h : R.Head) (x : R.Placed) → Keeps o file (at + 16) n before t X e → Whole X h f x → R.span h ≡ 16 + n → t .next .at + 16 ≤ n → placesFor at n t (f .size) (f .seconds) ≡ placesOf at before x
 places-same o file at n before t f X e h x k w s l =
     let bytes : x .layout .bytes ≡ R.span h = ap (λ (y : R.Layout). y .bytes) (w .layout) in
     let at120 : x .layout .at120 ≡ R.span h - X .next .room = ap (λ (y : R.Layout). y .at120) (w .layout) in
@@ -93,10 +93,10 @@ module _ (o : Order) (file : List ℕ) (at : ℕ) (s : List ℕ) (before : Befor
       see-bind o (at + 16) s (at + 16) (R.descriptions held (R.span h)) (λ t. R.signals t h)
       ∙ ap (λ (n : ℕ). onward (see o (at + 16) s (at + 16) (R.descriptions held n)) (λ t e. see o (at + 16) s e (R.signals t h))) fills
 
-  tables-stop : {r : Refusal} → tabled o file (at + 16) held s before (Tabled.Stop r) → body ≡ halts r
+  tables-stop : {r : Refusal} → described o file (at + 16) held s before (DescriptionsJudged.Stop r) → body ≡ halts r
   tables-stop k = halves ∙ rw k
 
-  module _ {t : Tables} (kept : tabled o file (at + 16) held s before (Tabled.On t)) where
+  module _ {t : Described} (kept : described o file (at + 16) held s before (DescriptionsJudged.On t)) where
     reached : body ≡ see o (at + 16) s (at + 16 + (t .next .at + 16)) (R.signals (kept .value) h)
     reached = halves ∙ rw (kept .is, kept .kept .end)
 
@@ -105,7 +105,7 @@ module _ (o : Order) (file : List ℕ) (at : ℕ) (s : List ℕ) (before : Befor
     placed f {x} {e} g i w l = record { value = x; end = e; is = g; kept = record { end = i; same = places-same o file at (length s) before t f (kept .value) (kept .end) h x (kept .kept) w fills l; held = rw (w .channels) (kept .kept .stand) } }
 
     module _ {cs : Channels} {m : ℕ} (chan : cs ≡ subsAt (t .channels) (t .count)) (times : h .multiplier ≡ m) where
-      known : Known o file cs (t .own) (t .basic) (t .next) s m (kept .value) h
+      known : DescriptionsKnown o file cs (t .own) (t .basic) (t .next) s m (kept .value) h
       known = record {
         basic = kept .kept .basic;
         own = kept .kept .own;
@@ -116,10 +116,10 @@ module _ (o : Order) (file : List ℕ) (at : ℕ) (s : List ℕ) (before : Befor
         multiplier = times;
       }
 
-      signals-stop : {r : Refusal} → SignalsOf o file cs (t .own) (t .basic) (t .next) (at + 16) s m (Framed.Stop r) → body ≡ halts r
+      signals-stop : {r : Refusal} → SignalsOf o file cs (t .own) (t .basic) (t .next) (at + 16) s m (FramesJudged.Stop r) → body ≡ halts r
       signals-stop k = reached ∙ k (kept .value) h known
 
-      body-holds : {f : Frames} (q : ℕ) → SignalsOf o file cs (t .own) (t .basic) (t .next) (at + 16) s m (Framed.On f q) → t .next .at + 16 ≤ length s → Goes body (Places-of o file at before (placesFor at (length s) t (f .size) (f .seconds)))
+      body-holds : {f : Frames} (q : ℕ) → SignalsOf o file cs (t .own) (t .basic) (t .next) (at + 16) s m (FramesJudged.On f q) → t .next .at + 16 ≤ length s → Goes body (Places-of o file at before (placesFor at (length s) t (f .size) (f .seconds)))
       body-holds {f} q k l =
           let g : Goes (see o (at + 16) s (at + 16 + (t .next .at + 16)) (R.signals (kept .value) h)) (WholeAt (at + 16 + length s) (kept .value) h f) = k (kept .value) h known in
           placed f (reached ∙ g .is) (g .kept .ends) (g .kept .whole) l
@@ -144,12 +144,12 @@ module _ (o : Order) (file : List ℕ) (at : ℕ) (s : List ℕ) (before : Befor
           rw (i, j) (placed numbers g (omega (arith, z .1)) (told .1) l)
 
 -- the bounds of its places, in a file of n bytes
-continues : (at n : ℕ) (s : List ℕ) (before : Before) (t : Tables) → Bounds (at + 16) (length s) before t → at + 16 + length s ≤ n → Within n before → (frame seconds : ℕ) → PlacedIn at n (placesFor at (length s) t frame seconds)
+continues : (at n : ℕ) (s : List ℕ) (before : Before) (t : Described) → DescribedBounds (at + 16) (length s) before t → at + 16 + length s ≤ n → HeldWithin n before → (frame seconds : ℕ) → PlacedIn at n (placesFor at (length s) t frame seconds)
 continues at n s before t b fits within frame seconds = record { start = omega arith; end = fits; channels = b .room n fits within }
 
 -- what `recording_body` asks of the functions that it calls, and what it answers at each return
 module _ (o : Order) (file s : List ℕ) (at : ℕ) (before : Before) (i : BodyIn file s at before) where
-  module _ {t : Tables} (k : TablesOf o (at + 16) s before (Tabled.On t)) where
+  module _ {t : Described} (k : DescriptionsOf o (at + 16) s before (DescriptionsJudged.On t)) where
     room : ChannelsIn (length file) (subsAt (t .channels) (t .count))
     room = k .bounds .room (length file) (i .inside) (i .held)
 
@@ -166,14 +166,14 @@ module _ (o : Order) (file s : List ℕ) (at : ℕ) (before : Before) (i : BodyI
           channels = rw c room;
         }
 
-  pub stops-tables : {m : ℕ} {r : Refusal} → TablesOf o (at + 16) s before (Tabled.Stop r) → BodyJudged o file s at m before (Recorded.Stop r)
+  pub stops-tables : {m : ℕ} {r : Refusal} → DescriptionsOf o (at + 16) s before (DescriptionsJudged.Stop r) → BodyJudged o file s at m before (Recorded.Stop r)
   stops-tables k = record { told = λ held h has fills times. tables-stop o file at s before held h fills (k .told file held (i .part) has); continues = tt }
 
-  module _ {m : ℕ} {t : Tables} (k : TablesOf o (at + 16) s before (Tabled.On t)) {cs : Channels} (c : cs ≡ subsAt (t .channels) (t .count)) where
-    pub stops-signals : {r : Refusal} → SignalsOf o file cs (t .own) (t .basic) (t .next) (at + 16) s m (Framed.Stop r) → BodyJudged o file s at m before (Recorded.Stop r)
+  module _ {m : ℕ} {t : Described} (k : DescriptionsOf o (at + 16) s before (DescriptionsJudged.On t)) {cs : Channels} (c : cs ≡ subsAt (t .channels) (t .count)) where
+    pub stops-signals : {r : Refusal} → SignalsOf o file cs (t .own) (t .basic) (t .next) (at + 16) s m (FramesJudged.Stop r) → BodyJudged o file s at m before (Recorded.Stop r)
     stops-signals j = record { told = λ held h has fills times. signals-stop o file at s before held h fills (k .told file held (i .part) has) c times j; continues = tt }
 
-    pub holds : {f : Frames} (q : ℕ) → SignalsOf o file cs (t .own) (t .basic) (t .next) (at + 16) s m (Framed.On f q) → BodyJudged o file s at m before (Recorded.On (placesFor at (length s) t (f .size) (f .seconds)))
+    pub holds : {f : Frames} (q : ℕ) → SignalsOf o file cs (t .own) (t .basic) (t .next) (at + 16) s m (FramesJudged.On f q) → BodyJudged o file s at m before (Recorded.On (placesFor at (length s) t (f .size) (f .seconds)))
     holds {f} q j = record {
       told = λ held h has fills times. body-holds o file at s before held h fills (k .told file held (i .part) has) c times q j (k .bounds .fits);
       continues = continues at (length file) s before t (k .bounds) (i .inside) (i .held) (f .size) (f .seconds);
@@ -181,10 +181,10 @@ module _ (o : Order) (file s : List ℕ) (at : ℕ) (before : Before) (i : BodyI
 
 -- what `body_again` answers
 module _ (o : Order) (s : List ℕ) (at : ℕ) (before : Before) where
-  pub again-stops : {r : Refusal} → TablesOf o (at + 16) s before (Tabled.Stop r) → BodyAgain o s at before (Recorded.Stop r)
+  pub again-stops : {r : Refusal} → DescriptionsOf o (at + 16) s before (DescriptionsJudged.Stop r) → BodyAgain o s at before (Recorded.Stop r)
   again-stops k = record { told = λ file held h x e is has fills g. tables-stop o file at s before held h fills (k .told file held is has); continues = λ n l w. tt }
 
-  module _ {t : Tables} (k : TablesOf o (at + 16) s before (Tabled.On t)) where
+  module _ {t : Described} (k : DescriptionsOf o (at + 16) s before (DescriptionsJudged.On t)) where
     pub again-short : {r : Refusal} → length s < t .next .at + 32 → BodyAgain o s at before (Recorded.Stop r)
     again-short l = record { told = λ file held h x e is has fills g. absurd (long o file at s before held h fills (k .told file held is has) g l); continues = λ n l w. tt }
 

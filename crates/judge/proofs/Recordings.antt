@@ -17,7 +17,7 @@ use Rattle.rules.specs.declared.Refusal.{Refusal}
 use Rattle.rules.proofs.Room.{stays-recording}
 use Rattle.records.specs.Says.{halts}
 use Rattle.records.proofs.Steps.{ends-cons}
-use Rattle.descriptions.specs.Tabled.{HeldAs}
+use Rattle.descriptions.specs.DescriptionsJudged.{HeldAs}
 use Rattle.descriptions.specs.declared.Before.{Before}
 use Rattle.descriptions.specs.declared.Before.the-variants as Before
 use Rattle.descriptions.specs.declared.Places.{Places}

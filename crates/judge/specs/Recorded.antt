@@ -14,8 +14,8 @@ use Rattle.records.specs.Says.{halts, subsAt, ChannelsIn}
 use Rattle.descriptions.specs.declared.Before.{Before}
 use Rattle.descriptions.specs.declared.Before.the-variants as Before
 use Rattle.descriptions.specs.declared.Places.{Places}
-use Rattle.descriptions.specs.declared.Tables.{Tables}
-use Rattle.descriptions.specs.Tabled.{channelsIn, patientIn, heldAt, Within, HeldAs}
+use Rattle.descriptions.specs.declared.Described.{Described}
+use Rattle.descriptions.specs.DescriptionsJudged.{channelsIn, patientIn, heldAt, HeldWithin, HeldAs}
 use Rattle.judge.specs.declared.recording.Recorded.{Recorded}
 use Rattle.judge.specs.declared.recording.Recorded.the-variants as Recorded
 
@@ -35,8 +35,8 @@ placesOf start before x = record {
   seconds = x .recording .seconds;
 }
 
--- as the code has it: a body of n bytes with these tables, and frames that are so long and of so many seconds
-abbrev pub placesFor : ℕ → ℕ → Tables → ℕ → ℕ → Places
+-- as the code has it: a body of n bytes with these descriptions, and frames that are so long and of so many seconds
+abbrev pub placesFor : ℕ → ℕ → Described → ℕ → ℕ → Places
 placesFor start n t frame seconds = record {
   start = start;
   end = start + 16 + n;
@@ -87,17 +87,17 @@ pub record HeaderIn (n : ℕ) : Type 0 where
 pub record RecordingIn (n p : ℕ) (before : Before) : Type 0 where
   pub inside : p ≤ n
   pub short : Addressable n
-  pub held : Within n before
+  pub held : HeldWithin n before
 
 -- s is the body of the recording at `at`
 pub record BodyIn (file s : List ℕ) (at : ℕ) (before : Before) : Type 0 where
   pub part : s ≡ take (length s) (drop (at + 16) file)
   pub inside : at + 16 + length s ≤ length file
   pub short : Addressable (length file)
-  pub held : Within (length file) before
+  pub held : HeldWithin (length file) before
 
--- it has n bytes, and the head behind these tables is in it
-pub record TablesIn (at n : ℕ) (t : Tables) : Type 0 where
+-- it has n bytes, and the head behind these descriptions is in it
+pub record TablesIn (at n : ℕ) (t : Described) : Type 0 where
   pub inside : t .next .at ≤ n
   pub short : Addressable (at + 16 + n)
 
@@ -119,7 +119,7 @@ pub record BodyAgain (o : Order) (s : List ℕ) (at : ℕ) (before : Before) (a 
   pub told : (file : List ℕ) (held : Option R.Held) (h : R.Head) (x : R.Placed) (e : ℕ) → s ≡ take (length s) (drop (at + 16) file) →
       HeldAs o file before held → R.span h ≡ 16 + length s → see o (at + 16) s (at + 16) (R.recordingBody held h) ≡ goes x e →
       recorded o file at before (see o (at + 16) s (at + 16) (R.recordingBody held h)) a
-  pub continues : (n : ℕ) → at + 16 + length s ≤ n → Within n before → Continues at n a
+  pub continues : (n : ℕ) → at + 16 + length s ≤ n → HeldWithin n before → Continues at n a
 
 -- a recording that the walk accepts, at byte p, whatever its serial
 pub record RecordingAgain (o : Order) (file : List ℕ) (p : ℕ) (before : Before) (a : Recorded) : Type 0 where

@@ -5,12 +5,12 @@ ghost use lib.ListN.{length};
 ghost use Rattle.words.specs.Sizes.{Addressable};
 ghost use Rattle.judge.specs.Recorded.{placesFor, RecordingIn, BodyIn, TablesIn, BodyJudged, RecordingAt, BodyAgain, RecordingAgain};
 use descriptions::Before;
+use descriptions::Described;
+use descriptions::DescriptionsJudged;
 use descriptions::Places;
-use descriptions::Tabled;
-use descriptions::Tables;
 use descriptions::channels_of;
-use descriptions::of_tables;
-use descriptions::read_tables;
+use descriptions::judge_descriptions;
+use descriptions::of_descriptions;
 use records::kinds::Opened;
 use records::kinds::of_open;
 use records::kinds::open;
@@ -18,7 +18,7 @@ use rules::Frames;
 use rules::Head;
 use rules::Kind;
 use rules::Refusal;
-use signals::frames::Framed;
+use signals::frames::FramesJudged;
 use signals::of_frames;
 use signals::signals;
 use words::Order;
@@ -30,8 +30,8 @@ pub enum Recorded {
     Stop(Refusal),
 }
 
-// The places of the recording at `at`, whose body has n bytes and these tables: its frames are so long, and of so many seconds.
-fn places_for(at: usize, n: usize, t: Tables, frame: usize, seconds: u32) -> Places
+// The places of the recording at `at`, whose body has n bytes and these descriptions: its frames are so long, and of so many seconds.
+fn places_for(at: usize, n: usize, t: Described, frame: usize, seconds: u32) -> Places
     requires { ⌜ TablesIn at n t ⌝ }
     ensures { λ r. ⌜ r ≡ placesFor at n t frame seconds ⌝ }
 {
@@ -66,15 +66,15 @@ fn recording_body(
     ensures { λ a. ⌜ BodyJudged o (now (file .entry)) (now (s .entry)) at multiplier before a ⌝ }
 {
     let base = at + Head::LENGTH;
-    let tabled = read_tables(o, s, base, before);
-    let Tabled::On(t) = tabled else {
-        return Recorded::Stop(of_tables(tabled));
+    let described = judge_descriptions(o, s, base, before);
+    let DescriptionsJudged::On(t) = described else {
+        return Recorded::Stop(of_descriptions(described));
     };
     let cs = channels_of(t);
     let next = t.next;
     let basic = t.basic;
     let framed = signals(o, file, cs, t.own, basic, next, s, base, multiplier);
-    let Framed::On(f, _) = framed else {
+    let FramesJudged::On(f, _) = framed else {
         return Recorded::Stop(of_frames(framed));
     };
     Recorded::On(places_for(at, s.len(), t, f.size, f.seconds))
@@ -105,9 +105,9 @@ fn body_again(o: Order, s: &[u8], at: usize, before: Before) -> Recorded
     ensures { λ a. ⌜ BodyAgain o (now (s .entry)) at before a ⌝ }
 {
     let base = at + Head::LENGTH;
-    let tabled = read_tables(o, s, base, before);
-    let Tabled::On(t) = tabled else {
-        return Recorded::Stop(of_tables(tabled));
+    let described = judge_descriptions(o, s, base, before);
+    let DescriptionsJudged::On(t) = described else {
+        return Recorded::Stop(of_descriptions(described));
     };
     let next = t.next;
     let p = next.at;
@@ -121,7 +121,7 @@ fn body_again(o: Order, s: &[u8], at: usize, before: Before) -> Recorded
     Recorded::On(places_for(at, s.len(), t, frame, seconds))
 }
 
-// Where a recording stands that the judge accepted: its tables are read again, its frames are not.
+// Where a recording stands that the judge accepted: its descriptions are read again, its frames are not.
 pub fn recording_again(o: Order, file: &[u8], p: usize, before: Before) -> Recorded
     requires { ⌜ RecordingIn (length (now file)) p before ⌝ }
     ensures { λ a. ⌜ RecordingAgain o (now (file .entry)) p before a ⌝ }

@@ -26,7 +26,7 @@ use Rattle.records.proofs.Facts.{both-false}
 use Rattle.signals.proofs.FramesBody.{Fields, yields-framesBody}
 use Rattle.records.proofs.Opened.{admit-went, require-went}
 use Rattle.rows.proofs.Lists.{frames-refused}
-use Rattle.measures.specs.Measures.{sizedFor, mostServed, Large, Serves, measureFor, measuredFor, Bounds, Each, Given, MeasureOf}
+use Rattle.measures.specs.Measures.{sizedFor, mostServed, Large, Serves, measureFor, measuredFor, MeasureBounds, Each, Given, MeasureOf}
 use Rattle.measures.specs.declared.Sized.{Sized}
 use Rattle.measures.specs.declared.Measure.{Measure}
 use Rattle.measures.specs.declared.Measured.{Measured}
@@ -96,11 +96,11 @@ module _ (at end last seconds size filled count : ℕ) where
 
   -- its bounds, whatever the bytes are
   pub measure-bounded : (n : ℕ) → seconds ≤ 3600 → 24 ≤ filled → filled ≤ size → size < 4294967296 → at + 32 + size * count ≤ end → end ≤ last → last ≤ n →
-      Each (measuredFor at end last seconds size filled count) (Bounds n)
+      Each (measuredFor at end last seconds size filled count) (MeasureBounds n)
   unfolding measuredFor
   measure-bounded n h₁ h₂ h₃ h₄ h₅ h₆ h₇ = go (leb frames mostServed) (leb whole mostServed) refl refl
     where
-      go : (x y : Bool) → leb frames mostServed ≡ x → leb whole mostServed ≡ y → Each (measuredFor at end last seconds size filled count) (Bounds n)
+      go : (x y : Bool) → leb frames mostServed ≡ x → leb whole mostServed ≡ y → Each (measuredFor at end last seconds size filled count) (MeasureBounds n)
       go true true p q =
           let w = sized whole in
           let l = leb-true whole mostServed q in

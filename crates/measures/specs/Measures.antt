@@ -73,7 +73,7 @@ pub record MeasureOf (f : Measure) (x : R.Placed) : Type 0 where
   pub whole : f .whole ≡ sizedFor (16 + size (C.content (x .recording)))
 
 -- the bounds that hold whatever the bytes are, in a body of n bytes
-pub record Bounds (n : ℕ) (f : Measure) : Type 0 where
+pub record MeasureBounds (n : ℕ) (f : Measure) : Type 0 where
   pub seconds : f .seconds ≤ 3600
   pub low : 24 ≤ f .filled
   pub fits : f .filled ≤ f .size
@@ -124,7 +124,7 @@ pub record Measurable (file s : List ℕ) (cs : Channels) (at base : ℕ) : Type
 -- what `measure_of` answers of it
 pub record MeasuredAs (o : Order) (file s : List ℕ) (cs : Channels) (at base : ℕ) (a : Measured) : Type 0 where
   -- whatever the bytes are
-  pub bounds : Each a (Bounds (length s))
+  pub bounds : Each a (MeasureBounds (length s))
   pub reads : Each a (MeasureIn o base s)
   -- where the walk accepts the body, there is a measure, and it is the recording's
   pub told : (held : Option R.Held) (h : R.Head) (x : R.Placed) (e : ℕ) →

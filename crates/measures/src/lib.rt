@@ -37,7 +37,7 @@ fn multiplier_for(n: usize) -> usize
 }
 
 // The size and the multiplier of a record of n bytes: no multiplier where the size serves.
-pub fn size_for(n: usize) -> Sized
+fn size_for(n: usize) -> Sized
     requires { ⌜ n ≤ mostServed ⌝ }
     ensures { λ r. ⌜ Serves n r ⌝ }
 {

@@ -35,7 +35,7 @@ use Rattle.questions.proofs.Calibrated.{floats, patterns, words-kept}
 use Rattle.questions.proofs.Described.{ChannelSeen, channel-seen, sub-seen, format-is}
 use Rattle.questions.proofs.Readings.{alike-bind, alike-then, alike-self, channel-alike, channel-known, samples-alike}
 use Rattle.questions.proofs.Replies.{among}
-use Rattle.psg.specs.Bits.{valueIn, WordIs, CalibrationIs, FloatAt, WholeAt, SampleIs}
+use Rattle.psg.specs.Bits.{valueIn, WordIs, CalibrationIs, FloatAt, WholeNumberAt, SampleIs}
 use Rattle.psg.specs.Flat.{areFloats, flatChannel, flatSample}
 use Rattle.psg.specs.declared.answers.Sample.{Sample}
 
@@ -119,7 +119,7 @@ flat-float n h = go (nanPattern n) refl
 record FlatAt (s : List ℕ) (format p : ℕ) (x : Value) (a : Sample) : Type 0 where
   means : x ≡ valueIn (a .«is_float») (a .bits) (a .value)
   floats : format ≡ 4 → FloatAt s p a
-  numbers : (format ≡ 4 → ⊥) → WholeAt s (width format) p a
+  numbers : (format ≡ 4 → ⊥) → WholeNumberAt s (width format) p a
 
 flat-at : (s : List ℕ) → Bytes s → (format p : ℕ) → p + width format ≤ length s →
     let x = valueOf format (width format) (numberAt (orderOf s) (width format) s p) in FlatAt s format p x (flatSample (value (numberIn x)))

@@ -53,7 +53,7 @@ pub record FloatAt (s : List ℕ) (p : ℕ) (a : Sample) : Type 0 where
   pub bits : a .bits ≡ numberAt (orderOf s) 4 s p
 
 -- a whole number: the signed one of w bytes there
-pub record WholeAt (s : List ℕ) (w p : ℕ) (a : Sample) : Type 0 where
+pub record WholeNumberAt (s : List ℕ) (w p : ℕ) (a : Sample) : Type 0 where
   pub isFloat : a .«is_float» ≡ 0
   pub number : a .value ≡ signed w (numberAt (orderOf s) w s p)
 
@@ -66,4 +66,4 @@ pub record SampleIs (s : List ℕ) (v : Reading) (i j k n : ℕ) (a : Sample) (x
   pub described : channelRead v i k ≡ value channel
   -- the file's word
   pub floats : formatIn channel ≡ 4 → FloatAt s (viewOf s i j k .at + 4 * n) a
-  pub numbers : (formatIn channel ≡ 4 → ⊥) → WholeAt s (width (formatIn channel)) (viewOf s i j k .at + width (formatIn channel) * n) a
+  pub numbers : (formatIn channel ≡ 4 → ⊥) → WholeNumberAt s (width (formatIn channel)) (viewOf s i j k .at + width (formatIn channel) * n) a

@@ -20,7 +20,7 @@ use Rattle.rules.specs.Rules.{between, Head, span, admit, Item, item, itemSize,
 use Rattle.records.proofs.Facts.{between-in}
 use Rattle.recordings.specs.Answers.{value, refusal, numbered}
 use Rattle.recordings.proofs.Chosen.{numbered-in, numbered-out, numbered-one}
-use Rattle.questions.specs.Holding.{Reaches}
+use Rattle.questions.specs.Holding.{ReachesTo}
 use Rattle.questions.specs.Questions.{itemIn}
 
 -- what a walk gives, and where it ends, is what `see` comes to
@@ -112,19 +112,19 @@ module _ (o : Order) (s : List ℕ) (ok : ℕ → Bool) (n room p : ℕ) {is : L
 
 -- for the loop over items
 
-pub reaches-none : (o : Order) (s : List ℕ) (first n : ℕ) → Reaches o s first n 0 first
+pub reaches-none : (o : Order) (s : List ℕ) (first n : ℕ) → ReachesTo o s first n 0 first
 unfolding itemBytes
 reaches-none o s first n ok count room is e m g k = omega arith
 
 abbrev empty : Item
 empty = record { code = 0; content = [] }
 
-module _ (o : Order) (s : List ℕ) (first n i p : ℕ) (reached : Reaches o s first n i p) (less : i < n) where
+module _ (o : Order) (s : List ℕ) (first n i p : ℕ) (reached : ReachesTo o s first n i p) (less : i < n) where
   -- so an item stands there
   pub reaches-item : (ok : ℕ → Bool) (count room : ℕ) (is : List Item) (e : ℕ) → n ≤ count → e ≤ length s → see o 0 s first (itemList ok count room) ≡ goes is e → ItemAt o s p (getD is i empty)
   reaches-item ok count room is e m g k = rw (reached ok count room is e m g k) (list-item o s ok count room first k g empty i (omega arith))
 
-  pub reaches-more : (size : ℕ) → size ≡ numberAt o 4 s p → Reaches o s first n (i + 1) (p + size)
+  pub reaches-more : (size : ℕ) → size ≡ numberAt o 4 s p → ReachesTo o s first n (i + 1) (p + size)
   reaches-more size q ok count room is e m g k =
       let x = reaches-item ok count room is e m g k in
       let l : i < length is = omega (arith, list-count o s ok count room first k) in
@@ -160,7 +160,7 @@ module _ (o : Order) (s : List ℕ) (at : ℕ) (ok : ℕ → Bool) (room : ℕ) 
     unfolding itemIn
     entry-outside x = rw (itemIn, numbered-out is j (rw many at x))
 
-    module _ (within : between 1 count j ≡ true) (p : ℕ) (reached : Reaches o s (at + 24) (j - 1) (j - 1) p) where
+    module _ (within : between 1 count j ≡ true) (p : ℕ) (reached : ReachesTo o s (at + 24) (j - 1) (j - 1) p) where
       place : p ≡ at + 24 + itemBytes (take (j - 1) is)
       place = let x = between-in 1 count j within in reached ok (numberAt o 4 s (at + 16)) (span h - 24) is e (omega (arith, x .1)) ends opened
 

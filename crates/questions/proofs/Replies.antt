@@ -20,7 +20,7 @@ use Rattle.recordings.specs.Answers.{Answer, value, refusal, _>>=_}
 use Rattle.recordings.specs.Found.{FoundIn, countsOf}
 use Rattle.recordings.specs.Recordings.{Chosen, recordingOf, at120}
 use Rattle.recordings.proofs.Chosen.{indexed-out, numbered-out}
-use Rattle.samples.specs.Asked.{FrameIn, RunIn}
+use Rattle.samples.specs.Asked.{FrameStands, RunIn}
 use Rattle.samples.specs.Frames.{ChosenFrame, frameOf, Samples, samplesOf, numberIn, timeOf}
 use Rattle.samples.specs.declared.Number.{Number}
 use Rattle.samples.specs.declared.Run.{Run}
@@ -65,7 +65,7 @@ module _ {s : List ℕ} {i : ℕ} {o : Order} {q : Places} {r : Chosen} (h : Fou
 pub clock-refused : (s : List ℕ) (i j : ℕ) {n p : ℕ} → frameOf s i j ≡ refusal n p → refusal n p ≡ clockOf s i j
 clock-refused s i j h = rw h
 
-pub clock-told : {s : List ℕ} {i j : ℕ} {o : Order} {q : Places} {at : ℕ} {f : ChosenFrame} → FrameIn s i j o q at f → (d : Time) →
+pub clock-told : {s : List ℕ} {i j : ℕ} {o : Order} {q : Places} {at : ℕ} {f : ChosenFrame} → FrameStands s i j o q at f → (d : Time) →
     ((size t : ℕ) (cs : List R.Channel) (room n : ℕ) (g : R.Frame) (e : ℕ) → see o 0 s at (R.frame size t cs room n) ≡ goes g e → d ≡ timeOf g) → value d ≡ clockOf s i j
 clock-told {q} {f} h d told =
     rw (h .is) (ap value (told (q .frame) (q .seconds) (f .of .this .recording .channels) (h .room) _ (h .seen .value) (h .seen .end) (h .seen .is) ∙ ap timeOf (h .seen .kept)))

@@ -27,8 +27,8 @@ holdingOf Holder.Patient q = Held.At (q .patient)
 holdingOf Holder.Event q = eventsIn (q .«has_events») (q .events)
 
 -- of n items to pass i are passed at p, in each list of so many that stands at `first` and ends in the file
-abbrev pub Reaches : Order → List ℕ → (first n i p : ℕ) → Type 0
-Reaches o s first n i p =
+abbrev pub ReachesTo : Order → List ℕ → (first n i p : ℕ) → Type 0
+ReachesTo o s first n i p =
     (ok : ℕ → Bool) (count room : ℕ) (is : List R.Item) (e : ℕ) → n ≤ count → e ≤ length s → see o 0 s first (R.itemList ok count room) ≡ goes is e → p ≡ first + R.itemBytes (take i is)
 
 -- where the item n places behind the one at `first` stands
@@ -36,7 +36,7 @@ pub record PlaceOf (o : Order) (s : List ℕ) (first n r : ℕ) : Type 0 where
   -- in the file, whatever it holds
   pub inside : r ≤ length s
   -- all of the n items are passed
-  pub passed : Reaches o s first n n r
+  pub passed : ReachesTo o s first n n r
 
 -- the answer is item j of those that a walk gives of the record 130 or 200 at `at`
 abbrev pub TellsItem : Order → List ℕ → ℕ → ℕ → ItemTold → Type 0

@@ -22,8 +22,8 @@ use Rattle.rules.proofs.Renewed.{RecordingOk}
 use Rattle.rules.proofs.Turn.{accepted}
 use Rattle.records.specs.Says.{subsAt, ChannelsIn, ChannelsStand}
 use Rattle.records.proofs.Facts.{between-in}
-use Rattle.descriptions.specs.Tabled.{channelsIn, patientIn}
-use Rattle.descriptions.specs.Tabled as Tabled
+use Rattle.descriptions.specs.DescriptionsJudged.{channelsIn, patientIn}
+use Rattle.descriptions.specs.DescriptionsJudged as DescriptionsJudged
 use Rattle.descriptions.specs.declared.Before.{Before}
 use Rattle.descriptions.specs.declared.Before.the-variants as Before
 use Rattle.descriptions.specs.declared.Held.{Held}
@@ -157,16 +157,16 @@ reached-before o s ps i (Before.These b) r j y e q =
 -- where the next one stands
 module _ (o : Order) (s : List ℕ) (ps : List R.Placed) (ok : RecordingsOk none (readings ps)) (i : ℕ) (before : Before) (r : Behind o s ps i before) (x : R.Placed) (one : One ps i x) where
   -- the record that holds: its own, or what `held` has of the recording before, whose places have it at `at`
-  next-held : (own : R.Recording → Bool) (place : R.Layout → ℕ) (held : Before → Held) (at : Places → ℕ) → ((b : Places) → Tabled.heldAt (held (Before.These b)) ≡ at b) → ((y : Chosen) → at (placesAt y) ≡ heldAt own place y) →
-      ((d : R.Recording) → 0 < length (readings ps) → own (getD (readings ps) (holder own d 0 (readings ps)) d) ≡ true) → pick (own (x .recording)) (32 + bytesBefore i ps + place (x .layout)) (Tabled.heldAt (held before)) ≡ heldAt own place (chosen ps i x)
+  next-held : (own : R.Recording → Bool) (place : R.Layout → ℕ) (held : Before → Held) (at : Places → ℕ) → ((b : Places) → DescriptionsJudged.heldAt (held (Before.These b)) ≡ at b) → ((y : Chosen) → at (placesAt y) ≡ heldAt own place y) →
+      ((d : R.Recording) → 0 < length (readings ps) → own (getD (readings ps) (holder own d 0 (readings ps)) d) ≡ true) → pick (own (x .recording)) (32 + bytesBefore i ps + place (x .layout)) (DescriptionsJudged.heldAt (held before)) ≡ heldAt own place (chosen ps i x)
   next-held own place held at takes stands first =
       held-is own place ps i x one (first-own ps own first i x one) _
-      (λ j y e q. let t = reached-before o s ps i before r j y e q in ap (λ (b : Before). Tabled.heldAt (held b)) (t .1) ∙ takes (t .0) ∙ ap at (t .2) ∙ stands (chosen ps j y))
+      (λ j y e q. let t = reached-before o s ps i before r j y e q in ap (λ (b : Before). DescriptionsJudged.heldAt (held b)) (t .1) ∙ takes (t .0) ∙ ap at (t .2) ∙ stands (chosen ps j y))
 
-  next-120 : pick (x .recording .ownChannels) (32 + bytesBefore i ps + x .layout .at120) (Tabled.heldAt (channelsIn before)) ≡ at120 (chosen ps i x)
+  next-120 : pick (x .recording .ownChannels) (32 + bytesBefore i ps + x .layout .at120) (DescriptionsJudged.heldAt (channelsIn before)) ≡ at120 (chosen ps i x)
   next-120 = next-held (λ r. r .ownChannels) (λ y. y .at120) channelsIn (λ b. b .channels) (λ b. refl) (λ y. refl) (λ d m. channels-hold d 0 (readings ps) ok m .owned)
 
-  next-130 : pick (x .recording .ownPatient) (32 + bytesBefore i ps + x .layout .at130) (Tabled.heldAt (patientIn before)) ≡ at130 (chosen ps i x)
+  next-130 : pick (x .recording .ownPatient) (32 + bytesBefore i ps + x .layout .at130) (DescriptionsJudged.heldAt (patientIn before)) ≡ at130 (chosen ps i x)
   next-130 = next-held (λ r. r .ownPatient) (λ y. y .at130) patientIn (λ b. b .patient) (λ b. refl) (λ y. refl) (λ d m. patient-holds d 0 (readings ps) ok m .owned)
 
   next-places : (p : ℕ) → p ≡ 32 + bytesBefore i ps → placesOf p before x ≡ placesAt (chosen ps i x)

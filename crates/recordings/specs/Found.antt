@@ -11,7 +11,7 @@ use Rattle.walk.specs.Walk.{pick}
 use Rattle.rules.specs.Rules as R
 use Rattle.rules.specs.declared.FileHeader.{FileHeader}
 use Rattle.rules.specs.declared.Refusal.{Refusal}
-use Rattle.descriptions.specs.Tabled.{Owned}
+use Rattle.descriptions.specs.DescriptionsJudged.{Owned}
 use Rattle.descriptions.specs.declared.Places.{Places}
 use Rattle.judge.specs.Judged.{AcceptedAs}
 use Rattle.judge.specs.declared.recording.Recorded.{Recorded}

@@ -44,10 +44,6 @@ halts r = stops (r .0) (r .1)
 abbrev pub headOf : Head → R.Head
 headOf h = record { size = h .size; code = h .code; serial = h .serial; multiplier = h .multiplier }
 
--- no record's head, at byte p
-abbrev pub noHead : ℕ → Head
-noHead p = record { at = p; size = 0; code = 0; serial = 0; multiplier = 0 }
-
 abbrev pub headed : ℕ → Headed → Verdict R.Head
 headed base (Headed.At h) = goes (headOf h) (base + (h .at + 16))
 headed base (Headed.Stop r) = halts r
@@ -89,18 +85,18 @@ nexted base n (Headed.At h) = goes (record { head = headOf h; room = n - h .at }
 nexted base n (Headed.Stop r) = halts r
 
 -- a head stands at this byte of a part of n bytes, and is inside it
-abbrev pub Placed : ℕ → ℕ → Headed → Type 0
-Placed p n (Headed.At h) = (h .at ≡ p) × (p + 16 ≤ n)
-Placed p n (Headed.Stop r) = Unit {0}
+abbrev pub HeadPlaced : ℕ → ℕ → Headed → Type 0
+HeadPlaced p n (Headed.At h) = (h .at ≡ p) × (p + 16 ≤ n)
+HeadPlaced p n (Headed.Stop r) = Unit {0}
 
 -- a head stands at or after byte p of a part of n bytes, and is inside it
 pub record HeadFrom (p n : ℕ) (h : Head) : Type 0 where
   pub low : p ≤ h .at
   pub inside : h .at + 16 ≤ n
 
-abbrev pub Found : ℕ → ℕ → Headed → Type 0
-Found p n (Headed.At h) = HeadFrom p n h
-Found p n (Headed.Stop r) = Unit {0}
+abbrev pub HeadFound : ℕ → ℕ → Headed → Type 0
+HeadFound p n (Headed.At h) = HeadFrom p n h
+HeadFound p n (Headed.Stop r) = Unit {0}
 
 -- the rules on a code, on a length and on a serial, as the rules have them
 abbrev pub codesOf : Code → ℕ → Bool
@@ -249,12 +245,12 @@ timeTested o s at K =
 -- a record's head at byte p
 pub record HeadAt (o : Order) (base : ℕ) (s : List ℕ) (p : ℕ) (a : Headed) : Type 0 where
   pub seen : see o base s (base + p) (R.head (length s - p)) ≡ headed base a
-  pub stands : Placed p (length s) a
+  pub stands : HeadPlaced p (length s) a
 
 -- the head of the first record from byte `from` on that is no maker's own
 pub record NextHead (o : Order) (base : ℕ) (s : List ℕ) (from : ℕ) (a : Headed) : Type 0 where
   pub seen : (fuel : ℕ) → length s < from + fuel → over headroom (see o base s (base + from) (R.next fuel (length s - from))) ≡ nexted base (length s) a
-  pub stands : Found from (length s) a
+  pub stands : HeadFound from (length s) a
 
 -- a head, admitted by its kind's rule in a part of n bytes. The walk reads nothing, so it is the same over any bytes
 pub record AdmittedBy (h : Head) (base n : ℕ) (kind : Kind) (a : Step) : Type 0 where

@@ -27,7 +27,7 @@ pub enum Basiced {
 
 const MONTHS: [u32; 12] = [31, 28, 31, 30, 31, 30, 31, 31, 30, 31, 30, 31];
 
-pub fn leap(y: u32) -> bool
+fn leap(y: u32) -> bool
     ensures { λ r. ⌜ r ≡ R.leap y ⌝ }
 {
     if y % 4 != 0 {
@@ -39,7 +39,7 @@ pub fn leap(y: u32) -> bool
     y % 400 == 0
 }
 
-pub fn days_in(y: u32, m: u32) -> u32
+fn days_in(y: u32, m: u32) -> u32
     ensures { λ r. ⌜ r ≡ R.daysIn y m ⌝ }
 {
     if m == 2 {
@@ -57,7 +57,7 @@ pub fn days_in(y: u32, m: u32) -> u32
     MONTHS[m as usize - 1]
 }
 
-pub fn dated(y: u32, high: u32, n: u32) -> bool
+fn dated(y: u32, high: u32, n: u32) -> bool
     ensures { λ r. ⌜ r ≡ R.dated y high n ⌝ }
 {
     if y == 0 {
@@ -66,7 +66,7 @@ pub fn dated(y: u32, high: u32, n: u32) -> bool
     between(1, high, n)
 }
 
-pub fn mains_ok(n: u32) -> bool
+fn mains_ok(n: u32) -> bool
     ensures { λ r. ⌜ r ≡ R.isMains n ⌝ }
 {
     if n == 0 {
@@ -79,7 +79,7 @@ pub fn mains_ok(n: u32) -> bool
 }
 
 // The tests of the fields of the record 100 at `at`, whose body is the part s.
-pub fn counts_ok(o: Order, s: &[u8], at: usize) -> Tested
+fn counts_ok(o: Order, s: &[u8], at: usize) -> Tested
     requires { ⌜ (112 ≤ length (now s)) × Addressable at ⌝ }
     ensures { λ a. ⌜ ((K : Verdict R.Basic) → countsTested o (now (s .entry)) at K ≡ resumed a K) ⌝ }
 {
@@ -95,7 +95,7 @@ pub fn counts_ok(o: Order, s: &[u8], at: usize) -> Tested
     Tested::Fine
 }
 
-pub fn date_ok(o: Order, s: &[u8], at: usize) -> Tested
+fn date_ok(o: Order, s: &[u8], at: usize) -> Tested
     requires { ⌜ (112 ≤ length (now s)) × Addressable at ⌝ }
     ensures { λ a. ⌜ ((K : Verdict R.Basic) → dateTested o (now (s .entry)) at K ≡ resumed a K) ⌝ }
 {
@@ -113,7 +113,7 @@ pub fn date_ok(o: Order, s: &[u8], at: usize) -> Tested
     Tested::Fine
 }
 
-pub fn time_ok(o: Order, s: &[u8], at: usize) -> Tested
+fn time_ok(o: Order, s: &[u8], at: usize) -> Tested
     requires { ⌜ (112 ≤ length (now s)) × Addressable at ⌝ }
     ensures { λ a. ⌜ ((K : Verdict R.Basic) → timeTested o (now (s .entry)) at K ≡ resumed a K) ⌝ }
 {
@@ -130,7 +130,7 @@ pub fn time_ok(o: Order, s: &[u8], at: usize) -> Tested
 }
 
 // The body of the record 100 at `at`: the part of the file that starts 16 bytes into it.
-pub fn basic_body(o: Order, s: &[u8], at: usize) -> Basiced
+fn basic_body(o: Order, s: &[u8], at: usize) -> Basiced
     requires { ⌜ (112 ≤ length (now s)) × Addressable at ⌝ }
     ensures { λ a. ⌜ over basicOf (see o (at + 16) (now (s .entry)) (at + 16) R.basicBody) ≡ basiced at a ⌝ }
 {

@@ -26,7 +26,7 @@ use rules::Refusal;
 use words::Order;
 use words::number4;
 
-pub fn type_ok(n: u32) -> bool
+fn type_ok(n: u32) -> bool
     ensures { λ r. ⌜ r ≡ R.isType n ⌝ }
 {
     if n <= 18 {
@@ -35,7 +35,7 @@ pub fn type_ok(n: u32) -> bool
     n == 20
 }
 
-pub fn rate_ok(flags: u32, kind: u32, rate: u32) -> bool
+fn rate_ok(flags: u32, kind: u32, rate: u32) -> bool
     ensures { λ r. ⌜ r ≡ R.rateOk flags kind rate ⌝ }
 {
     if rate == 0 {
@@ -48,7 +48,7 @@ pub fn rate_ok(flags: u32, kind: u32, rate: u32) -> bool
 }
 
 // The body of the record 125 at `at`.
-pub fn channel_body(o: Order, s: &[u8], at: usize) -> Tested
+fn channel_body(o: Order, s: &[u8], at: usize) -> Tested
     requires { ⌜ (240 ≤ length (now s)) × Addressable at ⌝ }
     ensures { λ a. ⌜ ends (see o (at + 16) (now (s .entry)) (at + 16) R.channelBody) ≡ tested a (at + 256) ⌝ }
 {
@@ -71,7 +71,7 @@ pub fn channel_body(o: Order, s: &[u8], at: usize) -> Tested
 }
 
 // The record 125 at byte p of the part s, with the serial i: where it stops.
-pub fn channel_at(o: Order, s: &[u8], base: usize, p: usize, i: u32) -> Step
+fn channel_at(o: Order, s: &[u8], base: usize, p: usize, i: u32) -> Step
     requires { ⌜ (p ≤ length (now s)) × Addressable (base + length (now s)) ⌝ }
     ensures { λ a. ⌜ StepOver o base (now (s .entry)) p (R.channel (length (now (s .entry)) - p) i) (Advances p 256 (length (now (s .entry)))) a ⌝ }
 {
@@ -84,7 +84,7 @@ pub fn channel_at(o: Order, s: &[u8], base: usize, p: usize, i: u32) -> Step
 }
 
 // So many records 125 from byte `from` of the part s on: where they end.
-pub fn channels_from(o: Order, s: &[u8], base: usize, from: usize, count: u32) -> Step
+fn channels_from(o: Order, s: &[u8], base: usize, from: usize, count: u32) -> Step
     requires { ⌜ (from ≤ length (now s)) × Addressable (base + length (now s)) ⌝ }
     ensures { λ a. ⌜ StepOver o base (now (s .entry)) from
         (R.series count 1 256 (length (now (s .entry)) - from) R.channel) (Advances from (256 * count) (length (now (s .entry)))) a ⌝ }
@@ -103,7 +103,7 @@ pub fn channels_from(o: Order, s: &[u8], base: usize, from: usize, count: u32) -
 }
 
 // The body of the record 120 at `at`, of as many channels as record 100 has.
-pub fn channels_body(o: Order, s: &[u8], at: usize, channels: u32) -> Tested
+fn channels_body(o: Order, s: &[u8], at: usize, channels: u32) -> Tested
     requires { ⌜ (16 ≤ length (now s)) × Addressable (at + 16 + length (now s)) ⌝ }
     ensures { λ a. ⌜ ((b : R.Basic) → b .channels ≡ channels →
         ends (see o (at + 16) (now (s .entry)) (at + 16) (channelsBody b (16 + length (now (s .entry)))))

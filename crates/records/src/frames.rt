@@ -23,7 +23,7 @@ use rules::Refusal;
 use words::Order;
 
 // The body of the record 145 at `at`, whose samples end at byte `filled` of the record.
-pub fn frame_body(o: Order, s: &[u8], at: usize, filled: usize) -> Tested
+fn frame_body(o: Order, s: &[u8], at: usize, filled: usize) -> Tested
     requires { ⌜ (24 ≤ filled) × (filled ≤ 16 + length (now s)) × Addressable (at + 16 + length (now s)) ⌝ }
     ensures { λ a. ⌜ ((t : ℕ) (cs : List R.Channel) → filled ≡ 24 + R.sampleBytes t cs →
         ends (see o (at + 16) (now (s .entry)) (at + 16) (frameBody (16 + length (now (s .entry))) t cs))
@@ -42,15 +42,7 @@ pub fn frame_body(o: Order, s: &[u8], at: usize, filled: usize) -> Tested
 }
 
 // The record 145 at byte p of the part s, with the serial i, the length `size`, and samples that end at byte `filled` of it: where it stops.
-pub fn frame_at(
-    o: Order,
-    s: &[u8],
-    base: usize,
-    p: usize,
-    i: u32,
-    size: usize,
-    filled: usize,
-) -> Step
+fn frame_at(o: Order, s: &[u8], base: usize, p: usize, i: u32, size: usize, filled: usize) -> Step
     requires { ⌜ (p ≤ length (now s)) × Addressable (base + length (now s)) × (24 ≤ filled) × (filled ≤ size) ⌝ }
     ensures { λ a. ⌜ FramesOver o base (now (s .entry)) p filled
         (λ t cs. R.frame size t cs (length (now (s .entry)) - p) i) (Advances p size (length (now (s .entry)))) a ⌝ }

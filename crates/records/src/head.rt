@@ -4,7 +4,7 @@ ghost use Prim.Native.Nat.{_+_, _≤_, _<_};
 ghost use lib.ListN.{length};
 ghost use Rattle.words.specs.Sizes.{Addressable};
 ghost use Rattle.rules.specs.Rules as R;
-ghost use Rattle.records.specs.Says.{noHead, HeadAt};
+ghost use Rattle.records.specs.Says.{HeadAt};
 use crate::Headed;
 use rules::Head;
 use rules::Refusal;
@@ -30,19 +30,6 @@ pub fn head_at(o: Order, s: &[u8], base: usize, p: usize) -> Headed
         serial,
         multiplier,
     })
-}
-
-// No record's head, at byte p.
-pub fn nothing(p: usize) -> Head
-    ensures { λ r. ⌜ r ≡ noHead p ⌝ }
-{
-    Head {
-        at: p,
-        size: 0,
-        code: 0,
-        serial: 0,
-        multiplier: 0,
-    }
 }
 
 // A record's length.

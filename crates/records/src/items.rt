@@ -30,7 +30,7 @@ pub enum Holder {
 
 const KEYWORDS: [u32; 5] = [0, 1, 201, 210, 220];
 
-pub fn keyword(x: u32) -> bool
+fn keyword(x: u32) -> bool
     ensures { λ r. ⌜ r ≡ R.isIn x R.keywords ⌝ }
 {
     let mut i: usize = 0;
@@ -43,7 +43,7 @@ pub fn keyword(x: u32) -> bool
     false
 }
 
-pub fn code_ok(k: Holder, x: u32) -> bool
+fn code_ok(k: Holder, x: u32) -> bool
     ensures { λ r. ⌜ r ≡ okOf k x ⌝ }
 {
     match k {
@@ -75,7 +75,7 @@ pub fn code_ok(k: Holder, x: u32) -> bool
 }
 
 // The item at byte p of the part s: where the next one starts.
-pub fn item_at(o: Order, k: Holder, s: &[u8], base: usize, p: usize) -> Step
+fn item_at(o: Order, k: Holder, s: &[u8], base: usize, p: usize) -> Step
     requires { ⌜ (p ≤ length (now s)) × Addressable (base + length (now s)) ⌝ }
     ensures { λ a. ⌜ StepOver o base (now (s .entry)) p (R.item (okOf k) (length (now (s .entry)) - p)) (Beyond p (length (now (s .entry)))) a ⌝ }
 {
@@ -101,7 +101,7 @@ pub fn item_at(o: Order, k: Holder, s: &[u8], base: usize, p: usize) -> Step
 }
 
 // So many items from byte `from` of the part s on: where they end.
-pub fn items_from(o: Order, k: Holder, s: &[u8], base: usize, from: usize, count: u32) -> Step
+fn items_from(o: Order, k: Holder, s: &[u8], base: usize, from: usize, count: u32) -> Step
     requires { ⌜ (from ≤ length (now s)) × Addressable (base + length (now s)) ⌝ }
     ensures { λ a. ⌜ StepOver o base (now (s .entry)) from
         (R.itemList (okOf k) count (length (now (s .entry)) - from)) (Beyond from (length (now (s .entry)))) a ⌝ }
@@ -120,7 +120,7 @@ pub fn items_from(o: Order, k: Holder, s: &[u8], base: usize, from: usize, count
 }
 
 // The body of the record 130 or 200 at `at`.
-pub fn items_body(o: Order, k: Holder, s: &[u8], at: usize) -> Tested
+fn items_body(o: Order, k: Holder, s: &[u8], at: usize) -> Tested
     requires { ⌜ (8 ≤ length (now s)) × Addressable (at + 16 + length (now s)) ⌝ }
     ensures { λ a. ⌜ ends (see o (at + 16) (now (s .entry)) (at + 16) (itemsBody (okOf k) (16 + length (now (s .entry)))))
         ≡ tested a (at + (16 + length (now (s .entry)))) ⌝ }

@@ -42,7 +42,7 @@ use Rattle.measures.proofs.Canonic.{bare, head-bare}
 use Rattle.measures.proofs.Chained.{tablesEvents, tables-bare, next-bare}
 use Rattle.measures.proofs.Lengths.{Accepted, accepted}
 use Rattle.measures.proofs.Measures.{stands, in-body}
-use Rattle.rewrite.specs.FramesAnew.{FramesAnew, signalsEvents, BodyRead, SignalsAnew}
+use Rattle.rewrite.specs.FramesAnew.{FramesAnew, signalsEvents, BodyMeasured, SignalsAnew}
 use Rattle.rewrite.specs.RecordingsAnew.{ChildAnew}
 use Rattle.rewrite.proofs.Framing.{render-record, padded-events}
 use Rattle.rewrite.proofs.Placed.{record-placed}
@@ -179,7 +179,7 @@ signals-full w file s cs f out k bytes fit full =
 abbrev pub RenewedUpTo : Way → ℕ → List ℕ → Placed → List ℕ → List ℕ → ℕ → ℕ → Type 0
 RenewedUpTo w b s x d₀ d k p = Copying (λ (l : List ℕ). l) (Renewal w b s (x .recording)) d₀ d 0 k p (render (w .to) (content (x .recording)))
 
-module _ {w : Way} {file s : List ℕ} {cs : Channels} {f : Measure} {b : ℕ} {x : Placed} (g : BodyRead w file s cs f b x) where
+module _ {w : Way} {file s : List ℕ} {cs : Channels} {f : Measure} {b : ℕ} {x : Placed} (g : BodyMeasured w file s cs f b x) where
   pub renewed-none : {d₀ : List ℕ} → Bytes s → RenewedUpTo w b s x d₀ d₀ 0 0
   renewed-none bytes = copying-none _ (renewal w (accepted (w .from) b s bytes (g .head) (g .fills) (g .held) (g .went)) (g .clear))
 

@@ -19,7 +19,7 @@ use Rattle.descriptions.specs.declared.Places.{Places}
 use Rattle.children.proofs.Again.{Next}
 use Rattle.bodies.specs.Copy.{Pastes}
 use Rattle.turn.proofs.Sent.{AfterHeader, after-more}
-use Rattle.measures.specs.Measures.{MeasureOf, Bounds, Each, Given, lengthIn, behindHead}
+use Rattle.measures.specs.Measures.{MeasureOf, MeasureBounds, Each, Given, lengthIn, behindHead}
 use Rattle.measures.specs.declared.Sized.{Sized}
 use Rattle.measures.specs.declared.Measured.{Measured}
 use Rattle.measures.specs.declared.Measured.the-variants as Measured
@@ -43,7 +43,7 @@ given-size (Measured.On f) i x g = ap (λ (z : Sized). z .length) (g .whole) ∙
 given-size Measured.Nothing i x g = absurd g
 
 -- no measure asks for more
-pub length-most : (n : ℕ) (a : Measured) → Each a (Bounds n) → lengthIn a < 549755813888
+pub length-most : (n : ℕ) (a : Measured) → Each a (MeasureBounds n) → lengthIn a < 549755813888
 length-most n (Measured.On f) b = b .most
 length-most n Measured.Nothing b = omega arith
 

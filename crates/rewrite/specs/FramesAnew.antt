@@ -15,7 +15,7 @@ use Rattle.records.specs.Says.{ChannelsIn, ChannelsStand}
 use Rattle.bodies.specs.Copy.{widthsIn, Pastes}
 use Rattle.bodies.specs.declared.Way.{Way}
 use Rattle.bodies.specs.declared.Widths.{Widths}
-use Rattle.measures.specs.Measures.{MeasureOf, MeasureIn, Bounds, FramesSay, FrameIn}
+use Rattle.measures.specs.Measures.{MeasureOf, MeasureIn, MeasureBounds, FramesSay, FrameIn}
 use Rattle.measures.specs.declared.Measure.{Measure}
 
 -- s is a frame up to its padding, d has as much room, and the samples' widths are those of the records 125 at cs
@@ -35,7 +35,7 @@ FrameAnew w file s d cs t i =
     d ≡ render (w .to) (C.recordOf (C.plainHead (length s) 145 i) (C.frameWritten ch f))
 
 -- the body s of a 140 holds so many frames of `size` bytes, `filled` of them without the padding, and d has room for those
-pub record FramesFit (file s d : List ℕ) (cs : Channels) (t filled size count : ℕ) : Type 0 where
+pub record FramesRoom (file s d : List ℕ) (cs : Channels) (t filled size count : ℕ) : Type 0 where
   pub channels : cs .subs + 256 * cs .count ≤ length file
   pub seconds : t ≤ 3600
   pub least : 24 ≤ filled
@@ -53,7 +53,7 @@ FramesAnew w file s d d′ cs t filled size count =
     d′ ≡ render (w .to) (C.framesWritten t ch (f .frames))
 
 -- where the walk accepts the body s of a recording, which stands at `base`, as x, and f is its measure
-pub record BodyRead (w : Way) (file s : List ℕ) (cs : Channels) (f : Measure) (base : ℕ) (x : R.Placed) : Type 0 where
+pub record BodyMeasured (w : Way) (file s : List ℕ) (cs : Channels) (f : Measure) (base : ℕ) (x : R.Placed) : Type 0 where
   -- reserve is cleared
   pub clear : w .keep ≡ false
   -- the recording's head, what earlier ones hand on, and where the walk came to
@@ -75,11 +75,11 @@ signalsEvents r = C.recordOf (C.framesHead (r .seconds) (r .channels) (r .frames
 -- it goes to byte k of the buffer
 pub record SignalsFit (file s out : List ℕ) (cs : Channels) (f : Measure) (k : ℕ) : Type 0 where
   pub channels : ChannelsIn (length file) cs
-  pub bounds : Bounds (length s) f
+  pub bounds : MeasureBounds (length s) f
   pub target : k ≤ length out
 
 -- where there is room, the 140 in canonical form stands there, and the next bytes go at r
 pub record SignalsAnew (w : Way) (file s : List ℕ) (cs : Channels) (f : Measure) (out out′ : List ℕ) (k r : ℕ) : Type 0 where
   pub inside : r ≤ length out
-  pub wrote : (base : ℕ) (x : R.Placed) → BodyRead w file s cs f base x →
+  pub wrote : (base : ℕ) (x : R.Placed) → BodyMeasured w file s cs f base x →
       Pastes out out′ k r (render (w .to) (signalsEvents (x .recording)))

@@ -23,10 +23,10 @@ use Rattle.children.specs.Recordings.{ReadAs}
 use Rattle.bodies.specs.Copy.{Pastes}
 use Rattle.bodies.specs.declared.Way.{Way}
 use Rattle.transcripts.specs.Transcript.{Transcribed}
-use Rattle.measures.specs.Measures.{MeasureOf, MeasureIn, Bounds, Each, Given, behindHead}
+use Rattle.measures.specs.Measures.{MeasureOf, MeasureIn, MeasureBounds, Each, Given, behindHead}
 use Rattle.measures.specs.declared.Measure.{Measure}
 use Rattle.measures.specs.declared.Measured.{Measured}
-use Rattle.rewrite.specs.FramesAnew.{BodyRead, SignalsFit, SignalsAnew}
+use Rattle.rewrite.specs.FramesAnew.{BodyMeasured, SignalsFit, SignalsAnew}
 
 -- a file of n bytes with room for its header
 pub record Lent (n : ℕ) : Type 0 where
@@ -53,7 +53,7 @@ bodyIn file p q = take (q .end - (p + 16)) (drop (p + 16) file)
 -- what `measure_at` answers of it
 pub record MeasuredAt (o : Order) (file : List ℕ) (p : ℕ) (q : Places) (a : Measured) : Type 0 where
   -- whatever the bytes are
-  pub bounds : Each a (Bounds (q .end - (p + 16)))
+  pub bounds : Each a (MeasureBounds (q .end - (p + 16)))
   pub reads : Each a (MeasureIn o (p + 16) (bodyIn file p q))
   -- where the walk accepts it, there is a measure, and it is the recording's
   pub told : (held : Option R.Held) (i : ℕ) (x : R.Placed) → AcceptedAt o file p i q held x → Given a (λ f. MeasureOf f x)
@@ -62,12 +62,12 @@ pub record MeasuredAt (o : Order) (file : List ℕ) (p : ℕ) (q : Places) (a : 
 pub record BodyFits (file s d : List ℕ) (cs : Channels) (f : Measure) (base : ℕ) : Type 0 where
   pub channels : ChannelsIn (length file) cs
   pub short : Addressable (base + length s)
-  pub bounds : Bounds (length s) f
+  pub bounds : MeasureBounds (length s) f
   pub room : 16 + length d ≡ f .whole .length
 
 -- where the walk accepts the body s as x, d is what stands behind the head of its canonical form
 abbrev pub BodyAnew : Way → List ℕ → List ℕ → List ℕ → Channels → Measure → ℕ → Type 0
-BodyAnew w file s d cs f base = (x : R.Placed) → BodyRead w file s cs f base x → d ≡ render (w .to) (behindHead (x .recording))
+BodyAnew w file s d cs f base = (x : R.Placed) → BodyMeasured w file s cs f base x → d ≡ render (w .to) (behindHead (x .recording))
 
 -- a record of the body s, with the code's head h and up to byte q, goes to byte k of the buffer
 pub record ChildFits (file s out : List ℕ) (cs : Channels) (f : Measure) (h : Head) (q k : ℕ) : Type 0 where

@@ -1,5 +1,5 @@
 // Record 140 and its frames in canonical form.
-ghost use Rattle.rewrite.specs.FramesAnew.{FrameFits, FrameAnew, FramesFit, FramesAnew, SignalsFit, SignalsAnew};
+ghost use Rattle.rewrite.specs.FramesAnew.{FrameFits, FrameAnew, FramesRoom, FramesAnew, SignalsFit, SignalsAnew};
 use bodies::Way;
 use bodies::Widths;
 use bodies::frame_body;
@@ -50,7 +50,7 @@ fn frames_body(
     s: &[u8],
     d: &mut [u8],
 )
-    requires { ⌜ FramesFit (now file) (now s) (now d) cs t filled size count ⌝ }
+    requires { ⌜ FramesRoom (now file) (now s) (now d) cs t filled size count ⌝ }
     ensures { λ _. ⌜ FramesAnew w (now (file .entry)) (now (s .entry)) (now (d .entry)) (now (d .exit)) cs t filled size count ⌝ }
 {
     let o = w.from;

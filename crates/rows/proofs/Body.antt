@@ -27,7 +27,7 @@ use Rattle.records.proofs.Opened.{tell-head, admit-went}
 use Rattle.children.specs.Children.{Said, said, _then_, Known, knownOf, Reads, Inner, is100, is120, is130, is200, is140, isMaker, Chain, Closed, RecordAt, NoRecord}
 use Rattle.children.proofs.Chained.{body-chain}
 use Rattle.children.proofs.Visiting.{chain-parted, chain-closed}
-use Rattle.rows.specs.Rows.{channelRows, frameRows, heldRows, Holds, Wrote}
+use Rattle.rows.specs.Rows.{channelRows, frameRows, heldRows, HasRoom, Wrote}
 use Rattle.rows.proofs.Lists.{silent-padding, items-lists, channels-lists, frames-lists}
 use Rattle.rows.proofs.Written.{wrote-join, wrote-nothing}
 
@@ -50,7 +50,7 @@ silent-basicBody = λ _ _ _ _ _ _ _ _ _ _ _ _. tt
 
 -- the record at byte p with the head h is its row and those of the records that it holds, for which it has room
 pub record Rowed (o : Order) (b : ℕ) (s : List ℕ) (p : ℕ) (h : Head) (rs : List Row) : Type 0 where
-  pub fits : Holds o s p (p + span h) (h .code)
+  pub fits : HasRoom o s p (p + span h) (h .code)
   pub rows : rs ≡ record { start = b + p; size = span h; code = h .code; serial = h .serial } ∷ heldRows o b s p (h .code)
 
 module _ (o : Order) (b : ℕ) (s : List ℕ) (p : ℕ) (fit : p ≤ length s) where
@@ -135,7 +135,7 @@ module _ {o : Order} {b : ℕ} {s : List ℕ} {w : Bool} {out : List ℤ} {k : �
     listed-short v l = absurd (omega (arith, closed-inside o b s p fit (chain-closed o b s v (g .chain))))
 
     pub listed-more : {out₂ : List ℤ} {k₂ : ℕ} {h : At.Head} {q : ℕ} → RecordAt o b s p h q →
-        (Holds o s (h .at) q (h .code) → Wrote w out₁ out₂ k₁ k₂ (record { start = b + h .at; size = q - h .at; code = h .code; serial = h .serial } ∷ heldRows o b s (h .at) (h .code))) → Listed o b s w out out₂ k k₂ q rs
+        (HasRoom o s (h .at) q (h .code) → Wrote w out₁ out₂ k₁ k₂ (record { start = b + h .at; size = q - h .at; code = h .code; serial = h .serial } ∷ heldRows o b s (h .at) (h .code))) → Listed o b s w out out₂ k k₂ q rs
     unfolding _then_
     listed-more {out₂} {k₂} {h} {q} v y =
         let d = chain-parted o b s v (g .chain) in

@@ -143,13 +143,13 @@ module _ (o : Order) (b : ℕ) (s : List ℕ) (p : ℕ) where
   abbrev framed : List Channel → Head → Walk (List Frame)
   framed cs h = series count 1 size (span h - 32) (frame size seconds cs)
 
-  record Framed (cs : List Channel) (h : Head) (rs : List Row) : Type 0 where
+  record FramesListed (cs : List Channel) (h : Head) (rs : List Row) : Type 0 where
     long : 24 + sampleBytes seconds cs ≤ size
     fits : 32 + count * size ≤ span h
     went : Goes (see o b s (b + p + 4 + 4 + 4 + 4) (framed cs h)) (λ _ _. Unit {0})
     rows : rs ≡ tell o b s (b + p + 4 + 4 + 4 + 4) (framed cs h)
 
-  framesBody-lists : (c : Basic) (cs : List Channel) (h : Head) {f : Frames} {e : ℕ} → see o b s (b + p) (framesBody c cs h) ≡ goes f e → Framed cs h (tell o b s (b + p) (framesBody c cs h))
+  framesBody-lists : (c : Basic) (cs : List Channel) (h : Head) {f : Frames} {e : ℕ} → see o b s (b + p) (framesBody c cs h) ≡ goes f e → FramesListed cs h (tell o b s (b + p) (framesBody c cs h))
   unfolding framesBody between see tell _>>=_ _>>_
   framesBody-lists c cs h g =
       let z₀ : b + p - b ≡ p = omega arith in

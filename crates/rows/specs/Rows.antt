@@ -58,7 +58,7 @@ pub record FramesFit (o : Order) (s : List ℕ) (p q : ℕ) : Type 0 where
   pub inside : 32 + numberAt o 4 s (p + 20) * numberAt o 4 s (p + 24) ≤ q - p
 
 -- the record of this code from byte p up to q has room for the records that it holds
-pub record Holds (o : Order) (s : List ℕ) (p q code : ℕ) : Type 0 where
+pub record HasRoom (o : Order) (s : List ℕ) (p q code : ℕ) : Type 0 where
   pub channels : code ≡ 120 → ChannelsFit o s p q
   pub frames : code ≡ 140 → FramesFit o s p q
 

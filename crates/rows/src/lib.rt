@@ -7,7 +7,7 @@ ghost use Prim.Native.Nat.{_+_, _-_, _*_, _≤_, _<_};
 ghost use lib.Dec.{leb};
 ghost use lib.ListN.{length};
 ghost use Rattle.words.specs.Sizes.{Addressable};
-ghost use Rattle.rows.specs.Rows.{seriesRows, channelRows, frameRows, heldRows, ChannelsFit, FramesFit, Holds};
+ghost use Rattle.rows.specs.Rows.{seriesRows, channelRows, frameRows, heldRows, ChannelsFit, FramesFit, HasRoom};
 ghost use Rattle.rows.specs.Rows.{Wrote, WroteUpTo, WroteIf, Ahead, SeriesAhead, RecordAhead, BodyAhead, RecordingAhead};
 ghost use Rattle.rows.specs.Rows.{BodyListed, RecordingListed, FileListed};
 use children::Direct;
@@ -146,7 +146,7 @@ fn record_rows(
     write: bool,
 ) -> usize
     requires { ⌜ RecordAhead base (now s) (h .at) end k 0 ⌝ }
-    ensures { λ r. ⌜ WroteIf (Holds o (now (s .entry)) (h .at) end (h .code)) (base + end) write (now (out .entry)) (now (out .exit)) k r
+    ensures { λ r. ⌜ WroteIf (HasRoom o (now (s .entry)) (h .at) end (h .code)) (base + end) write (now (out .entry)) (now (out .exit)) k r
         (record { start = base + h .at; size = end - h .at; code = h .code; serial = h .serial }
         ∷ heldRows o base (now (s .entry)) (h .at) (h .code)) ⌝ }
 {

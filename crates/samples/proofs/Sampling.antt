@@ -22,7 +22,7 @@ use Rattle.recordings.specs.Answers.{value, refusal, indexed, numbered}
 use Rattle.recordings.specs.Recordings.{Chosen}
 use Rattle.recordings.proofs.Chosen.{indexed-in, numbered-out, numbered-one, One, answered, ChosenIn}
 use Rattle.recordings.proofs.Standing.{found-seen}
-use Rattle.samples.specs.Asked.{FrameIn, Inside, RunAt, RunIn, SamplesFoundAs, runOf}
+use Rattle.samples.specs.Asked.{FrameStands, RunInside, RunAt, RunIn, SamplesFoundAs, runOf}
 use Rattle.samples.specs.Frames.{ChosenFrame, frameOf, Samples, samplesOf}
 use Rattle.samples.specs.declared.SamplesFound.the-variants as SamplesFound
 use Rattle.samples.specs.declared.Run.{Run}
@@ -131,13 +131,13 @@ samples-from s b i j k {x} h =
 pub samples-refused : (s : List ℕ) (i j k : ℕ) {n p : ℕ} → frameOf s i j ≡ refusal n p → samplesOf s i j k ≡ refusal n p
 samples-refused s i j k h = rw h
 
-module _ {s : List ℕ} {i j : ℕ} {o : Order} {q : Places} {at : ℕ} {f : ChosenFrame} (h : FrameIn s i j o q at f) (k : ℕ) where
+module _ {s : List ℕ} {i j : ℕ} {o : Order} {q : Places} {at : ℕ} {f : ChosenFrame} (h : FrameStands s i j o q at f) (k : ℕ) where
   pub samples-outside : R.between 1 (q .count) k ≡ false → samplesOf s i j k ≡ refusal 19 0
   samples-outside t = rw (h .is, numbered-out (f .of .this .recording .channels) k (rw (h .found .owned .stand .count) t))
 
   -- its channel y has this number
   module _ (y : R.Channel) (is : numbered (f .of .this .recording .channels) k ≡ value y) where
-    run-is : (run : Run) → Inside (length s) run → run ≡ runOf (q .seconds) (take (k - 1) (f .of .this .recording .channels)) y at → RunIn s i j k o run (samplesAre f k y)
+    run-is : (run : Run) → RunInside (length s) run → run ≡ runOf (q .seconds) (take (k - 1) (f .of .this .recording .channels)) y at → RunIn s i j k o run (samplesAre f k y)
     run-is run l g =
         let e₁ : q .seconds ≡ f .of .this .recording .seconds = ap (λ (p : Places). p .seconds) (h .found .same) in
         let e₂ : at + (24 + sampleBytes (q .seconds) (take (k - 1) (f .of .this .recording .channels))) ≡ f .at + (24 + sampleBytes (f .of .this .recording .seconds) (take (k - 1) (f .of .this .recording .channels))) = rw (h .place, e₁) in
@@ -145,6 +145,7 @@ module _ {s : List ℕ} {i j : ℕ} {o : Order} {q : Places} {at : ℕ} {f : Cho
         let e : run ≡ record { at = samplesAre f k y .at; count = length (samplesAre f k y .values); format = y .format } = g ∙ (λ n. record { at = e₂ n; count = e₃ n; format = y .format }) in
         record {
           is = samples-are s (h .found .bytes) i j f (h .is) k y is;
+          order = h .found .order;
           same = e;
           inside = l;
           each = λ m v.

@@ -18,7 +18,7 @@ use Rattle.records.specs.Says.{Kept}
 use Rattle.records.proofs.Steps.{KeptOne}
 use Rattle.recordings.specs.Answers.{value, indexed}
 use Rattle.recordings.proofs.Chosen.{no-value}
-use Rattle.samples.specs.Asked.{Inside, runOf, RunAt}
+use Rattle.samples.specs.Asked.{RunInside, runOf, RunAt}
 use Rattle.samples.specs.Frames.{floatIn, numberIn}
 use Rattle.samples.specs.declared.Number.{Number}
 use Rattle.samples.specs.declared.Number.the-variants as Number
@@ -81,7 +81,7 @@ bytes-before t zero (c ∷ cs) {x} h =
     rw (d, mul-comm (width (c .format)) (samplesIn t c)) (omega arith)
 bytes-before t (suc n) (c ∷ cs) h = let r = bytes-before t n cs h in omega arith
 
-pub run-inside : (t n at L : ℕ) (cs : List R.Channel) {x : R.Channel} → indexed cs n ≡ value x → at + (24 + sampleBytes t cs) ≤ L → Inside L (runOf t (take n cs) x at)
+pub run-inside : (t n at L : ℕ) (cs : List R.Channel) {x : R.Channel} → indexed cs n ≡ value x → at + (24 + sampleBytes t cs) ≤ L → RunInside L (runOf t (take n cs) x at)
 run-inside t n at L cs h l = omega (arith, bytes-before t n cs h)
 
 -- the code sums the bytes before, and reads the channel's record
@@ -100,6 +100,6 @@ module _ (o : Order) (s : List ℕ) (subs n t at before flags format rate count 
   run-outside l g = record {
     inside = omega arith;
     same = λ cs x k i f.
-        let h : at + 24 + before + width format * count ≤ length s = subst (λ (r : Run). Inside (length s) r) (sym (run-same cs x k i)) f in
+        let h : at + 24 + before + width format * count ≤ length s = subst (λ (r : Run). RunInside (length s) r) (sym (run-same cs x k i)) f in
         absurd (omega arith);
   }

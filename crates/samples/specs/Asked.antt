@@ -32,7 +32,7 @@ refusalSamples (SamplesFound.Refused r) = r
 
 -- A frame: it stands at `at`, where the walk of a frame gives it
 
-pub record FrameIn (s : List ℕ) (i j : ℕ) (o : Order) (q : Places) (at : ℕ) (f : ChosenFrame) : Type 0 where
+pub record FrameStands (s : List ℕ) (i j : ℕ) (o : Order) (q : Places) (at : ℕ) (f : ChosenFrame) : Type 0 where
   -- the frame asked for
   pub is : frameOf s i j ≡ value f
   -- of the recording asked for
@@ -47,7 +47,7 @@ pub record FrameIn (s : List ℕ) (i j : ℕ) (o : Order) (q : Places) (at : ℕ
   pub seen : Goes (see o 0 s at (R.frame (q .frame) (q .seconds) (f .of .this .recording .channels) room j)) (λ x e. x ≡ f .frame)
 
 abbrev pub FrameFoundAs : List ℕ → ℕ → ℕ → FrameFound → Type 0
-FrameFoundAs s i j (FrameFound.At o q at) = (f : ChosenFrame) × FrameIn s i j o q at f
+FrameFoundAs s i j (FrameFound.At o q at) = (f : ChosenFrame) × FrameStands s i j o q at f
 FrameFoundAs s i j (FrameFound.Refused r) = frameOf s i j ≡ refusal (r .0) (r .1)
 
 -- the time r is the clock of the frame that a walk gives at `at`
@@ -60,8 +60,8 @@ runOf t before c at = record { at = at + (24 + R.sampleBytes t before); count = 
 
 -- Samples: they lie in a file of n bytes
 
-abbrev pub Inside : ℕ → Run → Type 0
-Inside n r = r .at + R.width (r .format) * r .count ≤ n
+abbrev pub RunInside : ℕ → Run → Type 0
+RunInside n r = r .at + R.width (r .format) * r .count ≤ n
 
 -- the code looks for those of channel c, from 0, in a file of n bytes
 pub record Reachable (n subs c t at : ℕ) : Type 0 where
@@ -77,18 +77,20 @@ pub record Reachable (n subs c t at : ℕ) : Type 0 where
 -- what it finds
 pub record RunAt (o : Order) (s : List ℕ) (subs c t at : ℕ) (r : Run) : Type 0 where
   -- samples in the file, whatever it holds
-  pub inside : Inside (length s) r
+  pub inside : RunInside (length s) r
   -- those of the channel x, where it is the one asked for of the channels cs, and its samples are in the file
-  pub same : (cs : List R.Channel) (x : R.Channel) → Kept o s subs cs → indexed cs c ≡ value x → Inside (length s) (runOf t (take c cs) x at) → r ≡ runOf t (take c cs) x at
+  pub same : (cs : List R.Channel) (x : R.Channel) → Kept o s subs cs → indexed cs c ≡ value x → RunInside (length s) (runOf t (take c cs) x at) → r ≡ runOf t (take c cs) x at
 
 -- they are those asked for, and each is what the bytes at its place mean
 pub record RunIn (s : List ℕ) (i j k : ℕ) (o : Order) (run : Run) (x : Samples) : Type 0 where
   -- the samples asked for
   pub is : samplesOf s i j k ≡ value x
+  -- the file's byte order
+  pub order : o ≡ R.orderOf s
   -- where they stand, how many, and their format
   pub same : run ≡ record { at = x .at; count = length (x .values); format = x .format }
   -- they are in the file
-  pub inside : Inside (length s) run
+  pub inside : RunInside (length s) run
   -- each is what its bytes mean
   pub each : (n : ℕ) → n < run .count →
       indexed (x .values) n ≡ value (valueOf (run .format) (R.width (run .format)) (numberAt o (R.width (run .format)) s (run .at + R.width (run .format) * n)))

@@ -22,9 +22,6 @@ use words::is_nan;
 use words::number2;
 use words::number4;
 
-// Frames are asked for from 1.
-pub const FIRST_FRAME: usize = 1;
-
 pub struct Time {
     pub hour: u32,
     pub minute: u32,
@@ -100,7 +97,7 @@ pub fn frame_asked(file: &[u8], recording: usize, frame: usize) -> FrameFound
     if !recordings::within(frame, q.total) {
         return FrameFound::Refused(Refusal(19, 0));
     }
-    let before = records::less(frame, FIRST_FRAME);
+    let before = records::less(frame, 1);
     let at = q.frames + Frames::FIRST + q.frame * before;
     FrameFound::At(order, q, at)
 }

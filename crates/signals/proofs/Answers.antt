@@ -27,10 +27,10 @@ use Rattle.records.specs.declared.Step.{Step}
 use Rattle.records.specs.declared.Step.the-variants as Step
 use Rattle.records.specs.declared.Tested.{Tested}
 use Rattle.records.specs.declared.Tested.the-variants as Tested
-use Rattle.signals.specs.Framed.{framesOf, framed, FramesAt}
+use Rattle.signals.specs.FramesJudged.{framesOf, framed, FramesAt}
 use Rattle.signals.specs.Shaped.{fieldTests, behindFields, FieldsTested, RestRead, BodyRead}
-use Rattle.signals.specs.declared.frames.Framed.{Framed}
-use Rattle.signals.specs.declared.frames.Framed.the-variants as Framed
+use Rattle.signals.specs.declared.frames.FramesJudged.{FramesJudged}
+use Rattle.signals.specs.declared.frames.FramesJudged.the-variants as FramesJudged
 use Rattle.signals.specs.declared.frames.Shape.{Shape}
 use Rattle.signals.specs.declared.frames.Shaped.{Shaped}
 use Rattle.signals.specs.declared.frames.Shaped.the-variants as Shaped
@@ -121,7 +121,7 @@ module _ (o : Order) (at : ℕ) (s : List ℕ) (total : ℕ) (f : Shape) where
   abbrev pub Taken : Step → Type 0
   Taken a = FramesOver o (at + 16) s 16 (f .filled) (λ t cs. series total 1 (f .size) (length s - 16) (frame (f .size) t cs)) (Advances 16 (f .size * total) (length s)) a
 
-  pub rest-refused : {r : Refusal} → Taken (Step.Stop r) → RestRead o at s total f (Framed.Stop r)
+  pub rest-refused : {r : Refusal} → Taken (Step.Stop r) → RestRead o at s total f (FramesJudged.Stop r)
   rest-refused k = record { seen = λ ch e. rest-stop o at s ch (f .seconds) (f .size) total (k .seen (f .seconds) ch e); fills = tt }
 
   module _ {q : ℕ} (k : Taken (Step.On q)) where
@@ -131,11 +131,11 @@ module _ (o : Order) (at : ℕ) (s : List ℕ) (total : ℕ) (f : Shape) where
 
     -- held: what is said of the padding
     module _ {held : Tested} (p : see o (at + 16) s (at + 16 + q) (padding (length s - q)) ≡ tested held (at + 16 + length s)) where
-      pub rest-unpadded : {r : Refusal} → held ≡ Tested.Stop r → RestRead o at s total f (Framed.Stop r)
+      pub rest-unpadded : {r : Refusal} → held ≡ Tested.Stop r → RestRead o at s total f (FramesJudged.Stop r)
       rest-unpadded {r} e = record { seen = padded-as (Tested.Stop r) (rw e at p); fills = tt }
 
       pub rest-holds : held ≡ Tested.Fine →
-          RestRead o at s total f (Framed.On (record { seconds = f .seconds; size = f .size; padded = total * (f .size - f .filled) + (length s - q) }) (16 + length s))
+          RestRead o at s total f (FramesJudged.On (record { seconds = f .seconds; size = f .size; padded = total * (f .size - f .filled) + (length s - q) }) (16 + length s))
       rest-holds e = record { seen = padded-as Tested.Fine (rw e at p); fills = refl }
 
 -- the rest of a 140: its head is admitted, 100's count of channels is tested, and the body follows
@@ -166,17 +166,17 @@ module _ (p q : ℕ) (s : List ℕ) (h : R.Head) (ends-at : q ≡ p + span h) (l
 
 -- what `frames_at` answers at each return, from what is said of the head h, of the count of channels and of the body
 module _ (o : Order) (file : List ℕ) (cs : Channels) (own : Bool) (b : Basic) (h : Head) (base : ℕ) (s : List ℕ) where
-  abbrev Answered : Framed → Type 0
+  abbrev Answered : FramesJudged → Type 0
   Answered a = FramesAt o file cs own b h base s a
 
-  pub at-refused : {r : Refusal} → AdmittedBy h base (length s) Kind.Frames (Step.Stop r) → Answered (Framed.Stop r)
+  pub at-refused : {r : Refusal} → AdmittedBy h base (length s) Kind.Frames (Step.Stop r) → Answered (FramesJudged.Stop r)
   at-refused a = record { seen = λ c ch is st. frames-refused o base s (base + (h .at + 16)) c own ch (h .at - 4) (length s - h .at) (headOf h) (a .seen o base s); stands = tt }
 
   module _ {q : ℕ} (a : AdmittedBy h base (length s) Kind.Frames (Step.On q)) where
     counted : {x : Bool} → own || eqb (cs .count) (b .channels) ≡ x → (c : R.Basic) (ch : List Channel) → basicOf c ≡ b → ChannelsStand o file cs ch → own || eqb (length ch) (c .channels) ≡ x
     counted e c ch is st = rw (st .count, ap (λ (y : Basic). y .channels) is) e
 
-    pub at-uncounted : own || eqb (cs .count) (b .channels) ≡ false → 128 ≤ h .at → Answered (Framed.Stop (record { 0 = 14; 1 = base + 20 }))
+    pub at-uncounted : own || eqb (cs .count) (b .channels) ≡ false → 128 ≤ h .at → Answered (FramesJudged.Stop (record { 0 = 14; 1 = base + 20 }))
     at-uncounted e l = record {
       seen = λ c ch is st.
           let z : base + (h .at + 16) - (h .at - 4) ≡ base + 20 = omega arith in
@@ -188,19 +188,19 @@ module _ (o : Order) (file : List ℕ) (cs : Channels) (own : Bool) (b : Basic) 
       abbrev within : List ℕ
       within = take (q - (h .at + 16)) (drop (h .at + 16) s)
 
-      body-as : (x : Framed) → BodyRead o file cs (base + h .at) within (b .frames) (h .multiplier) x → (c : R.Basic) (ch : List Channel) → basicOf c ≡ b → ChannelsStand o file cs ch →
+      body-as : (x : FramesJudged) → BodyRead o file cs (base + h .at) within (b .frames) (h .multiplier) x → (c : R.Basic) (ch : List Channel) → basicOf c ≡ b → ChannelsStand o file cs ch →
           over framesOf (see o base s (base + (h .at + 16)) (frames c own ch (h .at - 4) (length s - h .at) (headOf h))) ≡ framed (base + h .at) x
       body-as x k c ch is st =
           let v = a .stands in
           frames-held (h .at) q s (headOf h) (v .0) (v .2) (v .1) o base c own ch (h .at - 4) (length s - h .at) (a .seen o base s) (counted e c ch is st)
           (k .seen c ch (headOf h) (record { frames = ap (λ (y : Basic). y .frames) is; channels = st; bytes = body-fills (h .at) q s (headOf h) (v .0) (v .2) (v .1); times = refl }))
 
-      pub at-stop : {r : Refusal} → BodyRead o file cs (base + h .at) within (b .frames) (h .multiplier) (Framed.Stop r) → Answered (Framed.Stop r)
-      at-stop k = record { seen = body-as (Framed.Stop _) k; stands = tt }
+      pub at-stop : {r : Refusal} → BodyRead o file cs (base + h .at) within (b .frames) (h .multiplier) (FramesJudged.Stop r) → Answered (FramesJudged.Stop r)
+      at-stop k = record { seen = body-as (FramesJudged.Stop _) k; stands = tt }
 
-      pub at-on : {f : Frames} {z : ℕ} → BodyRead o file cs (base + h .at) within (b .frames) (h .multiplier) (Framed.On f z) → Answered (Framed.On f q)
+      pub at-on : {f : Frames} {z : ℕ} → BodyRead o file cs (base + h .at) within (b .frames) (h .multiplier) (FramesJudged.On f z) → Answered (FramesJudged.On f q)
       at-on {f} {z} k =
           let v = a .stands in
           let l = body-fills (h .at) q s (headOf h) (v .0) (v .2) (v .1) in
           let y : base + h .at + z ≡ base + q = omega (arith, k .fills, l, v .0) in
-          record { seen = λ c ch is st. body-as (Framed.On f z) k c ch is st ∙ ap (λ (x : ℕ). goes f x) y; stands = record { low = omega (arith, v .0, v .2); inside = v .1 } }
+          record { seen = λ c ch is st. body-as (FramesJudged.On f z) k c ch is st ∙ ap (λ (x : ℕ). goes f x) y; stands = record { low = omega (arith, v .0, v .2); inside = v .1 } }

@@ -20,7 +20,7 @@ use Rattle.rules.specs.declared.Refusal.{Refusal}
 use Rattle.records.specs.Says.{halts}
 use Rattle.records.proofs.Facts.{between-in}
 use Rattle.descriptions.proofs.Stands.{yields-weaken, yields-past}
-use Rattle.signals.specs.Framed.{framesOf}
+use Rattle.signals.specs.FramesJudged.{framesOf}
 use Rattle.signals.specs.Shaped.{fieldTests, behindFields, Shapes, ReadWith}
 use Rattle.signals.specs.declared.frames.Shape.{Shape}
 use Rattle.signals.specs.declared.frames.Shaped.the-variants as Shaped

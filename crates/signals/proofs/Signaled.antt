@@ -26,9 +26,9 @@ use Rattle.records.specs.declared.Tested.the-variants as Tested
 use Rattle.records.specs.Says.{halts, headOf, tested, Headroom, headroom, NextHead}
 use Rattle.rules.specs.Rules.{Descriptions, signals}
 use Rattle.descriptions.proofs.Stands.{yields-past}
-use Rattle.signals.specs.Framed.{framesOf, SignalsIn, FramesAt}
-use Rattle.signals.specs.Signaled.{Known, Whole, WholeAt, SignalsOf, closingTests}
-use Rattle.signals.specs.declared.frames.Framed.the-variants as Framed
+use Rattle.signals.specs.FramesJudged.{framesOf, SignalsIn, FramesAt}
+use Rattle.signals.specs.Signaled.{DescriptionsKnown, Whole, WholeAt, SignalsOf, closingTests}
+use Rattle.signals.specs.declared.frames.FramesJudged.the-variants as FramesJudged
 use Rattle.signals.proofs.FramesBody.{yields-frames}
 
 -- what is given at the end
@@ -106,7 +106,7 @@ module _ (o : Order) (base : ℕ) (s : List ℕ) (t : Descriptions) (r : R.Head)
     pub next : R.Next
     pub same : v ≡ onward (see o base s (base + q) (R.delimiter h)) (λ _ e. see o base s e (closing r (16 + q) (length s - q) (f .padded) (placed t r value next)))
 
-module _ {o : Order} {file : List ℕ} {cs : Channels} {own : Bool} {b : Basic} {h : Head} {s : List ℕ} {m : ℕ} {t : Descriptions} {r : R.Head} (k : Known o file cs own b h s m t r) (base : ℕ) (fit : h .at + 16 ≤ length s) where
+module _ {o : Order} {file : List ℕ} {cs : Channels} {own : Bool} {b : Basic} {h : Head} {s : List ℕ} {m : ℕ} {t : Descriptions} {r : R.Head} (k : DescriptionsKnown o file cs own b h s m t r) (base : ℕ) (fit : h .at + 16 ≤ length s) where
   abbrev halfway : Verdict R.Placed
   halfway = see o base s (base + (h .at + 16)) (signals t r)
 
@@ -122,10 +122,10 @@ module _ {o : Order} {file : List ℕ} {cs : Channels} {own : Bool} {b : Basic} 
   uncoded x = rw (opened, x, gate-false)
 
   module _ (code : eqb (h .code) 140 ≡ true) where
-    frames-stop : {x : Refusal} → FramesAt o file cs own b h base s (Framed.Stop x) → halfway ≡ halts x
+    frames-stop : {x : Refusal} → FramesAt o file cs own b h base s (FramesJudged.Stop x) → halfway ≡ halts x
     frames-stop x = rw (opened, code, gate-true, stopped framesOf _ (x .seen (t .basic) (t .channels .value) (k .basic) (k .channels)))
 
-    frames-on : {f : Frames} {q : ℕ} → FramesAt o file cs own b h base s (Framed.On f q) → AfterFrames o base s t r halfway f q
+    frames-on : {f : Frames} {q : ℕ} → FramesAt o file cs own b h base s (FramesJudged.On f q) → AfterFrames o base s t r halfway f q
     frames-on {f} {q} x =
         let v : Verdict R.Frames = see o base s (base + (h .at + 16)) (the140 t own (length s) h) in
         let g : Goes v (λ a e. (framesOf a ≡ f) × (e ≡ base + q)) = went framesOf v (x .seen (t .basic) (t .channels .value) (k .basic) (k .channels)) in
@@ -176,29 +176,29 @@ module _ {o : Order} {base : ℕ} {s : List ℕ} {t : Descriptions} {r : R.Head}
 
 -- what `signals` answers at each return, from what the functions that it calls say
 module _ (o : Order) (file : List ℕ) (cs : Channels) (own : Bool) (b : Basic) (h : Head) (base : ℕ) (s : List ℕ) (m : ℕ) (i : SignalsIn file cs b h base s) where
-  pub other-code : eqb (h .code) 140 ≡ false → (p : ℕ) → p ≡ base + (h .at + 4) → SignalsOf o file cs own b h base s m (Framed.Stop (record { 0 = 9; 1 = p }))
+  pub other-code : eqb (h .code) 140 ≡ false → (p : ℕ) → p ≡ base + (h .at + 4) → SignalsOf o file cs own b h base s m (FramesJudged.Stop (record { 0 = 9; 1 = p }))
   other-code c p e t r k = uncoded k base (i .head .inside) c ∙ ap (λ (x : ℕ). stops 9 x) (sym e)
 
   module _ (code : eqb (h .code) 140 ≡ true) where
-    pub stops-frames : {x : Refusal} → FramesAt o file cs own b h base s (Framed.Stop x) → SignalsOf o file cs own b h base s m (Framed.Stop x)
+    pub stops-frames : {x : Refusal} → FramesAt o file cs own b h base s (FramesJudged.Stop x) → SignalsOf o file cs own b h base s m (FramesJudged.Stop x)
     stops-frames a t r k = frames-stop k base (i .head .inside) code a
 
-    module _ {f : Frames} {q : ℕ} (a : FramesAt o file cs own b h base s (Framed.On f q)) where
-      pub stops-next : {x : Refusal} → NextHead o base s q (Headed.Stop x) → SignalsOf o file cs own b h base s m (Framed.Stop x)
+    module _ {f : Frames} {q : ℕ} (a : FramesAt o file cs own b h base s (FramesJudged.On f q)) where
+      pub stops-next : {x : Refusal} → NextHead o base s q (Headed.Stop x) → SignalsOf o file cs own b h base s m (FramesJudged.Stop x)
       stops-next n t r k = found-stop (frames-on k base (i .head .inside) code a) n
 
       module _ {d : Head} (n : NextHead o base s q (Headed.At d)) where
-        behind-head : {t : Descriptions} {r : R.Head} (k : Known o file cs own b h s m t r) → AfterHead o base s t r (see o base s (base + (h .at + 16)) (signals t r)) f (headOf d) (d .at + 16)
+        behind-head : {t : Descriptions} {r : R.Head} (k : DescriptionsKnown o file cs own b h s m t r) → AfterHead o base s t r (see o base s (base + (h .at + 16)) (signals t r)) f (headOf d) (d .at + 16)
         behind-head k = found-on (k .bytes) (frames-on k base (i .head .inside) code a) n
 
         -- last: what is said of the delimiter; rest: of what follows it
         module _ {last : Tested} (l : see o base s (base + (d .at + 16)) (R.delimiter (headOf d)) ≡ tested last (base + (d .at + 16))) where
-          pub stops-delimiter : {x : Refusal} → last ≡ Tested.Stop x → SignalsOf o file cs own b h base s m (Framed.Stop x)
+          pub stops-delimiter : {x : Refusal} → last ≡ Tested.Stop x → SignalsOf o file cs own b h base s m (FramesJudged.Stop x)
           stops-delimiter e t r k = delimiter-stop (behind-head k) (rw e at l)
 
           module _ (fine : last ≡ Tested.Fine) {rest : Tested} (z : closingTests o base s (d .at + 16) (f .padded) m ≡ tested rest (base + length s)) where
-            pub stops-closing : {x : Refusal} → rest ≡ Tested.Stop x → SignalsOf o file cs own b h base s m (Framed.Stop x)
+            pub stops-closing : {x : Refusal} → rest ≡ Tested.Stop x → SignalsOf o file cs own b h base s m (FramesJudged.Stop x)
             stops-closing e t r k = closed-stop (behind-head k) (k .multiplier) (rw fine at l) (i .body .headed) (rw e at z) refl
 
-            pub holds : rest ≡ Tested.Fine → SignalsOf o file cs own b h base s m (Framed.On f q)
+            pub holds : rest ≡ Tested.Fine → SignalsOf o file cs own b h base s m (FramesJudged.On f q)
             holds e t r k = closed-on (behind-head k) (k .multiplier) (rw fine at l) (i .body .headed) (rw e at z) refl

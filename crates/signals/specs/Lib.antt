@@ -1,3 +1,3 @@
-pub mod Framed
+pub mod FramesJudged
 pub mod Shaped
 pub mod Signaled

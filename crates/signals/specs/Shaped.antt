@@ -15,9 +15,9 @@ use Rattle.rules.specs.Rules as R
 use Rattle.rules.specs.declared.Channels.{Channels}
 use Rattle.rules.specs.declared.Refusal.{Refusal}
 use Rattle.records.specs.Says.{halts, ChannelsIn, ChannelsStand}
-use Rattle.signals.specs.Framed.{framesOf, framed}
-use Rattle.signals.specs.declared.frames.Framed.{Framed}
-use Rattle.signals.specs.declared.frames.Framed.the-variants as Framed
+use Rattle.signals.specs.FramesJudged.{framesOf, framed}
+use Rattle.signals.specs.declared.frames.FramesJudged.{FramesJudged}
+use Rattle.signals.specs.declared.frames.FramesJudged.the-variants as FramesJudged
 use Rattle.signals.specs.declared.frames.Shape.{Shape}
 use Rattle.signals.specs.declared.frames.Shaped.{Shaped}
 use Rattle.signals.specs.declared.frames.Shaped.the-variants as Shaped
@@ -75,9 +75,9 @@ Sizes (Shaped.On f) = Sized f
 Sizes (Shaped.Stop r) = Unit {0}
 
 -- a 140 that stops at its byte n
-abbrev pub Fills : ℕ → Framed → Type 0
-Fills n (Framed.On f q) = q ≡ n
-Fills n (Framed.Stop r) = Unit {0}
+abbrev pub Fills : ℕ → FramesJudged → Type 0
+Fills n (FramesJudged.On f q) = q ≡ n
+Fills n (FramesJudged.Stop r) = Unit {0}
 
 -- what the functions ask
 
@@ -111,7 +111,7 @@ pub record FieldsTested (o : Order) (file : List ℕ) (cs : Channels) (at : ℕ)
   pub sized : Sizes a
 
 -- the frames and the padding, for channels whose samples fill a frame as the shape says
-pub record RestRead (o : Order) (at : ℕ) (s : List ℕ) (total : ℕ) (f : Shape) (a : Framed) : Type 0 where
+pub record RestRead (o : Order) (at : ℕ) (s : List ℕ) (total : ℕ) (f : Shape) (a : FramesJudged) : Type 0 where
   pub seen : (ch : List R.Channel) → f .filled ≡ 24 + R.sampleBytes (f .seconds) ch →
       over framesOf (see o (at + 16) s (at + 32) (behindFields (f .seconds) (f .size) total (16 + length s) ch)) ≡ framed at a
   pub fills : Fills (16 + length s) a
@@ -124,7 +124,7 @@ pub record ReadWith (o : Order) (file : List ℕ) (cs : Channels) (s : List ℕ)
   pub times : h .multiplier ≡ multiplier
 
 -- the whole body
-pub record BodyRead (o : Order) (file : List ℕ) (cs : Channels) (at : ℕ) (s : List ℕ) (total multiplier : ℕ) (a : Framed) : Type 0 where
+pub record BodyRead (o : Order) (file : List ℕ) (cs : Channels) (at : ℕ) (s : List ℕ) (total multiplier : ℕ) (a : FramesJudged) : Type 0 where
   pub seen : (b : R.Basic) (ch : List R.Channel) (h : R.Head) → ReadWith o file cs s total multiplier b ch h →
       over framesOf (see o (at + 16) s (at + 16) (R.framesBody b ch h)) ≡ framed at a
   pub fills : Fills (16 + length s) a

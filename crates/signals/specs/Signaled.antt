@@ -16,16 +16,16 @@ use Rattle.rules.specs.declared.Head.{Head}
 use Rattle.rules.specs.declared.Refusal.{Refusal}
 use Rattle.records.specs.Says.{halts, headOf, basicOf, ChannelsStand}
 use Rattle.rules.specs.Rules.{Descriptions}
-use Rattle.descriptions.specs.Tabled.{BodyAt}
-use Rattle.signals.specs.declared.frames.Framed.{Framed}
-use Rattle.signals.specs.declared.frames.Framed.the-variants as Framed
+use Rattle.descriptions.specs.DescriptionsJudged.{BodyAt}
+use Rattle.signals.specs.declared.frames.FramesJudged.{FramesJudged}
+use Rattle.signals.specs.declared.frames.FramesJudged.the-variants as FramesJudged
 
-abbrev pub refusalF : Framed → Refusal
-refusalF (Framed.On f q) = record { 0 = 0; 1 = 0 }
-refusalF (Framed.Stop r) = r
+abbrev pub refusalF : FramesJudged → Refusal
+refusalF (FramesJudged.On f q) = record { 0 = 0; 1 = 0 }
+refusalF (FramesJudged.Stop r) = r
 
--- what the code has of the tables t and of the recording's head r, whose body is s: h is the head found where the 140 should stand
-pub record Known (o : Order) (file : List ℕ) (cs : Channels) (isOwn : Bool) (b : Basic) (h : Head) (s : List ℕ) (m : ℕ) (t : Descriptions) (r : R.Head) : Type 0 where
+-- what the code has of the descriptions t and of the recording's head r, whose body is s: h is the head found where the 140 should stand
+pub record DescriptionsKnown (o : Order) (file : List ℕ) (cs : Channels) (isOwn : Bool) (b : Basic) (h : Head) (s : List ℕ) (m : ℕ) (t : Descriptions) (r : R.Head) : Type 0 where
   pub basic : basicOf (t .basic) ≡ b
   pub own : t .channels .own ≡ isOwn
   pub channels : ChannelsStand o file cs (t .channels .value)
@@ -34,7 +34,7 @@ pub record Known (o : Order) (file : List ℕ) (cs : Channels) (isOwn : Bool) (b
   pub bytes : R.span r ≡ 16 + length s
   pub multiplier : r .multiplier ≡ m
 
--- a recording of these tables with a 140 of which the code keeps f
+-- a recording of these descriptions with a 140 of which the code keeps f
 pub record Whole (t : Descriptions) (r : R.Head) (f : Frames) (p : R.Placed) : Type 0 where
   pub layout : p .layout ≡ record { bytes = R.span r; at120 = R.span r - t .next .room; at130 = R.span r - t .channels .next .room; at200 = R.span r - t .patient .next .room; at140 = R.span r - t .events .next .room; frame = f .size }
   pub seconds : p .recording .seconds ≡ f .seconds
@@ -51,13 +51,13 @@ pub record WholeAt (end : ℕ) (t : Descriptions) (r : R.Head) (f : Frames) (p :
   pub whole : Whole t r f p
 
 -- v, the verdict on the walk: it goes on to `end` with such a recording, or is refused
-abbrev pub Signaled : Verdict R.Placed → ℕ → Descriptions → R.Head → Framed → Type 0
-Signaled v end t r (Framed.On f q) = Goes v (WholeAt end t r f)
-Signaled v end t r (Framed.Stop x) = v ≡ halts x
+abbrev pub Signaled : Verdict R.Placed → ℕ → Descriptions → R.Head → FramesJudged → Type 0
+Signaled v end t r (FramesJudged.On f q) = Goes v (WholeAt end t r f)
+Signaled v end t r (FramesJudged.Stop x) = v ≡ halts x
 
 -- what `signals` answers, of any descriptions and any recording's head of which the code has this
-abbrev pub SignalsOf : Order → List ℕ → Channels → Bool → Basic → Head → ℕ → List ℕ → ℕ → Framed → Type 0
-SignalsOf o file cs own b h base s multiplier a = (t : Descriptions) (r : R.Head) → Known o file cs own b h s multiplier t r →
+abbrev pub SignalsOf : Order → List ℕ → Channels → Bool → Basic → Head → ℕ → List ℕ → ℕ → FramesJudged → Type 0
+SignalsOf o file cs own b h base s multiplier a = (t : Descriptions) (r : R.Head) → DescriptionsKnown o file cs own b h s multiplier t r →
     Signaled (see o base s (base + (h .at + 16)) (R.signals t r)) (base + length s) t r a
 
 -- the delimiter of the recording whose body is s stops at byte `end`

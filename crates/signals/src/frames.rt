@@ -7,7 +7,7 @@ ghost use lib.ListN.{length};
 ghost use lib.Dec.{leb, ltb, eqb};
 ghost use Rattle.rules.specs.Rules as R;
 ghost use Rattle.records.specs.Says.{ChannelsStand};
-ghost use Rattle.signals.specs.Framed.{SignalsIn, FramesAt};
+ghost use Rattle.signals.specs.FramesJudged.{SignalsIn, FramesAt};
 ghost use Rattle.signals.specs.Shaped.{refusalS, Countable, FieldsAsked, RestAsked, FieldsTested, RestRead, BodyRead};
 use records::Step;
 use records::Tested;
@@ -24,7 +24,7 @@ use words::Order;
 use words::number4;
 
 // What a 140 says and where it stops, or the refusal.
-pub enum Framed {
+pub enum FramesJudged {
     On(Frames, usize),
     Stop(Refusal),
 }
@@ -152,7 +152,7 @@ fn read_shape(
 }
 
 // The frames of the record 140 at `at`, and the padding behind them.
-fn frames_rest(o: Order, s: &[u8], at: usize, total: u32, f: Shape) -> Framed
+fn frames_rest(o: Order, s: &[u8], at: usize, total: u32, f: Shape) -> FramesJudged
     requires { ⌜ RestAsked at (now s) total f ⌝ }
     ensures { λ a. ⌜ RestRead o at (now (s .entry)) total f a ⌝ }
 {
@@ -169,14 +169,14 @@ fn frames_rest(o: Order, s: &[u8], at: usize, total: u32, f: Shape) -> Framed
         filled,
     );
     let Step::On(q) = taken else {
-        return Framed::Stop(records::of_step(taken));
+        return FramesJudged::Stop(records::of_step(taken));
     };
     let held = records::padding(s, at + Head::LENGTH, q, n);
     let Tested::Fine = held else {
-        return Framed::Stop(records::of_test(held));
+        return FramesJudged::Stop(records::of_test(held));
     };
     let padded = total as usize * (size - filled) + (n - q);
-    Framed::On(
+    FramesJudged::On(
         Frames {
             seconds: f.seconds,
             size,
@@ -195,13 +195,13 @@ fn frames_body(
     at: usize,
     total: u32,
     multiplier: u32,
-) -> Framed
+) -> FramesJudged
     requires { ⌜ FieldsAsked (now file) cs at (now s) total ⌝ }
     ensures { λ a. ⌜ BodyRead o (now (file .entry)) cs at (now (s .entry)) total multiplier a ⌝ }
 {
     let shaped = read_shape(o, file, cs, s, at, total, multiplier);
     let Shaped::On(f) = shaped else {
-        return Framed::Stop(of_shape(shaped));
+        return FramesJudged::Stop(of_shape(shaped));
     };
     frames_rest(o, s, at, total, f)
 }
@@ -226,22 +226,22 @@ pub fn frames_at(
     s: &[u8],
     base: usize,
     h: Head,
-) -> Framed
+) -> FramesJudged
     requires { ⌜ SignalsIn (now file) cs b h base (now s) ⌝ }
     ensures { λ a. ⌜ FramesAt o (now (file .entry)) cs own b h base (now (s .entry)) a ⌝ }
 {
     let room = records::kinds::admit(h, base, s.len(), Kind::Frames);
     let Step::On(end) = room else {
-        return Framed::Stop(records::of_step(room));
+        return FramesJudged::Stop(records::of_step(room));
     };
     if !count_ok(own, cs.count, b.channels) {
-        return Framed::Stop(Refusal(14, base + Basic::CHANNELS));
+        return FramesJudged::Stop(Refusal(14, base + Basic::CHANNELS));
     }
     let p = h.at;
     let body = &s[p + Head::LENGTH..end];
     let held = frames_body(o, file, cs, body, base + p, b.frames, h.multiplier);
-    let Framed::On(f, _) = held else {
+    let FramesJudged::On(f, _) = held else {
         return held;
     };
-    Framed::On(f, end)
+    FramesJudged::On(f, end)
 }

@@ -6,9 +6,9 @@ ghost use Prim.Native.Nat.{_+_};
 ghost use lib.ListN.{length};
 ghost use Rattle.words.specs.declared.Order.{Order};
 ghost use Rattle.records.specs.Says.{tested};
-ghost use Rattle.signals.specs.Framed.{SignalsIn};
+ghost use Rattle.signals.specs.FramesJudged.{SignalsIn};
 ghost use Rattle.signals.specs.Signaled.{refusalF, SignalsOf, ClosedIn, closingTests};
-use crate::frames::Framed;
+use crate::frames::FramesJudged;
 use records::Headed;
 use records::Tested;
 use records::kinds::has_code;
@@ -20,12 +20,12 @@ use rules::Recording;
 use rules::Refusal;
 use words::Order;
 
-pub fn of_frames(a: Framed) -> Refusal
+pub fn of_frames(a: FramesJudged) -> Refusal
     ensures { λ r. ⌜ r ≡ refusalF a ⌝ }
 {
     match a {
-        Framed::On(_, _) => Refusal(0, 0),
-        Framed::Stop(r) => r,
+        FramesJudged::On(_, _) => Refusal(0, 0),
+        FramesJudged::Stop(r) => r,
     }
 }
 
@@ -54,28 +54,28 @@ pub fn signals(
     s: &[u8],
     base: usize,
     multiplier: u32,
-) -> Framed
+) -> FramesJudged
     requires { ⌜ SignalsIn (now file) cs b h base (now s) ⌝ }
     ensures { λ a. ⌜ SignalsOf o (now (file .entry)) cs own b h base (now (s .entry)) multiplier a ⌝ }
 {
     if !has_code(Kind::Frames, h.code) {
-        return Framed::Stop(Refusal(9, base + h.at + Head::CODE));
+        return FramesJudged::Stop(Refusal(9, base + h.at + Head::CODE));
     }
     let held = crate::frames::frames_at(o, file, cs, own, b, s, base, h);
-    let Framed::On(f, end) = held else {
+    let FramesJudged::On(f, end) = held else {
         return held;
     };
     let found = records::makers::next_head(o, s, base, end);
     let Headed::At(d) = found else {
-        return Framed::Stop(records::of_head(found));
+        return FramesJudged::Stop(records::of_head(found));
     };
     let last = records::delimiter::delimiter(d, base);
     let Tested::Fine = last else {
-        return Framed::Stop(records::of_test(last));
+        return FramesJudged::Stop(records::of_test(last));
     };
     let rest = closed(s, base, d.at + Head::LENGTH, f.padded, multiplier);
     let Tested::Fine = rest else {
-        return Framed::Stop(records::of_test(rest));
+        return FramesJudged::Stop(records::of_test(rest));
     };
     held
 }

@@ -37,7 +37,7 @@ use Rattle.descriptions.specs.declared.Places.{Places}
 use Rattle.children.proofs.Recordings.{Begun, begun}
 use Rattle.children.proofs.Again.{Next}
 use Rattle.rows.proofs.Body.{closed-inside}
-use Rattle.bodies.specs.Copy.{copy, Pastes, Holds}
+use Rattle.bodies.specs.Copy.{copy, Pastes, HoldsFrom}
 use Rattle.bodies.specs.declared.Way.{Way}
 use Rattle.bodies.proofs.Copying.{copy-bind, copy-admit, copy-part, length-copy, holds-join, pastes-join, pastes-nothing}
 use Rattle.transcripts.specs.Transcript.{anew, Copied, Transcribed}
@@ -68,7 +68,7 @@ module _ {w : Way} {b : ℕ} {s out : List ℕ} {k : ℕ} where
     sent-more k₂ v wrote = let d = chain-parted (w .from) b s v (g .sent .links) in record { sent = copying-more (g .sent) (anew-then w) d out₂ k₂ ((rw (v .place) at wrote) (d .own) (v .ends) (d .inner)) }
 
     -- the delimiter, and the bytes behind it
-    pub sent-last : p ≤ length s → NoRecord (w .from) b s p → LastSent w s p out₁ out₂ k₁ → Holds out out₂ k all
+    pub sent-last : p ≤ length s → NoRecord (w .from) b s p → LastSent w s p out₁ out₂ k₁ → HoldsFrom out out₂ k all
     sent-last fit ends last =
         let c = chain-closed (w .from) b s ends (g .sent .links) in
         rw (g .sent .is, closed-bytes w b s p fit c) (holds-join out out₁ out₂ k k₁ k₁ (g .sent .done) _ (g .sent .wrote) (last (closed-inside (w .from) b s p fit c) b (length s - p)))
@@ -97,7 +97,7 @@ module _ (w : Way) (s : List ℕ) (p q : ℕ) where
   -- the code wrote its head, and its body as a part of the file
   pub recording-copied : (at count : ℕ) (out out₁ out₂ : List ℕ) (k : ℕ) → length s ≤ length out →
       ((b room : ℕ) → Pastes out out₁ p k (copy w b s (b + p) (head room))) →
-      ((held : Option R.Held) (h : R.Head) (x : R.Placed) (e : ℕ) → span h ≡ 16 + length within → ChannelsStand (w .from) s (subsAt at count) (x .recording .channels) → see (w .from) (p + 16) within (p + 16) (recordingBody held h) ≡ goes x e → Holds out₁ out₂ k (copy w (p + 16) within (p + 16) (recordingBody held h))) →
+      ((held : Option R.Held) (h : R.Head) (x : R.Placed) (e : ℕ) → span h ≡ 16 + length within → ChannelsStand (w .from) s (subsAt at count) (x .recording .channels) → see (w .from) (p + 16) within (p + 16) (recordingBody held h) ≡ goes x e → HoldsFrom out₁ out₂ k (copy w (p + 16) within (p + 16) (recordingBody held h))) →
       (held : Option R.Held) (i : ℕ) (x : R.Placed) → see (w .from) 0 s p (recording held (length s - p) i) ≡ goes x q → ChannelsStand (w .from) s (subsAt at count) (x .recording .channels) → out₂ ≡ pasted out p (copy w 0 s p (recording held (length s - p) i))
   recording-copied at count out out₁ out₂ k fit first later held i x g stand =
       let v = begun (w .from) s p held i g in

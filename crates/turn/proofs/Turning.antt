@@ -192,7 +192,7 @@ stays-sized size t cs room i at h =
     λ _. (omega arith, λ _. (omega arith, λ _. (omega arith, λ _. (omega arith, λ _ _ _ _ _. stays-weaken (frameBody size t cs) _ (at + size) (at + 4 + 4 + 4 + 4) _ (λ _ _. Unit {0}) (omega arith) (λ _ _ _. tt) (stays-frameBody size t cs (at + 4 + 4 + 4 + 4) h)))))
 
 -- the body of a 140 that the walk accepted: its three numbers t, size and n, what they say, and what is written of it
-pub record Framed (w : Way) (b : ℕ) (s : List ℕ) (cs : List Channel) (t size n : ℕ) (all : List ℕ) : Type 0 where
+pub record FramesTurned (w : Way) (b : ℕ) (s : List ℕ) (cs : List Channel) (t size n : ℕ) (all : List ℕ) : Type 0 where
   pub short : t ≤ 3600
   pub long : 24 + sampleBytes t cs ≤ size
   pub fits : 16 + size * n ≤ length s
@@ -202,7 +202,7 @@ pub record Framed (w : Way) (b : ℕ) (s : List ℕ) (cs : List Channel) (t size
   pub bytes : all ≡ copy w b s b (numberList 4 3) ++ (copy w b s (b + 12) (reserve 4) ++ (copy w b s (b + 16) (series n 1 size (length s - 16) (frame size t cs)) ++ bytesAt (length s - (16 + size * n)) s (16 + size * n)))
 
 module _ (w : Way) (b : ℕ) (s : List ℕ) (c : Basic) (cs : List Channel) (h : Head) (fills : span h ≡ 16 + length s) {f : Frames} {e : ℕ} (g : see (w .from) b s b (framesBody c cs h) ≡ goes f e) where
-  framed-as-read : Framed w b s cs (numberAt (w .from) 4 s (b - b)) (numberAt (w .from) 4 s (b + 4 - b)) (numberAt (w .from) 4 s (b + 4 + 4 - b)) (copy w b s b (framesBody c cs h))
+  framed-as-read : FramesTurned w b s cs (numberAt (w .from) 4 s (b - b)) (numberAt (w .from) 4 s (b + 4 - b)) (numberAt (w .from) 4 s (b + 4 + 4 - b)) (copy w b s b (framesBody c cs h))
   unfolding framesBody numberList see trace _>>=_ _>>_
   framed-as-read =
       let o : Order = w .from in
@@ -239,7 +239,7 @@ module _ (w : Way) (b : ℕ) (s : List ℕ) (c : Basic) (cs : List Channel) (h :
             ∙ rw (copy-padding w b s (x .end) (span h - (32 + n * size)) _, i, z, y, r, u));
       }
 
-  pub framed : (t size n : ℕ) → numberAt (w .from) 4 s 0 ≡ t → numberAt (w .from) 4 s 4 ≡ size → numberAt (w .from) 4 s 8 ≡ n → Framed w b s cs t size n (copy w b s b (framesBody c cs h))
+  pub framed : (t size n : ℕ) → numberAt (w .from) 4 s 0 ≡ t → numberAt (w .from) 4 s 4 ≡ size → numberAt (w .from) 4 s 8 ≡ n → FramesTurned w b s cs t size n (copy w b s b (framesBody c cs h))
   framed t size n e₁ e₂ e₃ =
       let z₁ : b - b ≡ 0 = omega arith in
       let z₂ : b + 4 - b ≡ 4 = omega arith in
@@ -279,10 +279,10 @@ pub record Framing (w : Way) (b : ℕ) (s d : List ℕ) (cs : List Channel) (t s
 
 module _ {w : Way} {b : ℕ} {s : List ℕ} {cs : List Channel} {t size n : ℕ} {all : List ℕ} where
   -- the code's test r of the three numbers passes
-  pub framed-fits : Framed w b s cs t size n all → (bytes : ℕ) (r : Bool) → bytes ≡ sampleBytes t cs → r ≡ leb (24 + bytes) size && leb (16 + size * n) (length s) → r ≡ false → ⊥
+  pub framed-fits : FramesTurned w b s cs t size n all → (bytes : ℕ) (r : Bool) → bytes ≡ sampleBytes t cs → r ≡ leb (24 + bytes) size && leb (16 + size * n) (length s) → r ≡ false → ⊥
   framed-fits x bytes r i j u = both-false (24 + bytes) size (16 + size * n) (length s) r j u (rw i (x .long)) (x .fits)
 
-  pub framing-start : Framed w b s cs t size n all → (d₀ d₁ ys₁ ys₂ : List ℕ) → length d₀ ≡ length s → ys₁ ≡ copy w b (take 12 s) b (numberList 4 3) → d₁ ≡ ys₁ ++ drop 12 d₀ → ys₂ ≡ copy w (b + 12) (take 4 (drop 12 s)) (b + 12) (reserve (length (take 4 (drop 12 s)))) →
+  pub framing-start : FramesTurned w b s cs t size n all → (d₀ d₁ ys₁ ys₂ : List ℕ) → length d₀ ≡ length s → ys₁ ≡ copy w b (take 12 s) b (numberList 4 3) → d₁ ≡ ys₁ ++ drop 12 d₀ → ys₂ ≡ copy w (b + 12) (take 4 (drop 12 s)) (b + 12) (reserve (length (take 4 (drop 12 s)))) →
       Framing w b s (take 12 d₁ ++ (ys₂ ++ drop 4 (drop 12 d₁))) cs t size n all 16 0
   framing-start x d₀ d₁ ys₁ ys₂ l₀ f₁ p₁ f₂ =
       let m : length (take 4 (drop 12 s)) ≡ 4 = length-take-le 4 (drop 12 s) (rw length-drop (omega (arith, x .fits))) in

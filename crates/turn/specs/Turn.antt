@@ -17,7 +17,7 @@ use Rattle.rules.specs.declared.Channels.{Channels}
 use Rattle.rules.specs.declared.Head.{Head}
 use Rattle.records.specs.Says.{headOf, ChannelsIn, ChannelsStand}
 use Rattle.children.specs.Children.{Said, Known, Reads, Inner}
-use Rattle.bodies.specs.Copy.{copy, Pastes, Holds}
+use Rattle.bodies.specs.Copy.{copy, Pastes, HoldsFrom}
 use Rattle.bodies.specs.declared.Way.{Way}
 use Rattle.transcripts.specs.Transcript.{Copied}
 use Rattle.makers.specs.Makers.{firstMaker}
@@ -87,10 +87,10 @@ pub record ChildSent (w : Way) (file : List ℕ) (cs : Channels) (s : List ℕ) 
 
 -- the delimiter at byte p and the bytes behind it, as they stand
 abbrev pub LastSent : Way → List ℕ → ℕ → List ℕ → List ℕ → ℕ → Type 0
-LastSent w s p out out′ k = p + 16 ≤ length s → (b room : ℕ) → Holds out out′ k (copy w b s (b + p) (R.head room) ++ take (length s - (p + 16)) (drop (p + 16) s))
+LastSent w s p out out′ k = p + 16 ≤ length s → (b room : ℕ) → HoldsFrom out out′ k (copy w b s (b + p) (R.head room) ++ take (length s - (p + 16)) (drop (p + 16) s))
 
 -- a recording's body, where the walk accepts it
 abbrev pub BodySent : Way → List ℕ → Channels → List ℕ → ℕ → List ℕ → List ℕ → ℕ → Type 0
 BodySent w file cs s b out out′ k =
     (held : Option R.Held) (h : R.Head) (x : R.Placed) (e : ℕ) → R.span h ≡ 16 + length s → ChannelsStand (w .from) file cs (x .recording .channels) →
-    see (w .from) b s b (R.recordingBody held h) ≡ goes x e → Holds out out′ k (copy w b s b (R.recordingBody held h))
+    see (w .from) b s b (R.recordingBody held h) ≡ goes x e → HoldsFrom out out′ k (copy w b s b (R.recordingBody held h))

@@ -274,7 +274,7 @@ pub record Held (c : Bool) (P : Type 0) : Type 0 where
   pub holds : c ≡ true
   pub then : P
 
-pub record Counted (n : ℕ) (t : List Event) (P : ℕ → List Event → Type 0) : Type 0 where
+pub record CountedWalk (n : ℕ) (t : List Event) (P : ℕ → List Event → Type 0) : Type 0 where
   pub word : ℕ
   pub others : List Event
   pub split : t ≡ numeral n word ∷ others
@@ -303,7 +303,7 @@ module _ {A : Type 0} where
   Facts t (give b) a = Given t b a
   Facts t (refuse n p) a = ⊥
   Facts t (check c n p w) a = Held c (Facts t w a)
-  Facts t (number n f) a = Counted n t (λ v u. Facts u (f v) a)
+  Facts t (number n f) a = CountedWalk n t (λ v u. Facts u (f v) a)
   Facts t (read k n f) a = Took n (piece k) t (λ bs u. Facts u (f bs) a)
   Facts t (skip n w) a = Took n blank t (λ bs u. Facts u w a)
   Facts t (list p l c s w) a = Listed (row p l c s) t (λ u. Facts u w a)
@@ -435,7 +435,7 @@ module _ {A : Type 0} where
   pub checked : {n p : ℕ} {c : Bool} {t : List Event} {w : Walk A} {a : A} → Plays t (check c n p w) a → Held c (Plays t w a)
   checked (checks h p) = record { holds = h; then = p }
 
-  pub counted : {n : ℕ} {t : List Event} {f : ℕ → Walk A} {a : A} → Plays t (number n f) a → Counted n t (λ v u. Plays u (f v) a)
+  pub counted : {n : ℕ} {t : List Event} {f : ℕ → Walk A} {a : A} → Plays t (number n f) a → CountedWalk n t (λ v u. Plays u (f v) a)
   counted (numbers {v} {t} l p) = record { word = v; others = t; split = refl; small = l; then = p }
 
   pub taken : {k : Kind} {n : ℕ} {t : List Event} {f : List ℕ → Walk A} {a : A} → Plays t (read k n f) a → Took n (piece k) t (λ bs u. Plays u (f bs) a)

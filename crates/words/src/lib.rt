@@ -45,7 +45,7 @@ pub fn number2(o: Order, s: &[u8], at: usize) -> u32
 }
 
 // The number of three bytes.
-pub fn number3(o: Order, s: &[u8], at: usize) -> u32
+fn number3(o: Order, s: &[u8], at: usize) -> u32
     requires { ⌜ at + 3 ≤ length (now s) ⌝ }
     ensures { λ r. ⌜ (r ≡ numberAt o 3 (now (s .entry)) at) × (r < 16777216) ⌝ }
 {
@@ -121,7 +121,7 @@ fn signed_from(half: u32, n: u32) -> i32
 }
 
 // The signed value of a word of two bytes.
-pub fn signed2(n: u32) -> i32
+fn signed2(n: u32) -> i32
     requires { ⌜ n < 65536 ⌝ }
     ensures { λ r. ⌜ r ≡ signed 2 n ⌝ }
 {
@@ -129,7 +129,7 @@ pub fn signed2(n: u32) -> i32
 }
 
 // The signed value of a word of three bytes.
-pub fn signed3(n: u32) -> i32
+fn signed3(n: u32) -> i32
     requires { ⌜ n < 16777216 ⌝ }
     ensures { λ r. ⌜ r ≡ signed 3 n ⌝ }
 {

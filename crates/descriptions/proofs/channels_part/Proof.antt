@@ -8,7 +8,7 @@ use denote.Ref.{now}
 use lib.ListN.{length}
 use Rattle.rules.specs.Rules as R
 use Rattle.rules.proofs.Room.{stays-channelsRest}
-use Rattle.descriptions.specs.Tabled.{Owned}
+use Rattle.descriptions.specs.DescriptionsJudged.{Owned}
 use Rattle.descriptions.proofs.Parts.{judges-absent, judges-stop, judges-behind, follows-lacking, follows-stood}
 use Rattle.descriptions.proofs.Stands.{owned}
 use borrow.Author.Needs.{needs}

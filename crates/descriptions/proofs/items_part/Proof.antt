@@ -11,7 +11,7 @@ use Rattle.rules.specs.Rules as R
 use Rattle.rules.specs.declared.Kind.{Kind}
 use Rattle.rules.proofs.Room.{stays-itemsRest}
 use Rattle.records.specs.Says.{okOf, ruleOf}
-use Rattle.descriptions.specs.Tabled.{codeOf}
+use Rattle.descriptions.specs.DescriptionsJudged.{codeOf}
 use Rattle.descriptions.proofs.Parts.{judges-absent, judges-stop, judges-behind, follows-lacking, follows-stood}
 use borrow.Author.Needs.{needs}
 use Rattle.descriptions.proofs.items_part.Statement.{statement}

@@ -8,7 +8,7 @@ use borrow.Author.Needs.{needs}
 use lib.ListN.{length}
 use Rattle.words.specs.declared.Order.{Order}
 use Rattle.records.specs.Says.{From}
-use Rattle.descriptions.specs.Tabled.{Within}
+use Rattle.descriptions.specs.DescriptionsJudged.{HeldWithin}
 use Rattle.descriptions.specs.declared.Before.{Before}
 use Rattle.judge.proofs.Recordings.{Going, going-start, going-none, going-stop, going-on}
 use Rattle.judge.proofs.recordings_from.Statement.{statement}
@@ -17,7 +17,7 @@ use Rattle.judge.proofs.recordings_from.Tie as tie
 record Read (o : Order) (file : List ℕ) (count p i : ℕ) (before : Before) : Type 0 where
   few : i ≤ count
   place : From 32 (length file) p
-  held : Within (length file) before
+  held : HeldWithin (length file) before
   going : Going o file count p i before
 
 abbrev Inv-loop : tie.InvT-loop

@@ -11,8 +11,8 @@ use lib.Dec.{eqb}
 use lib.ListN.{length}
 use Rattle.records.specs.Says.{NextHead}
 use Rattle.records.specs.declared.Headed.the-variants as Headed
-use Rattle.signals.specs.Framed.{FramesAt}
-use Rattle.signals.specs.declared.frames.Framed.the-variants as Framed
+use Rattle.signals.specs.FramesJudged.{FramesAt}
+use Rattle.signals.specs.declared.frames.FramesJudged.the-variants as FramesJudged
 use Rattle.signals.proofs.Signaled.{other-code, stops-frames, stops-next, stops-delimiter, stops-closing, holds}
 use borrow.Author.Needs.{needs}
 use Rattle.signals.proofs.signals.Statement.{statement}
@@ -45,7 +45,7 @@ coded x = sym (x .before .has-code .ensures) ∙ not-false (x .before .has-code 
 
 frames : (x : tie.After-held) →
     let a = from-held x .args in
-    FramesAt (a .o) (now (a .file)) (a .cs) (a .own) (a .b) (a .h) (a .base) (now (a .s)) (Framed.On (x .held .given .0 .0) (x .held .given .0 .1 .0))
+    FramesAt (a .o) (now (a .file)) (a .cs) (a .own) (a .b) (a .h) (a .base) (now (a .s)) (FramesJudged.On (x .held .given .0 .0) (x .held .given .0 .1 .0))
 frames x = rw (x .held .given .1) at (x .before .before .frames-at .ensures)
 
 next : (x : tie.After-found) →

@@ -1,10 +1,10 @@
 -- `judge::recording::body_again` meets its contract: one law of Recorded for each return.
--- x: behind the tables; y: the 140's place in the body. Assumes nothing.
+-- x: behind the descriptions; y: the 140's place in the body. Assumes nothing.
 use native.Mathlib.Omega.{arith}
 use denote.Ref.{now}
 use Prim.Native.Nat.{_+_}
-use Rattle.descriptions.specs.Tabled.{TablesOf}
-use Rattle.descriptions.specs.declared.Tabled.the-variants as Tabled
+use Rattle.descriptions.specs.DescriptionsJudged.{DescriptionsOf}
+use Rattle.descriptions.specs.declared.DescriptionsJudged.the-variants as DescriptionsJudged
 use Rattle.judge.proofs.Recorded.{again-stops, again-short, again-holds}
 use borrow.Author.Needs.{needs}
 use Rattle.judge.proofs.recording.body_again.Statement.{statement}
@@ -19,11 +19,11 @@ from-tabled x = start (x .before .before)
 abbrev to-tabled : tie.After-next → tie.After-tabled
 to-tabled y = y .before .before
 
--- the tables that passed
+-- the descriptions that passed
 tables : (x : tie.After-tabled) →
     let a = from-tabled x .args in
-    TablesOf (a .o) (a .at + 16) (now (a .s)) (a .before) (Tabled.On (x .tabled .given .0 .0))
-tables x = rw (x .tabled .given .1) at (x .before .before .read-tables .ensures)
+    DescriptionsOf (a .o) (a .at + 16) (now (a .s)) (a .before) (DescriptionsJudged.On (x .described .given .0 .0))
+tables x = rw (x .described .given .1) at (x .before .before .read-tables .ensures)
 
 returns : tie.Need-returns
 returns c =

@@ -1,12 +1,12 @@
 -- `judge::recording::recording_body` meets its contract: one law of Recorded for each return.
--- x: behind the tables; y: behind the channels that hold; z: behind the signals. Assumes nothing.
+-- x: behind the descriptions; y: behind the channels that hold; z: behind the signals. Assumes nothing.
 use mathlib.Core.Path.{_≡_}
 use native.Mathlib.Omega.{arith}
 use denote.Ref.{now}
 use lib.ListN.{length}
 use Prim.Native.Nat.{_+_}
-use Rattle.descriptions.specs.Tabled.{TablesOf}
-use Rattle.descriptions.specs.declared.Tabled.the-variants as Tabled
+use Rattle.descriptions.specs.DescriptionsJudged.{DescriptionsOf}
+use Rattle.descriptions.specs.declared.DescriptionsJudged.the-variants as DescriptionsJudged
 use Rattle.judge.proofs.Recorded.{channels-asked, signals-asked, stops-tables, stops-signals, holds}
 use borrow.Author.Needs.{needs}
 use Rattle.judge.proofs.recording.recording_body.Statement.{statement}
@@ -24,11 +24,11 @@ to-tabled y = y .before .before
 abbrev to-channels : tie.After-signals → tie.After-channels-of
 to-channels z = z .before .before .before
 
--- the tables that passed
+-- the descriptions that passed
 tables : (x : tie.After-tabled) →
     let a = from-tabled x .args in
-    TablesOf (a .o) (a .at + 16) (now (a .s)) (a .before) (Tabled.On (x .tabled .given .0 .0))
-tables x = rw (x .tabled .given .1) at (x .before .before .read-tables .ensures)
+    DescriptionsOf (a .o) (a .at + 16) (now (a .s)) (a .before) (DescriptionsJudged.On (x .described .given .0 .0))
+tables x = rw (x .described .given .1) at (x .before .before .read-tables .ensures)
 
 returns : tie.Need-returns
 returns c =

@@ -5,13 +5,13 @@ use Prim.Native.Nat.{_-_, _≤_}
 use native.Mathlib.Omega.{arith}
 use lib.ListN.{length}
 use borrow.Author.Needs.{needs}
-use Rattle.questions.specs.Holding.{Reaches}
+use Rattle.questions.specs.Holding.{ReachesTo}
 use Rattle.questions.proofs.Entries.{reaches-none, reaches-item, reaches-more}
 use Rattle.questions.proofs.items.item_place.Statement.{statement}
 use Rattle.questions.proofs.items.item_place.Tie as tie
 
 abbrev Inv-loop : tie.InvT-loop
-Inv-loop o s first n p₀ i₀ p i = (p ≤ length s) × (i ≤ n) × Reaches o s first n i p
+Inv-loop o s first n p₀ i₀ p i = (p ≤ length s) × (i ≤ n) × ReachesTo o s first n i p
 
 abbrev μ-loop : tie.MeasureT-loop
 μ-loop o s first n p₀ i₀ p i = n - i

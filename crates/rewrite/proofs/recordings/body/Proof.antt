@@ -8,14 +8,14 @@ use borrow.Author.Needs.{needs}
 use Rattle.words.proofs.Words.{bytes}
 use Rattle.rules.specs.Rules.{Placed}
 use Rattle.children.proofs.Visiting.{recorded}
-use Rattle.rewrite.specs.FramesAnew.{BodyRead}
+use Rattle.rewrite.specs.FramesAnew.{BodyMeasured}
 use Rattle.rewrite.proofs.Bodied.{RenewedUpTo, renewed-none, renewed-more, renewed-last}
 use Rattle.rewrite.proofs.recordings.body.Statement.{statement}
 use Rattle.rewrite.proofs.recordings.body.Tie as tie
 
 abbrev Inv-loop : tie.InvT-loop
 Inv-loop w file cs f s base d₀ o p₀ k₀ d p k =
-    (p ≤ length s) × (k ≤ length d) × (length d ≡ length d₀) × ((x : Placed) → BodyRead w file s cs f base x → RenewedUpTo w base s x d₀ d k p)
+    (p ≤ length s) × (k ≤ length d) × (length d ≡ length d₀) × ((x : Placed) → BodyMeasured w file s cs f base x → RenewedUpTo w base s x d₀ d k p)
 
 abbrev μ-loop : tie.MeasureT-loop
 μ-loop w file cs f s base d₀ o p₀ k₀ d p k = length s - p

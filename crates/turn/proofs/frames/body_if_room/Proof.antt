@@ -13,7 +13,7 @@ use Rattle.rules.specs.Rules as R
 use Rattle.records.proofs.Facts.{both-true}
 use Rattle.bodies.specs.Copy.{copy}
 use Rattle.bodies.proofs.Copying.{pastes-whole, pastes-full}
-use Rattle.turn.proofs.Turning.{Framed, framed, framed-length, framed-fits}
+use Rattle.turn.proofs.Turning.{FramesTurned, framed, framed-length, framed-fits}
 use borrow.Author.Needs.{needs}
 use Rattle.turn.proofs.frames.body_if_room.Statement.{statement}
 use Rattle.turn.proofs.frames.body_if_room.Tie as tie
@@ -23,7 +23,7 @@ told : (x : tie.After-field3) →
     let a = x .before .before .before .before .before .before .args in
     let s = now (a .s) in
     (b : ℕ) (c : R.Basic) (ch : List R.Channel) (hd : R.Head) (f : R.Frames) (e : ℕ) → R.span hd ≡ 16 + length s → see (a .w .from) b s b (R.framesBody c ch hd) ≡ goes f e →
-    Framed (a .w) b s ch (x .before .before .field .result) (x .before .field2 .result) (x .field3 .result) (copy (a .w) b s b (R.framesBody c ch hd))
+    FramesTurned (a .w) b s ch (x .before .before .field .result) (x .before .field2 .result) (x .field3 .result) (copy (a .w) b s b (R.framesBody c ch hd))
 told x b c ch hd f e fills g =
     let a = x .before .before .before .before .before .before .args in
     framed (a .w) b (now (a .s)) c ch hd fills g _ _ _ (sym (x .before .before .field .ensures .0)) (sym (x .before .field2 .ensures .0)) (sym (x .field3 .ensures .0))

@@ -1,7 +1,7 @@
--- `descriptions::of_tables` meets its contract.
+-- `descriptions::of_descriptions` meets its contract.
 use borrow.Author.Needs.{needs}
-use Rattle.descriptions.proofs.of_tables.Statement.{statement}
-use Rattle.descriptions.proofs.of_tables.Tie as tie
+use Rattle.descriptions.proofs.of_descriptions.Statement.{statement}
+use Rattle.descriptions.proofs.of_descriptions.Tie as tie
 
 enum-told : tie.Need-enum-told
 enum-told c = search needs

@@ -1,4 +1,4 @@
--- The tables of a recording, one step after the other: what the walk comes to, from what the code finds.
+-- The descriptions of a recording, one step after the other: what the walk comes to, from what the code finds.
 -- Assumes nothing.
 use mathlib.Core.Path.{_≡_, ap, subst, _∙_}
 use mathlib.Core.Bool.{Bool}
@@ -23,7 +23,7 @@ use Rattle.records.specs.declared.basic.Basiced.the-variants as Basiced
 use Rattle.records.specs.declared.items.Holder.the-variants as Holder
 use Rattle.records.specs.Says.{halts, headOf, headroom, Headroom, basicOf, basiced, okOf, HeadFrom, NextHead}
 use Rattle.rules.specs.Rules.{descriptions}
-use Rattle.descriptions.specs.Tabled.{HeldIs, HeldAs, Owned, Parts, parted, Keeps, Bounds, heldAt, channelsIn, patientIn, countIn, placeOf, ChannelsPart, ItemsPart, TablesOf}
+use Rattle.descriptions.specs.DescriptionsJudged.{HeldIs, HeldAs, Owned, Parts, parted, Keeps, DescribedBounds, heldAt, channelsIn, patientIn, countIn, placeOf, ChannelsPart, ItemsPart, DescriptionsOf}
 use Rattle.descriptions.specs.declared.Before.{Before}
 use Rattle.descriptions.specs.declared.Before.the-variants as Before
 use Rattle.descriptions.specs.declared.Held.{Held}
@@ -31,10 +31,10 @@ use Rattle.descriptions.specs.declared.Held.the-variants as Held
 use Rattle.descriptions.specs.declared.Part.{Part}
 use Rattle.descriptions.specs.declared.Parted.{Parted}
 use Rattle.descriptions.specs.declared.Parted.the-variants as Parted
-use Rattle.descriptions.specs.declared.Tabled.the-variants as Tabled
-use Rattle.descriptions.specs.declared.Tables.{Tables}
+use Rattle.descriptions.specs.declared.DescriptionsJudged.the-variants as DescriptionsJudged
+use Rattle.descriptions.specs.declared.Described.{Described}
 use Rattle.descriptions.proofs.Parts.{bind-stops, bind-goes}
-use Rattle.descriptions.proofs.Stands.{Counted, yields-basic, stand, room}
+use Rattle.descriptions.proofs.Stands.{CountsBounded, yields-basic, stand, room}
 
 -- the walk holds values where the code holds places
 held-is : (o : Order) (file : List ℕ) (before : Before) (held : Option R.Held) → HeldAs o file before held → HeldIs (channelsIn before) (R.heldChannels held) × HeldIs (patientIn before) (R.heldPatient held)
@@ -57,8 +57,8 @@ placed : (own : Bool) (base n p room other : ℕ) → 16 ≤ base → p ≤ n �
 placed own base n p room other u l e = ap (λ (z : ℕ). pick own z other) (omega arith)
 
 -- what the code makes of its parts
-abbrev pub tablesOf : Basic → Before → Part → Part → Part → Tables
-tablesOf b before c p e = record { basic = b; own = c .own; channels = c .at; count = pick (c .own) (b .channels) (countIn before); patient = p .at; «has_events» = e .own; events = e .at; next = e .next }
+abbrev pub describedOf : Basic → Before → Part → Part → Part → Described
+describedOf b before c p e = record { basic = b; own = c .own; channels = c .at; count = pick (c .own) (b .channels) (countIn before); patient = p .at; «has_events» = e .own; events = e .at; next = e .next }
 
 -- what `basic_at` says of the body's first byte
 abbrev pub Hundred : Order → ℕ → List ℕ → Basiced → Type 0
@@ -73,7 +73,7 @@ pub record Begun (o : Order) (base : ℕ) (s : List ℕ) (b : Basic) (h : Head) 
   pub same : basicOf basic ≡ b
   pub head : next .head ≡ headOf h
   pub room : next .room ≡ length s - h .at
-  pub counts : Counted (b .channels) (b .frames)
+  pub counts : CountsBounded (b .channels) (b .frames)
   pub stands : HeadFrom 128 (length s) h
 
 module _ (o : Order) (base : ℕ) (s : List ℕ) where
@@ -98,7 +98,7 @@ module _ (o : Order) (base : ℕ) (s : List ℕ) where
       let g : Goes hundred (λ x e. (basicOf x ≡ b) × (e ≡ base + 128)) = hundred-goes k in
       let v : Verdict R.Next = see o base s (base + 128) (R.next (16 + length s) (length s - 128)) in
       let n : Goes v (λ x e. (headroom x ≡ record { head = headOf h; room = length s - h .at }) × (e ≡ base + (h .at + 16))) = went headroom v (l .seen (16 + length s) (omega arith)) in
-      let y : Counted (g .value .channels) (g .value .frames) = yields o base s (R.basic (length s)) base _ (yields-basic o base s (length s) base) (g .is) in
+      let y : CountsBounded (g .value .channels) (g .value .frames) = yields o base s (R.basic (length s)) base _ (yields-basic o base s (length s) base) (g .is) in
       record {
         basic = g .value;
         next = n .value;
@@ -107,7 +107,7 @@ module _ (o : Order) (base : ℕ) (s : List ℕ) where
         same = g .kept .0;
         head = ap (λ (x : Headroom). x .head) (n .kept .0);
         room = ap (λ (x : Headroom). x .room) (n .kept .0);
-        counts = subst (λ (x : Basic). Counted (x .channels) (x .frames)) (g .kept .0) y;
+        counts = subst (λ (x : Basic). CountsBounded (x .channels) (x .frames)) (g .kept .0) y;
         stands = l .stands;
       }
 
@@ -141,13 +141,13 @@ module _ (o : Order) (base : ℕ) (s : List ℕ) where
         opened ∙ bind-goes o base s _ _ _ (rw (g .kept .1) at (g .is)) ∙ bind-stops o base s _ _ _ (stopped headroom _ (l .seen (16 + length s) (omega arith)))
 
   -- a refusal says nothing of places
-  refused : {before : Before} {r : Refusal} → ((file : List ℕ) (held : Option R.Held) → HeldAs o file before held → whole held ≡ halts r) → TablesOf o base s before (Tabled.Stop r)
+  refused : {before : Before} {r : Refusal} → ((file : List ℕ) (held : Option R.Held) → HeldAs o file before held → whole held ≡ halts r) → DescriptionsOf o base s before (DescriptionsJudged.Stop r)
   refused k = record { told = λ file held is has. k file held has; bounds = tt }
 
-  pub stops-basic : {before : Before} {r : Refusal} → Hundred o base s (Basiced.Stop r) → TablesOf o base s before (Tabled.Stop r)
+  pub stops-basic : {before : Before} {r : Refusal} → Hundred o base s (Basiced.Stop r) → DescriptionsOf o base s before (DescriptionsJudged.Stop r)
   stops-basic k = refused (λ file held has. basic-stop held k)
 
-  pub stops-next : {before : Before} {b : Basic} {r : Refusal} → Hundred o base s (Basiced.Holds b) → NextHead o base s 128 (Headed.Stop r) → TablesOf o base s before (Tabled.Stop r)
+  pub stops-next : {before : Before} {b : Basic} {r : Refusal} → Hundred o base s (Basiced.Holds b) → NextHead o base s 128 (Headed.Stop r) → DescriptionsOf o base s before (DescriptionsJudged.Stop r)
   stops-next k l = refused (λ file held has. next-stop held k l)
 
   module _ {b : Basic} {h : Head} (g : Begun o base s b h) (before : Before) {x y : Held} (xs : x ≡ channelsIn before) (ys : y ≡ patientIn before) where
@@ -165,7 +165,7 @@ module _ (o : Order) (base : ℕ) (s : List ℕ) where
     counted = ap (λ (x : Basic). x .channels) (g .same)
 
     -- the bounds, whatever the walk holds
-    ready : {c p e : Part} → First (Parted.On c) → Second c (Parted.On p) → Third p (Parted.On e) → Bounds base (length s) before (tablesOf b before c p e)
+    ready : {c p e : Part} → First (Parted.On c) → Second c (Parted.On p) → Third p (Parted.On e) → DescribedBounds base (length s) before (describedOf b before c p e)
     ready {c} {p} {e} k₁ k₂ k₃ =
         let hv : Option (List R.Channel) = spare (channelsIn before) in
         let is : HeldIs (channelsIn before) hv = spare-is (channelsIn before) in
@@ -227,7 +227,7 @@ module _ (o : Order) (base : ℕ) (s : List ℕ) where
           events-stop : {r : Refusal} → Third p (Parted.Stop r) → whole held ≡ halts r
           events-stop k = reached₃ ∙ bind-stops o base s _ _ _ (judged₃ (Parted.Stop _) k)
 
-          tables-hold : {e : Part} → Third p (Parted.On e) → 16 ≤ base → s ≡ take (length s) (drop base file) → Goes (whole held) (Keeps o file base (length s) before (tablesOf b before c p e))
+          tables-hold : {e : Part} → Third p (Parted.On e) → 16 ≤ base → s ≡ take (length s) (drop base file) → Goes (whole held) (Keeps o file base (length s) before (describedOf b before c p e))
           tables-hold {e} k u is =
               let third : Goes seen₃ (Parts (λ _. Unit {0}) (some []) base (length s) (p .next) (Held.At 0) e) = judged₃ (Parted.On e) k in
               let place = rw xs at (first .kept .place) in
@@ -250,14 +250,14 @@ module _ (o : Order) (base : ℕ) (s : List ℕ) where
               }
 
     -- so of the answer
-    pub stops-channels : {r : Refusal} → First (Parted.Stop r) → TablesOf o base s before (Tabled.Stop r)
+    pub stops-channels : {r : Refusal} → First (Parted.Stop r) → DescriptionsOf o base s before (DescriptionsJudged.Stop r)
     stops-channels k = refused (λ file held has. channels-stop file held has k)
 
-    pub stops-patient : {c : Part} {r : Refusal} → First (Parted.On c) → Second c (Parted.Stop r) → TablesOf o base s before (Tabled.Stop r)
+    pub stops-patient : {c : Part} {r : Refusal} → First (Parted.On c) → Second c (Parted.Stop r) → DescriptionsOf o base s before (DescriptionsJudged.Stop r)
     stops-patient k₁ k = refused (λ file held has. patient-stop file held has k₁ k)
 
-    pub stops-events : {c p : Part} {r : Refusal} → First (Parted.On c) → Second c (Parted.On p) → Third p (Parted.Stop r) → TablesOf o base s before (Tabled.Stop r)
+    pub stops-events : {c p : Part} {r : Refusal} → First (Parted.On c) → Second c (Parted.On p) → Third p (Parted.Stop r) → DescriptionsOf o base s before (DescriptionsJudged.Stop r)
     stops-events k₁ k₂ k = refused (λ file held has. events-stop file held has k₁ k₂ k)
 
-    pub holds : {c p e : Part} → First (Parted.On c) → Second c (Parted.On p) → Third p (Parted.On e) → 16 ≤ base → TablesOf o base s before (Tabled.On (tablesOf b before c p e))
+    pub holds : {c p e : Part} → First (Parted.On c) → Second c (Parted.On p) → Third p (Parted.On e) → 16 ≤ base → DescriptionsOf o base s before (DescriptionsJudged.On (describedOf b before c p e))
     holds k₁ k₂ k₃ u = record { told = λ file held is has. tables-hold file held has k₁ k₂ k₃ u is; bounds = ready k₁ k₂ k₃ }

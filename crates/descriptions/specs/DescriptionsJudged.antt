@@ -1,4 +1,4 @@
--- What the answer of `read_tables` says, as a verdict on the walk of a recording's tables.
+-- What the answer of `judge_descriptions` says, as a verdict on the walk of a recording's descriptions.
 -- Assumes nothing.
 use mathlib.Core.Path.{_≡_}
 use mathlib.Core.Bool.{Bool, true, false}
@@ -27,9 +27,9 @@ use Rattle.descriptions.specs.declared.Held.the-variants as Held
 use Rattle.descriptions.specs.declared.Part.{Part}
 use Rattle.descriptions.specs.declared.Parted.{Parted}
 use Rattle.descriptions.specs.declared.Parted.the-variants as Parted
-use Rattle.descriptions.specs.declared.Tables.{Tables}
-use Rattle.descriptions.specs.declared.Tabled.{Tabled}
-use Rattle.descriptions.specs.declared.Tabled.the-variants as Tabled
+use Rattle.descriptions.specs.declared.Described.{Described}
+use Rattle.descriptions.specs.declared.DescriptionsJudged.{DescriptionsJudged}
+use Rattle.descriptions.specs.declared.DescriptionsJudged.the-variants as DescriptionsJudged
 
 abbrev pub refusalBasic : Basiced → Refusal
 refusalBasic (Basiced.Holds b) = record { 0 = 0; 1 = 0 }
@@ -39,9 +39,9 @@ abbrev pub refusalPart : Parted → Refusal
 refusalPart (Parted.On t) = record { 0 = 0; 1 = 0 }
 refusalPart (Parted.Stop r) = r
 
-abbrev pub refusalTables : Tabled → Refusal
-refusalTables (Tabled.On t) = record { 0 = 0; 1 = 0 }
-refusalTables (Tabled.Stop r) = r
+abbrev pub refusalDescriptions : DescriptionsJudged → Refusal
+refusalDescriptions (DescriptionsJudged.On t) = record { 0 = 0; 1 = 0 }
+refusalDescriptions (DescriptionsJudged.Stop r) = r
 
 -- what the recording before leaves to hold: its 120, its 130, and how many channels
 abbrev pub channelsIn : Before → Held
@@ -83,9 +83,9 @@ pub record Owned (o : Order) (s : List ℕ) (at count : ℕ) (ch : List R.Channe
   pub room : ChannelsIn (length s) (subsAt at count)
 
 -- the records 125 that hold behind the recording before, in a file of n bytes; and what the walk holds of it
-abbrev pub Within : ℕ → Before → Type 0
-Within n Before.Nothing = Unit {0}
-Within n (Before.These p) = ChannelsIn n (subsAt (p .channels) (p .count))
+abbrev pub HeldWithin : ℕ → Before → Type 0
+HeldWithin n Before.Nothing = Unit {0}
+HeldWithin n (Before.These p) = ChannelsIn n (subsAt (p .channels) (p .count))
 
 abbrev pub HeldAs : Order → List ℕ → Before → Option R.Held → Type 0
 HeldAs o file Before.Nothing none = Unit {0}
@@ -120,15 +120,15 @@ Stood at p n (Parted.On t) = There at p n t
 Stood at p n (Parted.Stop r) = Unit {0}
 
 -- the value of a part: K holds of its own, and another is what is held
-abbrev pub Value : {A : Type 0} → (A → Type 0) → Option A → Bool → A → Type 0
-Value K hv true a = K a
-Value K hv false a = hv ≡ some a
+abbrev pub PartValue : {A : Type 0} → (A → Type 0) → Option A → Bool → A → Type 0
+PartValue K hv true a = K a
+PartValue K hv false a = hv ≡ some a
 
 -- what the code keeps of a part with the head h, in a part of n bytes that stands at `base`
 pub record Parts {A : Type 0} (K : A → Type 0) (hv : Option A) (base n : ℕ) (h : Head) (held : Held) (t : Part) (x : R.Part A) (e : ℕ) : Type 0 where
   pub own : x .own ≡ t .own
   pub place : t .at ≡ pick (t .own) (base + h .at) (heldAt held)
-  pub value : Value K hv (t .own) (x .value)
+  pub value : PartValue K hv (t .own) (x .value)
   pub head : x .next .head ≡ headOf (t .next)
   pub room : x .next .room ≡ n - t .next .at
   pub end : e ≡ base + (t .next .at + 16)
@@ -154,8 +154,8 @@ Judges o base s code body K h held a = (hv : Option _) (n : R.Next) (fuel : ℕ)
 abbrev pub placeOf : ℕ → ℕ → ℕ → ℕ
 placeOf base n room = base - 16 + (16 + n - room)
 
--- what the code keeps of the tables
-pub record Keeps (o : Order) (file : List ℕ) (base n : ℕ) (before : Before) (t : Tables) (x : R.Descriptions) (e : ℕ) : Type 0 where
+-- what the code keeps of the descriptions
+pub record Keeps (o : Order) (file : List ℕ) (base n : ℕ) (before : Before) (t : Described) (x : R.Descriptions) (e : ℕ) : Type 0 where
   pub basic : basicOf (x .basic) ≡ t .basic
   pub own : x .channels .own ≡ t .own
   pub has-events : x .events .own ≡ t .«has_events»
@@ -167,22 +167,22 @@ pub record Keeps (o : Order) (file : List ℕ) (base n : ℕ) (before : Before) 
   pub events-at : t .events ≡ pick (t .«has_events») (placeOf base n (x .patient .next .room)) 0
   pub stand : ChannelsStand o file (subsAt (t .channels) (t .count)) (x .channels .value)
 
-abbrev pub tabled : Order → List ℕ → ℕ → Option R.Held → List ℕ → Before → Tabled → Type 0
-tabled o file base held s before (Tabled.On t) = Goes (see o base s base (R.descriptions held (16 + length s))) (Keeps o file base (length s) before t)
-tabled o file base held s before (Tabled.Stop r) = see o base s base (R.descriptions held (16 + length s)) ≡ halts r
+abbrev pub described : Order → List ℕ → ℕ → Option R.Held → List ℕ → Before → DescriptionsJudged → Type 0
+described o file base held s before (DescriptionsJudged.On t) = Goes (see o base s base (R.descriptions held (16 + length s))) (Keeps o file base (length s) before t)
+described o file base held s before (DescriptionsJudged.Stop r) = see o base s base (R.descriptions held (16 + length s)) ≡ halts r
 
 -- the bounds that hold whatever the walk holds, in a body of n bytes that stands at `base`
-pub record Bounds (base n : ℕ) (before : Before) (t : Tables) : Type 0 where
+pub record DescribedBounds (base n : ℕ) (before : Before) (t : Described) : Type 0 where
   pub low : 128 ≤ t .next .at
   pub fits : t .next .at + 16 ≤ n
   pub one : 1 ≤ t .basic .channels
   pub few : t .basic .channels ≤ 128
   pub short : t .basic .frames ≤ 1000000
-  pub room : (L : ℕ) → base + n ≤ L → Within L before → ChannelsIn L (subsAt (t .channels) (t .count))
+  pub room : (L : ℕ) → base + n ≤ L → HeldWithin L before → ChannelsIn L (subsAt (t .channels) (t .count))
 
-abbrev pub Ready : ℕ → ℕ → Before → Tabled → Type 0
-Ready base n before (Tabled.On t) = Bounds base n before t
-Ready base n before (Tabled.Stop r) = Unit {0}
+abbrev pub Ready : ℕ → ℕ → Before → DescriptionsJudged → Type 0
+Ready base n before (DescriptionsJudged.On t) = DescribedBounds base n before t
+Ready base n before (DescriptionsJudged.Stop r) = Unit {0}
 
 -- what the functions ask
 
@@ -220,7 +220,7 @@ pub record ItemsPart (o : Order) (k : Holder) (base : ℕ) (s : List ℕ) (h : H
   pub told : Judges o base s (codeOf k) (R.items (okOf k)) (λ _. Unit {0}) h held a
   pub follows : Follows (h .at) (length s) a
 
--- the tables of the recording whose body is s, for any file that it stands in, where the code and the walk hold the same of the recording before
-pub record TablesOf (o : Order) (base : ℕ) (s : List ℕ) (before : Before) (a : Tabled) : Type 0 where
-  pub told : (file : List ℕ) (held : Option R.Held) → s ≡ take (length s) (drop base file) → HeldAs o file before held → tabled o file base held s before a
+-- the descriptions of the recording whose body is s, for any file that it stands in, where the code and the walk hold the same of the recording before
+pub record DescriptionsOf (o : Order) (base : ℕ) (s : List ℕ) (before : Before) (a : DescriptionsJudged) : Type 0 where
+  pub told : (file : List ℕ) (held : Option R.Held) → s ≡ take (length s) (drop base file) → HeldAs o file before held → described o file base held s before a
   pub bounds : Ready base (length s) before a

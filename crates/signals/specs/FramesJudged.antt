@@ -13,23 +13,23 @@ use Rattle.rules.specs.declared.Channels.{Channels}
 use Rattle.rules.specs.declared.Frames.{Frames}
 use Rattle.rules.specs.declared.Head.{Head}
 use Rattle.records.specs.Says.{halts, headOf, basicOf, HeadFrom, From, ChannelsIn, ChannelsStand}
-use Rattle.descriptions.specs.Tabled.{BodyAt}
-use Rattle.signals.specs.declared.frames.Framed.{Framed}
-use Rattle.signals.specs.declared.frames.Framed.the-variants as Framed
+use Rattle.descriptions.specs.DescriptionsJudged.{BodyAt}
+use Rattle.signals.specs.declared.frames.FramesJudged.{FramesJudged}
+use Rattle.signals.specs.declared.frames.FramesJudged.the-variants as FramesJudged
 
 -- what the code keeps of a 140
 abbrev pub framesOf : R.Frames → Frames
 framesOf f = record { seconds = f .seconds; size = f .size; padded = f .padded }
 
 -- it stops at byte q of the part that stands at `base`, or is refused
-abbrev pub framed : ℕ → Framed → Verdict Frames
-framed base (Framed.On f q) = goes f (base + q)
-framed base (Framed.Stop r) = halts r
+abbrev pub framed : ℕ → FramesJudged → Verdict Frames
+framed base (FramesJudged.On f q) = goes f (base + q)
+framed base (FramesJudged.Stop r) = halts r
 
 -- where it stops is at or behind byte p, in a part of n bytes
-abbrev pub StopsFrom : ℕ → ℕ → Framed → Type 0
-StopsFrom p n (Framed.On f q) = From p n q
-StopsFrom p n (Framed.Stop r) = Unit {0}
+abbrev pub StopsFrom : ℕ → ℕ → FramesJudged → Type 0
+StopsFrom p n (FramesJudged.On f q) = From p n q
+StopsFrom p n (FramesJudged.Stop r) = Unit {0}
 
 -- a recording's body s, which stands at `base`, up to the head h where its 140 should stand; b is its 100, and cs are the channels that hold
 pub record SignalsIn (file : List ℕ) (cs : Channels) (b : Basic) (h : Head) (base : ℕ) (s : List ℕ) : Type 0 where
@@ -40,7 +40,7 @@ pub record SignalsIn (file : List ℕ) (cs : Channels) (b : Basic) (h : Head) (b
   pub channels : ChannelsIn (length file) cs
 
 -- the rest of the 140 whose head is h, for the 100 and the channels of which the code keeps b and cs
-pub record FramesAt (o : Order) (file : List ℕ) (cs : Channels) (own : Bool) (b : Basic) (h : Head) (base : ℕ) (s : List ℕ) (a : Framed) : Type 0 where
+pub record FramesAt (o : Order) (file : List ℕ) (cs : Channels) (own : Bool) (b : Basic) (h : Head) (base : ℕ) (s : List ℕ) (a : FramesJudged) : Type 0 where
   pub seen : (c : R.Basic) (ch : List R.Channel) → basicOf c ≡ b → ChannelsStand o file cs ch →
       over framesOf (see o base s (base + (h .at + 16)) (R.frames c own ch (h .at - 4) (length s - h .at) (headOf h))) ≡ framed base a
   pub stands : StopsFrom (h .at + 32) (length s) a

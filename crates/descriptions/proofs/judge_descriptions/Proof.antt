@@ -1,4 +1,4 @@
--- `descriptions::read_tables` meets its contract: one law of Tabling for each return.
+-- `descriptions::judge_descriptions` meets its contract: one law of Describing for each return.
 -- The places: behind the 100 (first), the head that follows it (found), the 120 (cs), the 130 (ps) and the 200 (es). Assumes nothing.
 use mathlib.Core.Path.{refl}
 use denote.Ref.{now}
@@ -6,12 +6,12 @@ use Rattle.records.specs.Says.{NextHead}
 use Rattle.records.specs.declared.Headed.the-variants as Headed
 use Rattle.records.specs.declared.basic.Basiced.the-variants as Basiced
 use Rattle.records.specs.declared.items.Holder.the-variants as Holder
-use Rattle.descriptions.specs.Tabled.{ChannelsPart, ItemsPart}
+use Rattle.descriptions.specs.DescriptionsJudged.{ChannelsPart, ItemsPart}
 use Rattle.descriptions.specs.declared.Parted.the-variants as Parted
-use Rattle.descriptions.proofs.Tabling.{Hundred, hundred-fits, Begun, begun, stops-basic, stops-next, stops-channels, stops-patient, stops-events, holds}
+use Rattle.descriptions.proofs.Describing.{Hundred, hundred-fits, Begun, begun, stops-basic, stops-next, stops-channels, stops-patient, stops-events, holds}
 use borrow.Author.Needs.{needs}
-use Rattle.descriptions.proofs.read_tables.Statement.{statement}
-use Rattle.descriptions.proofs.read_tables.Tie as tie
+use Rattle.descriptions.proofs.judge_descriptions.Statement.{statement}
+use Rattle.descriptions.proofs.judge_descriptions.Tie as tie
 
 abbrev start : tie.After-basic-at → tie.Start
 start x = x .before .before
