@@ -132,8 +132,8 @@ returns-6 c =
     rw (c .count-of .ensures)
     (holds (a .o) (a .base) (now (a .s)) (begins (to-found y)) (a .before) (y .before .held-channels .ensures) (x .before .held-patient .ensures) (channels (to-cs x)) (patient (to-ps w)) (rw (v .es .given .1) at (w .items-part2 .ensures)) (z .pre .headed))
 
-pub read-tables-spec : {M : Type 1} → statement M
-read-tables-spec =
+pub judge-descriptions-spec : {M : Type 1} → statement M
+judge-descriptions-spec =
     tie.close
     (tie.spec
     (λ c κs. search needs)

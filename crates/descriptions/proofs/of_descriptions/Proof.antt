@@ -15,5 +15,5 @@ returns c = simp (c .enum-told .given .1)
 returns-2 : tie.Need-returns-2
 returns-2 c = search needs
 
-pub of-tables-spec : {M : Type 1} → statement M
-of-tables-spec = tie.close (tie.spec enum-told enum-known-a returns returns-2)
+pub of-descriptions-spec : {M : Type 1} → statement M
+of-descriptions-spec = tie.close (tie.spec enum-told enum-known-a returns returns-2)

@@ -10,7 +10,7 @@ use borrow.Author.Needs.{needs}
 use Rattle.judge.proofs.recording.body_again.Statement.{statement}
 use Rattle.judge.proofs.recording.body_again.Tie as tie
 
-abbrev start : tie.After-read-tables → tie.Start
+abbrev start : tie.After-judge-descriptions → tie.Start
 start x = x .before .before
 
 abbrev from-tabled : tie.After-tabled → tie.Start
@@ -23,13 +23,13 @@ to-tabled y = y .before .before
 tables : (x : tie.After-tabled) →
     let a = from-tabled x .args in
     DescriptionsOf (a .o) (a .at + 16) (now (a .s)) (a .before) (DescriptionsJudged.On (x .described .given .0 .0))
-tables x = rw (x .described .given .1) at (x .before .before .read-tables .ensures)
+tables x = rw (x .described .given .1) at (x .before .before .judge-descriptions .ensures)
 
 returns : tie.Need-returns
 returns c =
-    let x : tie.After-read-tables = c .before .before .before in
+    let x : tie.After-judge-descriptions = c .before .before .before in
     let a = start x .args in
-    simp (c .of-tables .ensures, c .before .enum-told .given .1) (again-stops (a .o) (now (a .s)) (a .at) (a .before) (rw (c .before .enum-told .given .1) at (x .read-tables .ensures)))
+    simp (c .of-descriptions .ensures, c .before .enum-told .given .1) (again-stops (a .o) (now (a .s)) (a .at) (a .before) (rw (c .before .enum-told .given .1) at (x .judge-descriptions .ensures)))
 
 add-place : tie.Need-add-place
 add-place c = let x = to-tabled c in omega (arith, tables x .bounds .fits, from-tabled x .pre)

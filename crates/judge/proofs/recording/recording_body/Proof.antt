@@ -12,7 +12,7 @@ use borrow.Author.Needs.{needs}
 use Rattle.judge.proofs.recording.recording_body.Statement.{statement}
 use Rattle.judge.proofs.recording.recording_body.Tie as tie
 
-abbrev start : tie.After-read-tables → tie.Start
+abbrev start : tie.After-judge-descriptions → tie.Start
 start x = x .before .before .before
 
 abbrev from-tabled : tie.After-tabled → tie.Start
@@ -28,14 +28,14 @@ to-channels z = z .before .before .before
 tables : (x : tie.After-tabled) →
     let a = from-tabled x .args in
     DescriptionsOf (a .o) (a .at + 16) (now (a .s)) (a .before) (DescriptionsJudged.On (x .described .given .0 .0))
-tables x = rw (x .described .given .1) at (x .before .before .read-tables .ensures)
+tables x = rw (x .described .given .1) at (x .before .before .judge-descriptions .ensures)
 
 returns : tie.Need-returns
 returns c =
-    let x : tie.After-read-tables = c .before .before .before in
+    let x : tie.After-judge-descriptions = c .before .before .before in
     let a = start x .args in
-    simp (c .of-tables .ensures, c .before .enum-told .given .1)
-    (stops-tables (a .o) (now (a .file)) (now (a .s)) (a .at) (a .before) (start x .pre) (rw (c .before .enum-told .given .1) at (x .read-tables .ensures)))
+    simp (c .of-descriptions .ensures, c .before .enum-told .given .1)
+    (stops-tables (a .o) (now (a .file)) (now (a .s)) (a .at) (a .before) (start x .pre) (rw (c .before .enum-told .given .1) at (x .judge-descriptions .ensures)))
 
 channels-of-requires : tie.Need-channels-of-requires
 channels-of-requires c κs =
