@@ -166,8 +166,8 @@ module _ (o : Order) (file s : List ℕ) (at : ℕ) (before : Before) (i : BodyI
           channels = rw c room;
         }
 
-  pub stops-tables : {m : ℕ} {r : Refusal} → DescriptionsOf o (at + 16) s before (DescriptionsJudged.Stop r) → BodyJudged o file s at m before (Recorded.Stop r)
-  stops-tables k = record { told = λ held h has fills times. tables-stop o file at s before held h fills (k .told file held (i .part) has); continues = tt }
+  pub stops-descriptions : {m : ℕ} {r : Refusal} → DescriptionsOf o (at + 16) s before (DescriptionsJudged.Stop r) → BodyJudged o file s at m before (Recorded.Stop r)
+  stops-descriptions k = record { told = λ held h has fills times. tables-stop o file at s before held h fills (k .told file held (i .part) has); continues = tt }
 
   module _ {m : ℕ} {t : Described} (k : DescriptionsOf o (at + 16) s before (DescriptionsJudged.On t)) {cs : Channels} (c : cs ≡ subsAt (t .channels) (t .count)) where
     pub stops-signals : {r : Refusal} → SignalsOf o file cs (t .own) (t .basic) (t .next) (at + 16) s m (FramesJudged.Stop r) → BodyJudged o file s at m before (Recorded.Stop r)

@@ -13,17 +13,17 @@ use Rattle.judge.proofs.recording.body_again.Tie as tie
 abbrev start : tie.After-judge-descriptions → tie.Start
 start x = x .before .before
 
-abbrev from-tabled : tie.After-tabled → tie.Start
-from-tabled x = start (x .before .before)
+abbrev from-described : tie.After-described → tie.Start
+from-described x = start (x .before .before)
 
-abbrev to-tabled : tie.After-next → tie.After-tabled
-to-tabled y = y .before .before
+abbrev to-described : tie.After-next → tie.After-described
+to-described y = y .before .before
 
 -- the descriptions that passed
-tables : (x : tie.After-tabled) →
-    let a = from-tabled x .args in
+described : (x : tie.After-described) →
+    let a = from-described x .args in
     DescriptionsOf (a .o) (a .at + 16) (now (a .s)) (a .before) (DescriptionsJudged.On (x .described .given .0 .0))
-tables x = rw (x .described .given .1) at (x .before .before .judge-descriptions .ensures)
+described x = rw (x .described .given .1) at (x .before .before .judge-descriptions .ensures)
 
 returns : tie.Need-returns
 returns c =
@@ -32,23 +32,23 @@ returns c =
     simp (c .of-descriptions .ensures, c .before .enum-told .given .1) (again-stops (a .o) (now (a .s)) (a .at) (a .before) (rw (c .before .enum-told .given .1) at (x .judge-descriptions .ensures)))
 
 add-place : tie.Need-add-place
-add-place c = let x = to-tabled c in omega (arith, tables x .bounds .fits, from-tabled x .pre)
+add-place c = let x = to-described c in omega (arith, described x .bounds .fits, from-described x .pre)
 
 add-if1 : tie.Need-add-if1
-add-if1 c = let x = to-tabled c in omega (arith, tables x .bounds .fits, from-tabled x .pre)
+add-if1 c = let x = to-described c in omega (arith, described x .bounds .fits, from-described x .pre)
 
 returns-2 : tie.Need-returns-2
 returns-2 c =
-    let x = to-tabled (c .before) in
-    let a = from-tabled x .args in
-    again-short (a .o) (now (a .s)) (a .at) (a .before) (tables x) (c .if1 .taken)
+    let x = to-described (c .before) in
+    let a = from-described x .args in
+    again-short (a .o) (now (a .s)) (a .at) (a .before) (described x) (c .if1 .taken)
 
 returns-3 : tie.Need-returns-3
 returns-3 c =
     let m : tie.After-number4 = c .before .before in
-    let x = to-tabled (m .before .before) in
-    let a = from-tabled x .args in
-    rw (c .places-for .ensures) (again-holds (a .o) (now (a .s)) (a .at) (a .before) (tables x) (m .number4 .ensures .0) (c .before .number42 .ensures .0))
+    let x = to-described (m .before .before) in
+    let a = from-described x .args in
+    rw (c .places-for .ensures) (again-holds (a .o) (now (a .s)) (a .at) (a .before) (described x) (m .number4 .ensures .0) (c .before .number42 .ensures .0))
 
 pub body-again-spec : {M : Type 1} → statement M
 body-again-spec =
