@@ -4,3 +4,4 @@ pub mod Agreeing
 pub mod Samples
 pub mod Telling
 pub mod Demands
+pub mod Floats

@@ -5,17 +5,17 @@ use mathlib.Core.Path.{_≡_, sym, _∙_}
 use mathlib.Core.List.{List}
 use Prim.Native.Nat.{ℕ}
 use lib.IntN.{ℤ}
-use Rattle.psg.specs.Flat.{Leaves}
+use Rattle.answers.specs.Flat.{Leaves}
 use Rattle.psg.specs.Calls.{JudgeAnswers, TableAnswers, TurnAnswers, RewriteAnswers}
 use Rattle.psg.specs.Calls.{FactsAnswers, ChannelAnswers, PatientItemAnswers, EventItemAnswers, ClockAnswers, CountAnswers, SampleAnswers, ViewAnswers}
-use Rattle.psg.specs.declared.answers.Channel.{Channel}
-use Rattle.psg.specs.declared.answers.Clock.{Clock}
-use Rattle.psg.specs.declared.answers.Counted.{Counted}
-use Rattle.psg.specs.declared.answers.Facts.{Facts}
-use Rattle.psg.specs.declared.answers.Header.{Header}
-use Rattle.psg.specs.declared.answers.Item.{Item}
-use Rattle.psg.specs.declared.answers.Sample.{Sample}
-use Rattle.psg.specs.declared.answers.View.{View}
+use Rattle.answers.specs.declared.Channel.{Channel}
+use Rattle.answers.specs.declared.Clock.{Clock}
+use Rattle.answers.specs.declared.Counted.{Counted}
+use Rattle.answers.specs.declared.Facts.{Facts}
+use Rattle.answers.specs.declared.Header.{Header}
+use Rattle.answers.specs.declared.Item.{Item}
+use Rattle.answers.specs.declared.Sample.{Sample}
+use Rattle.answers.specs.declared.View.{View}
 
 -- what is one thing is one
 only : {A : Type 0} {x a b : A} → a ≡ x → b ≡ x → a ≡ b

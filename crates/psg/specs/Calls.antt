@@ -11,15 +11,15 @@ use Rattle.table.specs.Table as Table
 use Rattle.turn.specs.Turn as Turn
 use Rattle.rewrite.specs.Rewrite as Rewrite
 use Rattle.questions.specs.Questions.{factsOf, channelOf, patientItemOf, eventItemOf, clockOf, countOf, sampleOf, viewOf}
-use Rattle.psg.specs.Flat.{Leaves, countedRows, countedBytes, flatHeader, flatFacts, flatChannel, flatItem, flatClock, flatCount, flatSample, flatView}
-use Rattle.psg.specs.declared.answers.Channel.{Channel}
-use Rattle.psg.specs.declared.answers.Clock.{Clock}
-use Rattle.psg.specs.declared.answers.Counted.{Counted}
-use Rattle.psg.specs.declared.answers.Facts.{Facts}
-use Rattle.psg.specs.declared.answers.Header.{Header}
-use Rattle.psg.specs.declared.answers.Item.{Item}
-use Rattle.psg.specs.declared.answers.Sample.{Sample}
-use Rattle.psg.specs.declared.answers.View.{View}
+use Rattle.answers.specs.Flat.{Leaves, countedRows, countedBytes, flatHeader, flatFacts, flatChannel, flatItem, flatClock, flatCount, flatSample, flatView}
+use Rattle.answers.specs.declared.Channel.{Channel}
+use Rattle.answers.specs.declared.Clock.{Clock}
+use Rattle.answers.specs.declared.Counted.{Counted}
+use Rattle.answers.specs.declared.Facts.{Facts}
+use Rattle.answers.specs.declared.Header.{Header}
+use Rattle.answers.specs.declared.Item.{Item}
+use Rattle.answers.specs.declared.Sample.{Sample}
+use Rattle.answers.specs.declared.View.{View}
 
 abbrev pub JudgeAnswers : List ℕ → Header → Type 0
 JudgeAnswers s a = a ≡ flatHeader s (R.judge s)

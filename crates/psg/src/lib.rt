@@ -1,17 +1,15 @@
 // What C and Rust link: each call takes a proved answer apart into a struct of numbers, and adds nothing.
-pub mod answers;
-
 ghost use Rattle.psg.specs.Calls.{JudgeAnswers, TableAnswers, TurnAnswers, RewriteAnswers};
 ghost use Rattle.psg.specs.Calls.{FactsAnswers, ChannelAnswers, PatientItemAnswers, EventItemAnswers, ClockAnswers};
 ghost use Rattle.psg.specs.Calls.{CountAnswers, SampleAnswers, ViewAnswers};
-use crate::answers::Channel;
-use crate::answers::Clock;
-use crate::answers::Counted;
-use crate::answers::Facts;
-use crate::answers::Header;
-use crate::answers::Item;
-use crate::answers::Sample;
-use crate::answers::View;
+use answers::Channel;
+use answers::Clock;
+use answers::Counted;
+use answers::Facts;
+use answers::Header;
+use answers::Item;
+use answers::Sample;
+use answers::View;
 use judge::Judged;
 use rules::FileHeader;
 use table::Listed;

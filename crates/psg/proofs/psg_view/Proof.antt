@@ -2,7 +2,7 @@
 -- Assumes nothing.
 use mathlib.Core.Path.{ap}
 use borrow.Author.Needs.{needs}
-use Rattle.psg.specs.Flat.{flatView}
+use Rattle.answers.specs.Flat.{flatView}
 use Rattle.psg.proofs.psg_view.Statement.{statement}
 use Rattle.psg.proofs.psg_view.Tie as tie
 

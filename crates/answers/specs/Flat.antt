@@ -1,0 +1,153 @@
+-- Answers taken apart into numbers. Whatever a refusal does not say is 0.
+-- Assumes nothing.
+use mathlib.Core.Path.{_≡_}
+use mathlib.Core.List.{List}
+use Prim.Native.Nat.{ℕ}
+use lib.IntN.{pos}
+use lib.ListN.{length, getD}
+use Rattle.words.specs.Floats.{bitsOf}
+use Rattle.walk.specs.Walk.{Outcome, refused, passed}
+use Rattle.rules.specs.Rules as R
+use Rattle.table.specs.Table as Table
+use Rattle.permit.specs.Permit as Permit
+use Rattle.recordings.specs.Answers.{Answer, value, refusal}
+use Rattle.recordings.specs.declared.Counts.{Counts}
+use Rattle.samples.specs.declared.Number.{Number}
+use Rattle.samples.specs.declared.Number.the-variants as Number
+use Rattle.samples.specs.declared.Time.{Time}
+use Rattle.questions.specs.Values.{wordsOf}
+use Rattle.questions.specs.declared.channels.Calibration.{Calibration}
+use Rattle.questions.specs.declared.channels.Calibration.the-variants as Calibration
+use Rattle.questions.specs.declared.channels.Descriptor.{Descriptor}
+use Rattle.questions.specs.declared.channels.Text.{Text}
+use Rattle.questions.specs.declared.items.Entry.{Entry}
+use Rattle.answers.specs.declared.Channel.{Channel}
+use Rattle.answers.specs.declared.Clock.{Clock}
+use Rattle.answers.specs.declared.Counted.{Counted}
+use Rattle.answers.specs.declared.Facts.{Facts}
+use Rattle.answers.specs.declared.Header.{Header}
+use Rattle.answers.specs.declared.Item.{Item}
+use Rattle.answers.specs.declared.Patterns.{Patterns}
+use Rattle.answers.specs.declared.Sample.{Sample}
+use Rattle.answers.specs.declared.View.{View}
+
+-- a call that writes: the answer a is x, and its buffer holds xs afterwards
+pub record Leaves {A : Type 0} (x : Counted) (xs : List A) (a : Counted) (out : List A) : Type 0 where
+  pub answers : a ≡ x
+  pub holds : out ≡ xs
+
+abbrev pub counted : ℕ → Counted
+counted n = record { refusal = 0; position = 0; count = n }
+
+abbrev pub stopped : ℕ → ℕ → Counted
+stopped n p = record { refusal = n; position = p; count = 0 }
+
+abbrev pub countedRows : Table.Answer → Counted
+countedRows (Table.rows n) = counted n
+countedRows (Table.refusal n p) = stopped n p
+
+abbrev pub countedBytes : Permit.Answer → Counted
+countedBytes (Permit.bytes n) = counted n
+countedBytes (Permit.refusal n p) = stopped n p
+
+-- the letters of the order and of the script, and K
+abbrev pub headed : ℕ → ℕ → ℕ → Header
+headed o c k = record { refusal = 0; position = 0; order = o; script = c; recordings = k }
+
+abbrev pub unheaded : ℕ → ℕ → Header
+unheaded n p = record { refusal = n; position = p; order = 0; script = 0; recordings = 0 }
+
+-- by the rules' outcome for the file s; byte 16 is the order's letter
+abbrev pub flatHeader : List ℕ → Outcome R.File → Header
+flatHeader s (refused n p) = unheaded n p
+flatHeader s (passed v r t) = headed (getD s 16 0) (v .heading .script) (length (v .recordings))
+
+abbrev pub flatFacts : Answer Counts → Facts
+flatFacts (value x) = record { refusal = 0; position = 0; channels = x .channels; frames = x .frames; seconds = x .seconds }
+flatFacts (refusal n p) = record { refusal = n; position = p; channels = 0; frames = 0; seconds = 0 }
+
+-- four calibration numbers, 32 bits each, and whether they are floats
+abbrev pub areFloats : Calibration → ℕ
+areFloats (Calibration.Floats a b c d) = 1
+areFloats (Calibration.Numbers a b c d) = 0
+areFloats (Calibration.Patterns a b c d) = 1
+
+abbrev pub patternsOf : Calibration → Patterns
+patternsOf x = record {
+  «is_float» = areFloats x;
+  cal = wordsOf x .cal;
+  «cal_ad» = wordsOf x .calAD;
+  «offset_ad» = wordsOf x .offsetAD;
+  «offset_cal» = wordsOf x .offsetCal;
+}
+
+abbrev pub flatChannel : Answer Descriptor → Channel
+flatChannel (value x) = record {
+  refusal = 0;
+  position = 0;
+  number = x .number;
+  flags = x .flags;
+  kind = x .kind;
+  format = x .format;
+  rate = x .rate;
+  «is_float» = patternsOf (x .calibration) .«is_float»;
+  cal = patternsOf (x .calibration) .cal;
+  «cal_ad» = patternsOf (x .calibration) .«cal_ad»;
+  «offset_ad» = patternsOf (x .calibration) .«offset_ad»;
+  «offset_cal» = patternsOf (x .calibration) .«offset_cal»;
+  frequency = x .frequency;
+  «low_cut» = x .«low_cut»;
+  «high_cut» = x .«high_cut»;
+  sensitivity = x .sensitivity;
+  label = x .label .at;
+  «label_length» = x .label .length;
+  unit = x .unit .at;
+  «unit_length» = x .unit .length;
+  comment = x .comment .at;
+  «comment_length» = x .comment .length;
+}
+flatChannel (refusal n p) = record {
+  refusal = n;
+  position = p;
+  number = pos 0;
+  flags = pos 0;
+  kind = pos 0;
+  format = pos 0;
+  rate = pos 0;
+  «is_float» = 0;
+  cal = 0;
+  «cal_ad» = 0;
+  «offset_ad» = 0;
+  «offset_cal» = 0;
+  frequency = pos 0;
+  «low_cut» = pos 0;
+  «high_cut» = pos 0;
+  sensitivity = pos 0;
+  label = 0;
+  «label_length» = 0;
+  unit = 0;
+  «unit_length» = 0;
+  comment = 0;
+  «comment_length» = 0;
+}
+
+abbrev pub flatItem : Answer Entry → Item
+flatItem (value x) = record { refusal = 0; position = 0; code = x .code; text = x .text .at; «text_length» = x .text .length }
+flatItem (refusal n p) = record { refusal = n; position = p; code = pos 0; text = 0; «text_length» = 0 }
+
+abbrev pub flatClock : Answer Time → Clock
+flatClock (value x) = record { refusal = 0; position = 0; hour = x .hour; minute = x .minute; second = x .second }
+flatClock (refusal n p) = record { refusal = n; position = p; hour = 0; minute = 0; second = 0 }
+
+abbrev pub flatCount : Answer ℕ → Counted
+flatCount (value n) = counted n
+flatCount (refusal n p) = stopped n p
+
+abbrev pub flatSample : Answer Number → Sample
+flatSample (value (Number.Whole z)) = record { refusal = 0; position = 0; «is_float» = 0; value = z; bits = 0 }
+flatSample (value (Number.Float v)) = record { refusal = 0; position = 0; «is_float» = 1; value = pos 0; bits = bitsOf v }
+flatSample (value (Number.Pattern n)) = record { refusal = 0; position = 0; «is_float» = 1; value = pos 0; bits = n }
+flatSample (refusal n p) = record { refusal = n; position = p; «is_float» = 0; value = pos 0; bits = 0 }
+
+abbrev pub flatView : Text → View
+flatView p = record { start = p .at; length = p .length }
