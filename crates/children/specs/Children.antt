@@ -5,7 +5,6 @@ use mathlib.Core.Bool.{Bool, true}
 use mathlib.Core.List.{List, _++_}
 use Prim.Native.Nat.{ℕ, _+_, _-_, _≤_}
 use lib.ListN.{length}
-use Rattle.words.specs.Sizes.{Addressable}
 use Rattle.words.specs.declared.Order.{Order}
 use Rattle.walk.specs.Walk.{Row, Event, Walk, _>>_, text}
 use Rattle.walk.specs.See.{goes, see}
@@ -119,11 +118,6 @@ module _ (o : Order) (b : ℕ) (s : List ℕ) (p : ℕ) where
   -- none stands there
   pub record NoRecord : Type 0 where
     pub none : (h : Head) → Heads o b s p h → (h .code ≡ 0 → ⊥) → AdmitsAny h → ⊥
-
--- byte p is inside the part s, which stands at b, or at its end; and the bytes up to there can be counted
-pub record Inside (b : ℕ) (s : List ℕ) (p : ℕ) : Type 0 where
-  pub low : p ≤ length s
-  pub short : Addressable (b + length s)
 
 -- the cursor's answer at byte p of the part s, which stands at b
 abbrev pub Visits : Order → ℕ → List ℕ → ℕ → Direct → Type 0

@@ -1,5 +1,6 @@
 // The records that stand one after the other: the recordings of a file, and the records directly in a recording's body.
-ghost use Rattle.children.specs.Children.{Inside, Visits};
+ghost use Rattle.records.specs.Asks.{PartAt};
+ghost use Rattle.children.specs.Children.{Visits};
 use records::Headed;
 use records::Step;
 use rules::Delimiter;
@@ -15,7 +16,7 @@ pub enum Direct {
 
 // What stands at byte p of a file, or of a recording's body, which stands at `base`.
 pub fn record_at(o: Order, s: &[u8], base: usize, p: usize) -> Direct
-    requires { ⌜ Inside base (now s) p ⌝ }
+    requires { ⌜ PartAt base (now s) p ⌝ }
     ensures { λ a. ⌜ Visits o base (now (s .entry)) p a ⌝ }
 {
     let found = records::head::head_at(o, s, base, p);

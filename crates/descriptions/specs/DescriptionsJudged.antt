@@ -186,18 +186,7 @@ Ready base n before (DescriptionsJudged.Stop r) = Unit {0}
 
 -- what the functions ask
 
--- a head in the part s, which stands at `base` in the file
-pub record HeadIn (base : ℕ) (s : List ℕ) (h : Head) : Type 0 where
-  pub inside : h .at + 16 ≤ length s
-  pub short : Addressable (base + length s)
-
--- a record from byte `at` up to `end` of it
-pub record RecordIn (base : ℕ) (s : List ℕ) (at end : ℕ) : Type 0 where
-  pub start : at ≤ end
-  pub inside : end ≤ length s
-  pub short : Addressable (base + length s)
-
--- it is a recording's body
+-- s is a recording's body, which stands at `base` in the file
 pub record BodyAt (base : ℕ) (s : List ℕ) : Type 0 where
   -- the recording's head stands before it
   pub headed : 16 ≤ base

@@ -3,9 +3,10 @@ ghost use mathlib.Core.Path.{_≡_};
 ghost use Prim.Native.Nat.{_+_, _<_};
 ghost use Rattle.words.specs.Sizes.{Addressable};
 ghost use Rattle.walk.specs.Walk.{pick};
+ghost use Rattle.records.specs.Asks.{HeadIn, BytesIn};
 ghost use Rattle.records.specs.Says.{subsAt};
 ghost use Rattle.descriptions.specs.DescriptionsJudged.{refusalBasic, refusalPart, refusalDescriptions, channelsIn, patientIn, countIn, kindOf, lacking};
-ghost use Rattle.descriptions.specs.DescriptionsJudged.{HeadIn, RecordIn, BodyAt, Behind, ChannelsPart, ItemsPart, DescriptionsOf};
+ghost use Rattle.descriptions.specs.DescriptionsJudged.{BodyAt, Behind, ChannelsPart, ItemsPart, DescriptionsOf};
 use records::Headed;
 use records::Step;
 use records::basic::Basiced;
@@ -166,7 +167,7 @@ fn absent(base: usize, h: Head, held: Held) -> Parted
 
 // A part that stands at byte `at` and stops at byte `end`: the head of the next record.
 fn behind(o: Order, s: &[u8], base: usize, at: usize, end: usize) -> Parted
-    requires { ⌜ RecordIn base (now s) at end ⌝ }
+    requires { ⌜ BytesIn base (now s) at end ⌝ }
     ensures { λ a. ⌜ Behind o base (now (s .entry)) at end a ⌝ }
 {
     let found = records::makers::next_head(o, s, base, end);

@@ -4,7 +4,7 @@ ghost use mathlib.Core.Path.{_≡_};
 ghost use Prim.Native.Nat.{_+_, _≤_};
 ghost use lib.ListN.{length};
 ghost use Rattle.words.specs.Sizes.{Addressable};
-ghost use Rattle.children.specs.Children.{Inside};
+ghost use Rattle.records.specs.Asks.{PartAt};
 ghost use Rattle.children.specs.Recordings.{OfBody, OfFile};
 ghost use Rattle.makers.specs.Makers.{First, SearchedAs, refusalF};
 use children::Direct;
@@ -55,7 +55,7 @@ fn in_body(o: Order, s: &[u8], base: usize) -> MakerField
 
 // The first maker's record in the recording at byte p of the file.
 fn in_recording(o: Order, file: &[u8], p: usize) -> Searched
-    requires { ⌜ Inside 0 (now file) p ⌝ }
+    requires { ⌜ PartAt 0 (now file) p ⌝ }
     ensures { λ r. ⌜ SearchedAs o (now (file .entry)) p r ⌝ }
 {
     let there = children::record_at(o, file, 0, p);

@@ -1,10 +1,10 @@
 // Record 100.
 ghost use mathlib.Core.Path.{_≡_};
-ghost use Prim.Native.Nat.{_+_, _-_, _≤_};
+ghost use Prim.Native.Nat.{_+_, _-_};
 ghost use lib.ListN.{length};
-ghost use Rattle.words.specs.Sizes.{Addressable};
 ghost use Rattle.walk.specs.See.{Verdict, see, over};
 ghost use Rattle.rules.specs.Rules as R;
+ghost use Rattle.records.specs.Asks.{PartAt, BodyOf};
 ghost use Rattle.records.specs.Says.{basicOf, basiced, resumed, countsTested, dateTested, timeTested};
 use crate::Tested;
 use crate::between;
@@ -80,7 +80,7 @@ fn mains_ok(n: u32) -> bool
 
 // The tests of the fields of the record 100 at `at`, whose body is the part s.
 fn counts_ok(o: Order, s: &[u8], at: usize) -> Tested
-    requires { ⌜ (112 ≤ length (now s)) × Addressable at ⌝ }
+    requires { ⌜ BodyOf 112 at (now s) ⌝ }
     ensures { λ a. ⌜ ((K : Verdict R.Basic) → countsTested o (now (s .entry)) at K ≡ resumed a K) ⌝ }
 {
     if 1 != field(o, s, Basic::FORM) {
@@ -96,7 +96,7 @@ fn counts_ok(o: Order, s: &[u8], at: usize) -> Tested
 }
 
 fn date_ok(o: Order, s: &[u8], at: usize) -> Tested
-    requires { ⌜ (112 ≤ length (now s)) × Addressable at ⌝ }
+    requires { ⌜ BodyOf 112 at (now s) ⌝ }
     ensures { λ a. ⌜ ((K : Verdict R.Basic) → dateTested o (now (s .entry)) at K ≡ resumed a K) ⌝ }
 {
     let year = field(o, s, Basic::YEAR);
@@ -114,7 +114,7 @@ fn date_ok(o: Order, s: &[u8], at: usize) -> Tested
 }
 
 fn time_ok(o: Order, s: &[u8], at: usize) -> Tested
-    requires { ⌜ (112 ≤ length (now s)) × Addressable at ⌝ }
+    requires { ⌜ BodyOf 112 at (now s) ⌝ }
     ensures { λ a. ⌜ ((K : Verdict R.Basic) → timeTested o (now (s .entry)) at K ≡ resumed a K) ⌝ }
 {
     if 23 < field(o, s, Basic::HOUR) {
@@ -131,7 +131,7 @@ fn time_ok(o: Order, s: &[u8], at: usize) -> Tested
 
 // The body of the record 100 at `at`: the part of the file that starts 16 bytes into it.
 fn basic_body(o: Order, s: &[u8], at: usize) -> Basiced
-    requires { ⌜ (112 ≤ length (now s)) × Addressable at ⌝ }
+    requires { ⌜ BodyOf 112 at (now s) ⌝ }
     ensures { λ a. ⌜ over basicOf (see o (at + 16) (now (s .entry)) (at + 16) R.basicBody) ≡ basiced at a ⌝ }
 {
     let counts = counts_ok(o, s, at);
@@ -157,7 +157,7 @@ fn basic_body(o: Order, s: &[u8], at: usize) -> Basiced
 
 // The record 100 at byte p of the part s.
 pub fn basic_at(o: Order, s: &[u8], base: usize, p: usize) -> Basiced
-    requires { ⌜ (p ≤ length (now s)) × Addressable (base + length (now s)) ⌝ }
+    requires { ⌜ PartAt base (now s) p ⌝ }
     ensures { λ a. ⌜ over basicOf (see o base (now (s .entry)) (base + p) (R.basic (length (now (s .entry)) - p))) ≡ basiced (base + p) a ⌝ }
 {
     let opened = open(o, s, base, p, Kind::Basic);

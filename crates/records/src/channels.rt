@@ -3,10 +3,10 @@ ghost use mathlib.Core.Path.{_≡_};
 ghost use mathlib.Core.List.{List};
 ghost use Prim.Native.Nat.{_+_, _-_, _*_, _≤_};
 ghost use lib.ListN.{length};
-ghost use Rattle.words.specs.Sizes.{Addressable};
 ghost use Rattle.walk.specs.See.{see, ends};
 ghost use Rattle.rules.specs.Rules as R;
 ghost use Rattle.rules.specs.Rules.{channelsBody};
+ghost use Rattle.records.specs.Asks.{PartAt, HeadIn, BodyOf, SecondsOf};
 ghost use Rattle.records.specs.Says.{Kept, Advances, tested, StepOver, ChannelsAt};
 use crate::Step;
 use crate::Tested;
@@ -49,7 +49,7 @@ fn rate_ok(flags: u32, kind: u32, rate: u32) -> bool
 
 // The body of the record 125 at `at`.
 fn channel_body(o: Order, s: &[u8], at: usize) -> Tested
-    requires { ⌜ (240 ≤ length (now s)) × Addressable at ⌝ }
+    requires { ⌜ BodyOf 240 at (now s) ⌝ }
     ensures { λ a. ⌜ ends (see o (at + 16) (now (s .entry)) (at + 16) R.channelBody) ≡ tested a (at + 256) ⌝ }
 {
     let kind = field(o, s, Channel::TYPE);
@@ -72,7 +72,7 @@ fn channel_body(o: Order, s: &[u8], at: usize) -> Tested
 
 // The record 125 at byte p of the part s, with the serial i: where it stops.
 fn channel_at(o: Order, s: &[u8], base: usize, p: usize, i: u32) -> Step
-    requires { ⌜ (p ≤ length (now s)) × Addressable (base + length (now s)) ⌝ }
+    requires { ⌜ PartAt base (now s) p ⌝ }
     ensures { λ a. ⌜ StepOver o base (now (s .entry)) p (R.channel (length (now (s .entry)) - p) i) (Advances p 256 (length (now (s .entry)))) a ⌝ }
 {
     let opened = open(o, s, base, p, Kind::Channel(i));
@@ -85,7 +85,7 @@ fn channel_at(o: Order, s: &[u8], base: usize, p: usize, i: u32) -> Step
 
 // So many records 125 from byte `from` of the part s on: where they end.
 fn channels_from(o: Order, s: &[u8], base: usize, from: usize, count: u32) -> Step
-    requires { ⌜ (from ≤ length (now s)) × Addressable (base + length (now s)) ⌝ }
+    requires { ⌜ PartAt base (now s) from ⌝ }
     ensures { λ a. ⌜ StepOver o base (now (s .entry)) from
         (R.series count 1 256 (length (now (s .entry)) - from) R.channel) (Advances from (256 * count) (length (now (s .entry)))) a ⌝ }
 {
@@ -104,7 +104,7 @@ fn channels_from(o: Order, s: &[u8], base: usize, from: usize, count: u32) -> St
 
 // The body of the record 120 at `at`, of as many channels as record 100 has.
 fn channels_body(o: Order, s: &[u8], at: usize, channels: u32) -> Tested
-    requires { ⌜ (16 ≤ length (now s)) × Addressable (at + 16 + length (now s)) ⌝ }
+    requires { ⌜ BodyOf 16 at (now s) ⌝ }
     ensures { λ a. ⌜ ((b : R.Basic) → b .channels ≡ channels →
         ends (see o (at + 16) (now (s .entry)) (at + 16) (channelsBody b (16 + length (now (s .entry)))))
         ≡ tested a (at + (16 + length (now (s .entry))))) ⌝ }
@@ -132,7 +132,7 @@ fn channels_body(o: Order, s: &[u8], at: usize, channels: u32) -> Tested
 
 // The rest of the record 120 whose head is h, of as many channels as record 100 has: where it stops.
 pub fn channels_at(o: Order, s: &[u8], base: usize, h: Head, channels: u32) -> Step
-    requires { ⌜ (h .at + 16 ≤ length (now s)) × Addressable (base + length (now s)) ⌝ }
+    requires { ⌜ HeadIn base (now s) h ⌝ }
     ensures { λ a. ⌜ ChannelsAt o base (now (s .entry)) h channels a ⌝ }
 {
     let room = admit(h, base, s.len(), Kind::Channels);
@@ -172,7 +172,7 @@ pub fn samples_in(t: u32, flags: u32, rate: u32) -> usize
 
 // The sample bytes of t seconds, over the m channels whose records 125 stand from byte `subs` of s on.
 pub fn sample_bytes(o: Order, s: &[u8], subs: usize, m: u32, t: u32) -> usize
-    requires { ⌜ (subs + 256 * m ≤ length (now s)) × (m ≤ 128) × (t ≤ 3600) ⌝ }
+    requires { ⌜ SecondsOf (length (now s)) (record { subs = subs; count = m }) t ⌝ }
     ensures { λ r. ⌜ ((cs : List R.Channel) → length cs ≡ m → Kept o (now (s .entry)) subs cs → r ≡ R.sampleBytes t cs) ⌝ }
 {
     let mut p = subs;

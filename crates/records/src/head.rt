@@ -1,9 +1,8 @@
 // A record's first 16 bytes, and its length.
 ghost use mathlib.Core.Path.{_≡_};
-ghost use Prim.Native.Nat.{_+_, _≤_, _<_};
-ghost use lib.ListN.{length};
-ghost use Rattle.words.specs.Sizes.{Addressable};
+ghost use Prim.Native.Nat.{_+_, _<_};
 ghost use Rattle.rules.specs.Rules as R;
+ghost use Rattle.records.specs.Asks.{PartAt, Spanned};
 ghost use Rattle.records.specs.Says.{HeadAt};
 use crate::Headed;
 use rules::Head;
@@ -13,7 +12,7 @@ use words::number4;
 
 // The head of the record at byte p of the part s, which stands at `base` in the file and ends where the record's parent ends.
 pub fn head_at(o: Order, s: &[u8], base: usize, p: usize) -> Headed
-    requires { ⌜ (p ≤ length (now s)) × Addressable (base + length (now s)) ⌝ }
+    requires { ⌜ PartAt base (now s) p ⌝ }
     ensures { λ a. ⌜ HeadAt o base (now (s .entry)) p a ⌝ }
 {
     if s.len() < p + Head::LENGTH {
@@ -34,7 +33,7 @@ pub fn head_at(o: Order, s: &[u8], base: usize, p: usize) -> Headed
 
 // A record's length.
 pub fn span(h: Head) -> usize
-    requires { ⌜ (h .size < 2147483648) × (h .multiplier ≤ 128) ⌝ }
+    requires { ⌜ Spanned h ⌝ }
     ensures { λ r. ⌜ (r ≡ R.lengthOf (h .size) (h .multiplier)) × (r < 274877906945) ⌝ }
 {
     if h.multiplier == 0 {

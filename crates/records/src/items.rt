@@ -1,11 +1,11 @@
 // Records 130 and 200.
 ghost use mathlib.Core.Path.{_≡_};
-ghost use Prim.Native.Nat.{_+_, _-_, _≤_};
+ghost use Prim.Native.Nat.{_+_, _-_};
 ghost use lib.ListN.{length};
-ghost use Rattle.words.specs.Sizes.{Addressable};
 ghost use Rattle.walk.specs.See.{see, ends};
 ghost use Rattle.rules.specs.Rules as R;
 ghost use Rattle.rules.specs.Rules.{itemsBody};
+ghost use Rattle.records.specs.Asks.{PartAt, HeadIn, BodyOf};
 ghost use Rattle.records.specs.Says.{headOf, Beyond, okOf, tested, StepOver};
 use crate::Step;
 use crate::Tested;
@@ -76,7 +76,7 @@ fn code_ok(k: Holder, x: u32) -> bool
 
 // The item at byte p of the part s: where the next one starts.
 fn item_at(o: Order, k: Holder, s: &[u8], base: usize, p: usize) -> Step
-    requires { ⌜ (p ≤ length (now s)) × Addressable (base + length (now s)) ⌝ }
+    requires { ⌜ PartAt base (now s) p ⌝ }
     ensures { λ a. ⌜ StepOver o base (now (s .entry)) p (R.item (okOf k) (length (now (s .entry)) - p)) (Beyond p (length (now (s .entry)))) a ⌝ }
 {
     let n = s.len();
@@ -102,7 +102,7 @@ fn item_at(o: Order, k: Holder, s: &[u8], base: usize, p: usize) -> Step
 
 // So many items from byte `from` of the part s on: where they end.
 fn items_from(o: Order, k: Holder, s: &[u8], base: usize, from: usize, count: u32) -> Step
-    requires { ⌜ (from ≤ length (now s)) × Addressable (base + length (now s)) ⌝ }
+    requires { ⌜ PartAt base (now s) from ⌝ }
     ensures { λ a. ⌜ StepOver o base (now (s .entry)) from
         (R.itemList (okOf k) count (length (now (s .entry)) - from)) (Beyond from (length (now (s .entry)))) a ⌝ }
 {
@@ -121,7 +121,7 @@ fn items_from(o: Order, k: Holder, s: &[u8], base: usize, from: usize, count: u3
 
 // The body of the record 130 or 200 at `at`.
 fn items_body(o: Order, k: Holder, s: &[u8], at: usize) -> Tested
-    requires { ⌜ (8 ≤ length (now s)) × Addressable (at + 16 + length (now s)) ⌝ }
+    requires { ⌜ BodyOf 8 at (now s) ⌝ }
     ensures { λ a. ⌜ ends (see o (at + 16) (now (s .entry)) (at + 16) (itemsBody (okOf k) (16 + length (now (s .entry)))))
         ≡ tested a (at + (16 + length (now (s .entry)))) ⌝ }
 {
@@ -141,7 +141,7 @@ fn items_body(o: Order, k: Holder, s: &[u8], at: usize) -> Tested
 
 // The rest of the record 130 or 200 whose head is h: where it stops.
 pub fn items_at(o: Order, k: Holder, s: &[u8], base: usize, h: Head) -> Step
-    requires { ⌜ (h .at + 16 ≤ length (now s)) × Addressable (base + length (now s)) ⌝ }
+    requires { ⌜ HeadIn base (now s) h ⌝ }
     ensures { λ a. ⌜ StepOver o base (now (s .entry)) (h .at + 16)
         (R.items (okOf k) (length (now (s .entry)) - h .at) (headOf h)) (Beyond (h .at + 24) (length (now (s .entry)))) a ⌝ }
 {

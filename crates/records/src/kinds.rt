@@ -1,12 +1,12 @@
 // What is fixed about each kind of record, and whether a head meets it.
 ghost use mathlib.Core.Path.{_≡_};
 ghost use mathlib.Core.List.{List};
-ghost use Prim.Native.Nat.{ℕ, _+_, _-_, _≤_};
+ghost use Prim.Native.Nat.{ℕ, _+_, _-_};
 ghost use lib.ListN.{length};
-ghost use Rattle.words.specs.Sizes.{Addressable};
 ghost use Rattle.words.specs.declared.Order.{Order};
 ghost use Rattle.walk.specs.See.{see};
 ghost use Rattle.rules.specs.Rules as R;
+ghost use Rattle.records.specs.Asks.{PartAt, HeadUpTo, HeadOfMost};
 ghost use Rattle.records.specs.Says.{refusalO, OpenAt, headOf, codesOf, fitsOf, serialOf, asRule, loose, ruleOf, admitted, Fitting, AdmittedBy};
 use crate::Headed;
 use crate::Step;
@@ -149,7 +149,7 @@ fn rule_of(kind: Kind) -> Rule
 
 // The multiplier, the length and the serial of a record in a part of n bytes that stands at `base`: where the record stops.
 fn admit_with(h: Head, base: usize, n: usize, most: u32, f: Fits, i: Serial) -> Step
-    requires { ⌜ (most ≤ 128) × (h .at ≤ n) × Addressable (base + h .at) ⌝ }
+    requires { ⌜ HeadOfMost most base n h ⌝ }
     ensures { λ a. ⌜ ((o : Order) (b : ℕ) (s : List ℕ) →
         see o b s (base + (h .at + 16)) (R.admit (n - h .at) most (fitsOf f (h .multiplier)) (serialOf i) (headOf h))
         ≡ admitted a (base + (h .at + 16))) × Fitting h f n a ⌝ }
@@ -175,7 +175,7 @@ fn admit_with(h: Head, base: usize, n: usize, most: u32, f: Fits, i: Serial) -> 
 
 // The same by the record's kind.
 pub fn admit(h: Head, base: usize, n: usize, kind: Kind) -> Step
-    requires { ⌜ (h .at ≤ n) × Addressable (base + h .at) ⌝ }
+    requires { ⌜ HeadUpTo base n h ⌝ }
     ensures { λ a. ⌜ AdmittedBy h base n kind a ⌝ }
 {
     let rule = rule_of(kind);
@@ -215,7 +215,7 @@ pub fn of_open(a: Opened) -> Refusal
 
 // The record of this kind at byte p of the part s, up to its body: its head is read, has the kind's code, and is admitted.
 pub fn open(o: Order, s: &[u8], base: usize, p: usize, kind: Kind) -> Opened
-    requires { ⌜ (p ≤ length (now s)) × Addressable (base + length (now s)) ⌝ }
+    requires { ⌜ PartAt base (now s) p ⌝ }
     ensures { λ a. ⌜ OpenAt o base (now (s .entry)) p kind a ⌝ }
 {
     let found = head_at(o, s, base, p);

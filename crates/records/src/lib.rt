@@ -10,13 +10,12 @@ pub mod makers;
 pub mod writing;
 
 ghost use mathlib.Core.Path.{_≡_};
-ghost use Prim.Native.Nat.{_+_, _-_, _≤_, _<_};
-ghost use lib.ListN.{length};
-ghost use Rattle.words.specs.Sizes.{Addressable};
+ghost use Prim.Native.Nat.{_+_, _-_, _<_};
 ghost use Rattle.words.specs.declared.Order.{Order};
 ghost use Rattle.words.specs.Numbers.{numberAt};
 ghost use Rattle.walk.specs.See.{see};
 ghost use Rattle.rules.specs.Rules as R;
+ghost use Rattle.records.specs.Asks.{BytesIn, FieldIn};
 ghost use Rattle.records.specs.Says.{tested, ended, refusalH, refusalS, refusalT};
 use rules::Head;
 use rules::Refusal;
@@ -110,7 +109,7 @@ pub fn pad_ok(multiplier: u32, n: usize) -> bool
 
 // The field of four bytes at an offset of a record, whose body is the part s: it starts 16 bytes into the record.
 pub fn field(o: Order, s: &[u8], offset: usize) -> u32
-    requires { ⌜ (16 ≤ offset) × (offset - 16 + 4 ≤ length (now s)) ⌝ }
+    requires { ⌜ FieldIn (now s) offset 4 ⌝ }
     ensures { λ r. ⌜ (r ≡ numberAt o 4 (now (s .entry)) (offset - 16)) × (r < 4294967296) ⌝ }
 {
     number4(o, s, offset - Head::LENGTH)
@@ -118,7 +117,7 @@ pub fn field(o: Order, s: &[u8], offset: usize) -> u32
 
 // The field of two bytes at an offset of a record.
 pub fn short_field(o: Order, s: &[u8], offset: usize) -> u32
-    requires { ⌜ (16 ≤ offset) × (offset - 16 + 2 ≤ length (now s)) ⌝ }
+    requires { ⌜ FieldIn (now s) offset 2 ⌝ }
     ensures { λ r. ⌜ (r ≡ numberAt o 2 (now (s .entry)) (offset - 16)) × (r < 65536) ⌝ }
 {
     number2(o, s, offset - Head::LENGTH)
@@ -126,7 +125,7 @@ pub fn short_field(o: Order, s: &[u8], offset: usize) -> u32
 
 // The bytes of s from `from` up to `to` are zero.
 pub fn padding(s: &[u8], base: usize, from: usize, to: usize) -> Tested
-    requires { ⌜ (from ≤ to) × (to ≤ length (now s)) × Addressable (base + length (now s)) ⌝ }
+    requires { ⌜ BytesIn base (now s) from to ⌝ }
     ensures { λ a. ⌜ ((o : Order) → see o base (now (s .entry)) (base + from) (R.padding (to - from)) ≡ tested a (base + to)) ⌝ }
 {
     let pad = &s[from..to];

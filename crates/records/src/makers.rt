@@ -1,9 +1,7 @@
 // Makers' own records.
 ghost use mathlib.Core.Path.{_≡_};
-ghost use Prim.Native.Nat.{_+_, _≤_};
-ghost use lib.ListN.{length};
-ghost use Rattle.words.specs.Sizes.{Addressable};
 ghost use Rattle.rules.specs.Rules as R;
+ghost use Rattle.records.specs.Asks.{PartAt};
 ghost use Rattle.records.specs.Says.{NextHead};
 use crate::Headed;
 use crate::Step;
@@ -26,7 +24,7 @@ pub fn maker_code(n: u32) -> bool
 
 // The head of the first record from byte `from` on that is no maker's own.
 pub fn next_head(o: Order, s: &[u8], base: usize, from: usize) -> Headed
-    requires { ⌜ (from ≤ length (now s)) × Addressable (base + length (now s)) ⌝ }
+    requires { ⌜ PartAt base (now s) from ⌝ }
     ensures { λ a. ⌜ NextHead o base (now (s .entry)) from a ⌝ }
 {
     let mut p = from;

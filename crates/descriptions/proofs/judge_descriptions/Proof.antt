@@ -74,7 +74,7 @@ returns c =
 next-head-requires : tie.Need-next-head-requires
 next-head-requires c κs =
     let z = from-first (c .before) in
-    (hundred-fits (z .args .o) (z .args .base) (now (z .args .s)) (hundred (c .before)), z .pre .short)
+    record { low = hundred-fits (z .args .o) (z .args .base) (now (z .args .s)) (hundred (c .before)); short = z .pre .short }
 
 returns-2 : tie.Need-returns-2
 returns-2 c =

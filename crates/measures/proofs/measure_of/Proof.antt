@@ -105,7 +105,7 @@ returns c =
     record { bounds = tt; reads = tt; told = λ held r x e fills here at g. measure-unread (accepted (a .o) (a .base) s (bytes s (λ i. y .shared-slice-known2 .given i .fits)) r fills held g) (a .at) at (rw (c .enum-told .given .1) at (c .before .before .head-at .ensures .seen)) }
 
 admit-requires : tie.Need-admit-requires
-admit-requires c κs = let f = c .before in (omega (arith, top f .stands), omega (arith, top f .stands, start f .pre .short))
+admit-requires c κs = let f = c .before in record { low = omega (arith, top f .stands); short = omega (arith, top f .stands, start f .pre .short) }
 
 returns-2 : tie.Need-returns-2
 returns-2 c =
@@ -114,7 +114,7 @@ returns-2 c =
     record { bounds = tt; reads = tt; told = λ held r x e fills here at g. measure-refused (went f held r x e fills g) _ at (h f) (top f .seen) (top f .stands .0) (rw (c .enum-told2 .given .1) at (n .admit .ensures .seen (o f) (base f) (s f))) }
 
 next-head-requires : tie.Need-next-head-requires
-next-head-requires c κs = (stop (c .before) .1, start (to-found (c .before)) .pre .short)
+next-head-requires c κs = record { low = stop (c .before) .1; short = start (to-found (c .before)) .pre .short }
 
 returns-3 : tie.Need-returns-3
 returns-3 c =
@@ -133,13 +133,13 @@ part-body-end : tie.Need-part-body-end
 part-body-end c = stop (to-room (c .before)) .1
 
 field-requires : tie.Need-field-requires
-field-requires c κs = (omega arith, numbered (to-room (c .before .before)) 0 (omega arith))
+field-requires c κs = record { behind = omega arith; inside = numbered (to-room (c .before .before)) 0 (omega arith) }
 
 field-requires-2 : tie.Need-field-requires-2
-field-requires-2 c κs = (omega arith, numbered (to-room (c .before .before .before)) 4 (omega arith))
+field-requires-2 c κs = record { behind = omega arith; inside = numbered (to-room (c .before .before .before)) 4 (omega arith) }
 
 field-requires-3 : tie.Need-field-requires-3
-field-requires-3 c κs = let y = c .before .before in (omega arith, numbered (to-room (y .before .before)) 8 (omega arith))
+field-requires-3 c κs = let y = c .before .before in record { behind = omega arith; inside = numbered (to-room (y .before .before)) 8 (omega arith) }
 
 -- what the walk says of the numbers, where it accepts the body as x
 module _ (c : tie.After-field3) where
@@ -171,7 +171,7 @@ returns-4 c =
 sample-bytes-requires : tie.Need-sample-bytes-requires
 sample-bytes-requires c κs =
     let z = start (f (c .before)) in
-    (z .pre .channels .inside, z .pre .channels .few, omega (arith, c .if1 .left))
+    record { channels = z .pre .channels; hour = omega (arith, c .if1 .left) }
 
 returns-5 : tie.Need-returns-5
 returns-5 c =

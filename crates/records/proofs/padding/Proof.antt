@@ -26,12 +26,12 @@ add-t12 c = search needs
 returns : tie.Need-returns
 returns c =
     let z = c .before .before .before .before in
-    λ o. pad-stop o (z .args .base) (now (z .args .s)) (z .args .from) (z .args .to) (c .before .first-nonzero .result) (z .pre .0) (z .pre .1) (c .before .first-nonzero .ensures) (c .if1 .taken)
+    λ o. pad-stop o (z .args .base) (now (z .args .s)) (z .args .from) (z .args .to) (c .before .first-nonzero .result) (z .pre .start) (z .pre .inside) (c .before .first-nonzero .ensures) (c .if1 .taken)
 
 returns-2 : tie.Need-returns-2
 returns-2 c =
     let z = c .before .before .before .before in
-    λ o. pad-clear o (z .args .base) (now (z .args .s)) (z .args .from) (z .args .to) (c .before .first-nonzero .result) (z .pre .0) (z .pre .1) (c .before .first-nonzero .ensures) (c .if1 .left)
+    λ o. pad-clear o (z .args .base) (now (z .args .s)) (z .args .from) (z .args .to) (c .before .first-nonzero .result) (z .pre .start) (z .pre .inside) (c .before .first-nonzero .ensures) (c .if1 .left)
 
 pub padding-spec : {M : Type 1} → statement M
 padding-spec =

@@ -68,7 +68,7 @@ returns-2 c =
     simp (c .enum-told .given .1) (stops-frames (a .o) (now (a .file)) (a .cs) (a .own) (a .b) (a .h) (a .base) (now (a .s)) (a .multiplier) (z .pre) (coded (coded-at y)) (rw (c .enum-told .given .1) at (y .frames-at .ensures)))
 
 next-head-requires : tie.Need-next-head-requires
-next-head-requires c κs = (frames (c .before) .stands .inside, from-held (c .before) .pre .body .short)
+next-head-requires c κs = record { low = frames (c .before) .stands .inside; short = from-held (c .before) .pre .body .short }
 
 returns-3 : tie.Need-returns-3
 returns-3 c =

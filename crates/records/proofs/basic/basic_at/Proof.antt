@@ -47,7 +47,10 @@ add-basic-body c = search needs
 basic-body-requires : tie.Need-basic-body-requires
 basic-body-requires c κs =
     let v = rw (c .before .before .opened .given .1) at (c .before .before .before .before .open .ensures .stands) in
-    (simp (length-take, length-drop) (omega (arith, v .end, v .spans, v .inside)), omega arith)
+    record {
+      long = simp (length-take, length-drop) (omega (arith, v .end, v .spans, v .inside));
+      short = simp (length-take, length-drop) (omega (arith, v .end, v .spans, v .inside));
+    }
 
 returns-2 : tie.Need-returns-2
 returns-2 c =

@@ -46,7 +46,10 @@ add-channel-body c = search needs
 channel-body-requires : tie.Need-channel-body-requires
 channel-body-requires c κs =
     let v = rw (c .before .before .opened .given .1) at (c .before .before .before .before .open .ensures .stands) in
-    (simp (length-take, length-drop) (omega (arith, v .end, v .spans, v .inside)), omega arith)
+    record {
+      long = simp (length-take, length-drop) (omega (arith, v .end, v .spans, v .inside));
+      short = simp (length-take, length-drop) (omega (arith, v .end, v .spans, v .inside));
+    }
 
 stops-at-requires : tie.Need-stops-at-requires
 stops-at-requires c κs = search needs

@@ -43,7 +43,7 @@ add-channels-body c = search needs
 channels-body-requires : tie.Need-channels-body-requires
 channels-body-requires c κs =
     let v = rw (c .before .before .room .given .1) at (c .before .before .before .before .admit .ensures .stands) in
-    simp (length-take, length-drop) (omega arith)
+    record { long = simp (length-take, length-drop) (omega arith); short = simp (length-take, length-drop) (omega arith) }
 
 stops-at-requires : tie.Need-stops-at-requires
 stops-at-requires c κs = search needs

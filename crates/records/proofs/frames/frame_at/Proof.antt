@@ -44,8 +44,13 @@ add-frame-body c = search needs
 
 frame-body-requires : tie.Need-frame-body-requires
 frame-body-requires c κs =
+    let z = c .before .before .before .before .before .before in
     let v = rw (c .before .before .opened .given .1) at (c .before .before .before .before .open .ensures .stands) in
-    simp (length-take, length-drop) (omega (arith, v .end, v .spans, v .inside))
+    record {
+      timed = z .pre .timed;
+      inside = simp (length-take, length-drop) (omega (arith, z .pre .inside, v .end, v .spans, v .inside));
+      short = simp (length-take, length-drop) (omega (arith, v .end, v .spans, v .inside));
+    }
 
 stops-at-requires : tie.Need-stops-at-requires
 stops-at-requires c κs = search needs
@@ -65,7 +70,7 @@ returns-2 c =
     let e : q ≡ p + n = omega (arith, v .end, v .spans) in
     rw (c .stops-at .ensures) (record {
       seen = (λ t′ cs f. simp (frame-opened, ← f, walks, v .at, t .opened .given .1, t .before .before .open .ensures .seen)
-          (body-held o b p q n s e (omega (arith, z .pre .2, z .pre .3)) (v .inside) (λ k. frameBody k t′ cs) (λ x. stays-frameBody n t′ cs x (omega (arith, f, z .pre .3))) a (c .before .frame-body .ensures t′ cs f)));
+          (body-held o b p q n s e (omega (arith, z .pre .timed, z .pre .inside)) (v .inside) (λ k. frameBody k t′ cs) (λ x. stays-frameBody n t′ cs x (omega (arith, f, z .pre .inside))) a (c .before .frame-body .ensures t′ cs f)));
       stands = ended-advances p n (length s) q a e (v .inside);
     })
 

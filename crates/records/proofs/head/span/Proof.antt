@@ -18,10 +18,10 @@ cast-result-3 : tie.Need-cast-result-3
 cast-result-3 c = search needs
 
 mul-result : tie.Need-mul-result
-mul-result c = record { fits = omega (arith, length-short _ _ (c .before .before .before .before .pre .0) (c .before .before .before .before .pre .1)) }
+mul-result c = record { fits = omega (arith, length-short _ _ (c .before .before .before .before .pre .small) (c .before .before .before .before .pre .few)) }
 
 returns-2 : tie.Need-returns-2
-returns-2 c = (length-times _ _ (c .before .before .if1 .left), length-short _ _ (c .before .before .before .before .pre .0) (c .before .before .before .before .pre .1))
+returns-2 c = (length-times _ _ (c .before .before .if1 .left), length-short _ _ (c .before .before .before .before .pre .small) (c .before .before .before .before .pre .few))
 
 pub span-spec : {M : Type 1} → statement M
 span-spec =

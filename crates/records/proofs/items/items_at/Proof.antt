@@ -44,7 +44,7 @@ add-items-body c = search needs
 items-body-requires : tie.Need-items-body-requires
 items-body-requires c κs =
     let v = rw (c .before .before .room .given .1) at (c .before .before .before .before .admit .ensures .stands) in
-    simp (length-take, length-drop) (omega arith)
+    record { long = simp (length-take, length-drop) (omega arith); short = simp (length-take, length-drop) (omega arith) }
 
 stops-at-requires : tie.Need-stops-at-requires
 stops-at-requires c κs = search needs

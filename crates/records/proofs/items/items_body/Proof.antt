@@ -45,12 +45,12 @@ add-t13 c = search needs
 returns-3 : tie.Need-returns-3
 returns-3 c =
     let n = c .before .before .before .before .before .before .field .ensures .0 in
-    items-end _ _ _ _ _ (simp (tests, ← n, c .before .before .before .before .before .if1 .left)) (c .before .before .before .before .before .before .before .before .pre .0) (rw (c .before .before .taken .given .1, n) at (c .before .before .before .before .items-from .ensures .seen)) ∙ simp (gates, tests, c .if2 .taken)
+    items-end _ _ _ _ _ (simp (tests, ← n, c .before .before .before .before .before .if1 .left)) (c .before .before .before .before .before .before .before .before .pre .long) (rw (c .before .before .taken .given .1, n) at (c .before .before .before .before .items-from .ensures .seen)) ∙ simp (gates, tests, c .if2 .taken)
 
 returns-4 : tie.Need-returns-4
 returns-4 c =
     let n = c .before .before .before .before .before .before .field .ensures .0 in
-    items-end _ _ _ _ _ (simp (tests, ← n, c .before .before .before .before .before .if1 .left)) (c .before .before .before .before .before .before .before .before .pre .0) (rw (c .before .before .taken .given .1, n) at (c .before .before .before .before .items-from .ensures .seen)) ∙ simp (gates, tests, eq-eqb _ _ (c .if2 .left)) (ap (λ (x : ℕ). goes tt x) (omega arith))
+    items-end _ _ _ _ _ (simp (tests, ← n, c .before .before .before .before .before .if1 .left)) (c .before .before .before .before .before .before .before .before .pre .long) (rw (c .before .before .taken .given .1, n) at (c .before .before .before .before .items-from .ensures .seen)) ∙ simp (gates, tests, eq-eqb _ _ (c .if2 .left)) (ap (λ (x : ℕ). goes tt x) (omega arith))
 
 pub items-body-spec : {M : Type 1} → statement M
 items-body-spec =

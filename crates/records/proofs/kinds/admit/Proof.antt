@@ -10,7 +10,7 @@ rule-of-requires : tie.Need-rule-of-requires
 rule-of-requires c κs = search needs
 
 admit-with-requires : tie.Need-admit-with-requires
-admit-with-requires c κs = (rule-small (c .rule-of .result) (c .before .args .kind) (c .rule-of .ensures), c .before .pre .0, c .before .pre .1)
+admit-with-requires c κs = record { few = rule-small (c .rule-of .result) (c .before .args .kind) (c .rule-of .ensures); head = c .before .pre }
 
 returns : tie.Need-returns
 returns c =

@@ -45,7 +45,7 @@ add-t18 c = search needs
 
 returns-4 : tie.Need-returns-4
 unfolding admit
-returns-4 c = ((λ o b s. simp (walks, tests, leb-fits _ _ (c .before .before .before .before .before .before .before .before .before .before .pre .1), c .struct-known7 .given .1, c .before .if4 .taken, c .before .before .struct-known6 .given .1, not-false (c .before .before .before .before .length-ok .result) (c .before .before .before .if3 .left), ← c .before .before .before .before .length-ok .ensures, ← c .before .before .before .before .before .span .ensures .0, c .before .before .before .before .before .before .if2 .left, c .before .before .before .before .before .before .before .struct-known3 .given .1, c .before .before .before .before .before .before .before .before .if1 .left, c .before .before .before .before .before .before .before .before .before .struct-known .given .1)), tt)
+returns-4 c = ((λ o b s. simp (walks, tests, leb-fits _ _ (c .before .before .before .before .before .before .before .before .before .before .pre .head .low), c .struct-known7 .given .1, c .before .if4 .taken, c .before .before .struct-known6 .given .1, not-false (c .before .before .before .before .length-ok .result) (c .before .before .before .if3 .left), ← c .before .before .before .before .length-ok .ensures, ← c .before .before .before .before .before .span .ensures .0, c .before .before .before .before .before .before .if2 .left, c .before .before .before .before .before .before .before .struct-known3 .given .1, c .before .before .before .before .before .before .before .before .if1 .left, c .before .before .before .before .before .before .before .before .before .struct-known .given .1)), tt)
 
 serial-ok-requires : tie.Need-serial-ok-requires
 serial-ok-requires c κs = search needs
@@ -58,14 +58,14 @@ add-t21 c = search needs
 
 returns-5 : tie.Need-returns-5
 unfolding admit
-returns-5 c = ((λ o b s. simp (walks, tests, leb-fits _ _ (c .before .before .before .before .before .before .before .before .before .before .before .before .pre .1), c .struct-known8 .given .1, not-true (c .before .before .serial-ok .result) (c .before .if5 .taken), ← c .before .before .serial-ok .ensures, c .before .before .before .if4 .left, c .before .before .before .before .struct-known6 .given .1, not-false (c .before .before .before .before .before .before .length-ok .result) (c .before .before .before .before .before .if3 .left), ← c .before .before .before .before .before .before .length-ok .ensures, ← c .before .before .before .before .before .before .before .span .ensures .0, c .before .before .before .before .before .before .before .before .if2 .left, c .before .before .before .before .before .before .before .before .before .struct-known3 .given .1, c .before .before .before .before .before .before .before .before .before .before .if1 .left, c .before .before .before .before .before .before .before .before .before .before .before .struct-known .given .1)), tt)
+returns-5 c = ((λ o b s. simp (walks, tests, leb-fits _ _ (c .before .before .before .before .before .before .before .before .before .before .before .before .pre .head .low), c .struct-known8 .given .1, not-true (c .before .before .serial-ok .result) (c .before .if5 .taken), ← c .before .before .serial-ok .ensures, c .before .before .before .if4 .left, c .before .before .before .before .struct-known6 .given .1, not-false (c .before .before .before .before .before .before .length-ok .result) (c .before .before .before .before .before .if3 .left), ← c .before .before .before .before .before .before .length-ok .ensures, ← c .before .before .before .before .before .before .before .span .ensures .0, c .before .before .before .before .before .before .before .before .if2 .left, c .before .before .before .before .before .before .before .before .before .struct-known3 .given .1, c .before .before .before .before .before .before .before .before .before .before .if1 .left, c .before .before .before .before .before .before .before .before .before .before .before .struct-known .given .1)), tt)
 
 add-t17 : tie.Need-add-t17
 add-t17 c = search needs
 
 returns-6 : tie.Need-returns-6
 unfolding admit
-returns-6 c = ((λ o b s. simp (walks, tests, leb-fits _ _ (c .before .before .before .before .before .before .before .before .before .before .before .before .pre .1), c .struct-known9 .given .1, not-false (c .before .before .serial-ok .result) (c .before .if5 .left), ← c .before .before .serial-ok .ensures, c .before .before .before .if4 .left, c .before .before .before .before .struct-known6 .given .1, not-false (c .before .before .before .before .before .before .length-ok .result) (c .before .before .before .before .before .if3 .left), ← c .before .before .before .before .before .before .length-ok .ensures, ← c .before .before .before .before .before .before .before .span .ensures .0, c .before .before .before .before .before .before .before .before .if2 .left, c .before .before .before .before .before .before .before .before .before .struct-known3 .given .1, c .before .before .before .before .before .before .before .before .before .before .if1 .left, c .before .before .before .before .before .before .before .before .before .before .before .struct-known .given .1)), (simp (c .before .before .before .before .before .before .before .span .ensures .0), omega arith, simp (← c .before .before .before .before .before .before .before .span .ensures .0, ← c .before .before .before .before .before .before .length-ok .ensures, not-false (c .before .before .before .before .before .before .length-ok .result) (c .before .before .before .before .before .if3 .left))))
+returns-6 c = ((λ o b s. simp (walks, tests, leb-fits _ _ (c .before .before .before .before .before .before .before .before .before .before .before .before .pre .head .low), c .struct-known9 .given .1, not-false (c .before .before .serial-ok .result) (c .before .if5 .left), ← c .before .before .serial-ok .ensures, c .before .before .before .if4 .left, c .before .before .before .before .struct-known6 .given .1, not-false (c .before .before .before .before .before .before .length-ok .result) (c .before .before .before .before .before .if3 .left), ← c .before .before .before .before .before .before .length-ok .ensures, ← c .before .before .before .before .before .before .before .span .ensures .0, c .before .before .before .before .before .before .before .before .if2 .left, c .before .before .before .before .before .before .before .before .before .struct-known3 .given .1, c .before .before .before .before .before .before .before .before .before .before .if1 .left, c .before .before .before .before .before .before .before .before .before .before .before .struct-known .given .1)), (simp (c .before .before .before .before .before .before .before .span .ensures .0), omega arith, simp (← c .before .before .before .before .before .before .before .span .ensures .0, ← c .before .before .before .before .before .before .length-ok .ensures, not-false (c .before .before .before .before .before .before .length-ok .result) (c .before .before .before .before .before .if3 .left))))
 
 pub admit-with-spec : {M : Type 1} → statement M
 admit-with-spec =

@@ -17,7 +17,7 @@ abbrev μ-loop : tie.MeasureT-loop
 μ-loop o s base from p₀ p = length s - p
 
 loop-holds : tie.Need-loop-holds Inv-loop μ-loop
-loop-holds c = (search needs, c .before .pre .0, λ fuel h. record { left = fuel; enough = h; same = refl })
+loop-holds c = (search needs, c .before .pre .low, λ fuel h. record { left = fuel; enough = h; same = refl })
 
 head-at-requires : tie.Need-head-at-requires Inv-loop μ-loop
 head-at-requires c κs = search needs

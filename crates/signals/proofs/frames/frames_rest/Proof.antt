@@ -32,7 +32,7 @@ returns c =
     simp (c .of-step .ensures, c .before .enum-told .given .1) (rest-refused (a .o) (a .at) (now (a .s)) (a .total) (a .f) (rw (c .before .enum-told .given .1) at (x .frames-from .ensures)))
 
 padding-requires : tie.Need-padding-requires
-padding-requires c κs = (passed (c .before) .stands .1, search needs, search needs)
+padding-requires c κs = record { start = passed (c .before) .stands .1; inside = search needs; short = search needs }
 
 returns-2 : tie.Need-returns-2
 returns-2 c =

@@ -65,7 +65,7 @@ returns-2 c =
     (λ ch st. sym (c .before .all-divide .ensures ch st) ∙ not-true (c .before .all-divide .result) (c .if2 .taken))
 
 sample-bytes-requires : tie.Need-sample-bytes-requires
-sample-bytes-requires c κs = let h = between-in 1 3600 _ (timed (timed-at c)) in omega arith
+sample-bytes-requires c κs = let h = between-in 1 3600 _ (timed (timed-at c)) in search needs
 
 returns-3 : tie.Need-returns-3
 returns-3 c =
