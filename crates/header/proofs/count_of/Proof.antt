@@ -30,15 +30,22 @@ between-requires c κs = search needs
 spaces-requires : tie.Need-spaces-requires Inv-loop μ-loop
 spaces-requires c κs = search needs
 
+-- what was known at the head of the loop, and behind `byte`
+abbrev top : tie.After-between Inv-loop μ-loop → tie.At-loop Inv-loop μ-loop
+top c = c .before .before .before
+
+abbrev at-byte : tie.After-spaces Inv-loop μ-loop → tie.After-byte Inv-loop μ-loop
+at-byte c = c .before .before .before
+
 returns : tie.Need-returns Inv-loop μ-loop
-returns c = sym (c .before .before .before .before .before .before .loop .inv .1 ∙ count-rest _ _ _ _ (c .before .before .before .before .before .loop-test .taken) (c .before .before .before .before .byte .ensures .0) _ (sym (c .before .before .before .between .ensures) ∙ not-true (c .before .before .before .between .result) (c .before .before .if1 .taken)) (sym (c .before .spaces .ensures) ∙ not-true (c .before .spaces .result) (c .if2 .taken)))
+returns c = sym (top (c .before .before .before) .loop .inv .1 ∙ count-rest _ _ _ _ (at-byte (c .before) .before .loop-test .taken) (at-byte (c .before) .byte .ensures .0) _ (sym (c .before .before .before .between .ensures) ∙ not-true (c .before .before .before .between .result) (c .before .before .if1 .taken)) (sym (c .before .spaces .ensures) ∙ not-true (c .before .spaces .result) (c .if2 .taken)))
 
 returns-2 : tie.Need-returns-2 Inv-loop μ-loop
-returns-2 c = sym (c .before .before .before .before .before .before .loop .inv .1 ∙ count-rest _ _ _ _ (c .before .before .before .before .before .loop-test .taken) (c .before .before .before .before .byte .ensures .0) _ (sym (c .before .before .before .between .ensures) ∙ not-true (c .before .before .before .between .result) (c .before .before .if1 .taken)) (sym (c .before .spaces .ensures) ∙ not-false (c .before .spaces .result) (c .if2 .left)))
+returns-2 c = sym (top (c .before .before .before) .loop .inv .1 ∙ count-rest _ _ _ _ (at-byte (c .before) .before .loop-test .taken) (at-byte (c .before) .byte .ensures .0) _ (sym (c .before .before .before .between .ensures) ∙ not-true (c .before .before .before .between .result) (c .before .before .if1 .taken)) (sym (c .before .spaces .ensures) ∙ not-false (c .before .spaces .result) (c .if2 .left)))
 
 mul-value : tie.Need-mul-value Inv-loop μ-loop
 mul-value c =
-    let t = digits-short _ _ _ (c .before .before .before .loop-test .taken) (c .before .before .before .before .before .before .pre) (c .before .before .before .before .loop .inv .0) in
+    let t = digits-short _ _ _ (c .before .before .before .loop-test .taken) (top (c .before) .before .before .pre) (top (c .before) .loop .inv .0) in
     omega arith
 
 sub-value : tie.Need-sub-value Inv-loop μ-loop
@@ -49,7 +56,7 @@ sub-value c =
 add-value : tie.Need-add-value Inv-loop μ-loop
 add-value c =
     let d = between-in 48 57 (c .before .before .byte .result) (sym (c .before .between .ensures) ∙ not-false (c .before .between .result) (c .if1 .left)) in
-    let t = digits-short _ _ _ (c .before .before .before .loop-test .taken) (c .before .before .before .before .before .before .pre) (c .before .before .before .before .loop .inv .0) in
+    let t = digits-short _ _ _ (c .before .before .before .loop-test .taken) (top (c .before) .before .before .pre) (top (c .before) .loop .inv .0) in
     omega arith
 
 add-i : tie.Need-add-i Inv-loop μ-loop
@@ -61,7 +68,7 @@ loop-less c = search needs
 loop-again : tie.Need-loop-again Inv-loop μ-loop
 loop-again c =
     let d = between-in 48 57 (c .before .before .byte .result) (sym (c .before .between .ensures) ∙ not-false (c .before .between .result) (c .if1 .left)) in
-    (digits-more _ _ _ (c .before .before .before .before .loop .inv .0) (d .1), c .before .before .before .before .loop .inv .1 ∙ count-more _ _ _ _ (c .before .before .before .loop-test .taken) (c .before .before .byte .ensures .0) (sym (c .before .between .ensures) ∙ not-false (c .before .between .result) (c .if1 .left)))
+    (digits-more _ _ _ (top (c .before) .loop .inv .0) (d .1), top (c .before) .loop .inv .1 ∙ count-more _ _ _ _ (c .before .before .before .loop-test .taken) (c .before .before .byte .ensures .0) (sym (c .before .between .ensures) ∙ not-false (c .before .between .result) (c .if1 .left)))
 
 returns-3 : tie.Need-returns-3 Inv-loop μ-loop
 returns-3 c = sym (c .before .loop .inv .1 ∙ count-end _ _ _ (c .loop-test .left))

@@ -65,8 +65,12 @@ past-count c = passing _ _ _ _ (past-script (at-script (c .before))) (rw (c .bef
 returns : tie.Need-returns
 returns c = record { walk = stopping _ _ _ _ (header-open _) (lt-leb 32 _ (c .if1 .taken)); named = tt }
 
+-- what was known behind the first test
+abbrev else1 : tie.After-of-test → tie.Else1
+else1 c = c .before .before .before .before
+
 returns-2 : tie.Need-returns-2
-returns-2 c = record { walk = simp (header-open, gates, tests, c .of-test .ensures, c .before .enum-told2 .given .1, c .before .before .before .names-ok .ensures, c .before .before .before .before .if1 .left); named = tt }
+returns-2 c = record { walk = simp (header-open, gates, tests, c .of-test .ensures, c .before .enum-told2 .given .1, c .before .before .before .names-ok .ensures, else1 c .if1 .left); named = tt }
 
 returns-3 : tie.Need-returns-3
 returns-3 c = record { walk = stopping _ _ _ _ (past-names (at-names (c .before .before))) (ap names (letter-is (c .before .before) (c .enum-told3 .given .1))); named = tt }

@@ -41,9 +41,16 @@ slice-aggregate-same-2 c = search needs
 same-requires-2 : tie.Need-same-requires-2
 same-requires-2 c κs = search needs
 
+-- what was known behind the first test and the second
+abbrev else2 : tie.After-same3 → tie.Else2
+else2 c = c .before .before .before
+
+abbrev else1 : tie.After-same2 → tie.Else1
+else1 c = c .before .before .before
+
 returns-2 : tie.Need-returns-2
 unfolding bytesAt identifier version form
-returns-2 c = λ k. simp (gates, not-true (c .before .same2 .result) (c .if2 .taken), ← c .before .same2 .ensures, not-false (c .before .before .before .before .before .same .result) (c .before .before .before .before .if1 .left), ← c .before .before .before .before .before .same .ensures)
+returns-2 c = λ k. simp (gates, not-true (c .before .same2 .result) (c .if2 .taken), ← c .before .same2 .ensures, not-false (else1 (c .before) .before .same .result) (else1 (c .before) .if1 .left), ← else1 (c .before) .before .same .ensures)
 
 sub-same-3 : tie.Need-sub-same-3
 sub-same-3 c = search needs
@@ -62,11 +69,11 @@ same-requires-3 c κs = search needs
 
 returns-3 : tie.Need-returns-3
 unfolding bytesAt identifier version form
-returns-3 c = λ k. simp (gates, not-true (c .before .same3 .result) (c .if3 .taken), ← c .before .same3 .ensures, not-false (c .before .before .before .before .before .same2 .result) (c .before .before .before .before .if2 .left), ← c .before .before .before .before .before .same2 .ensures, not-false (c .before .before .before .before .before .before .before .before .before .same .result) (c .before .before .before .before .before .before .before .before .if1 .left), ← c .before .before .before .before .before .before .before .before .before .same .ensures)
+returns-3 c = λ k. simp (gates, not-true (c .before .same3 .result) (c .if3 .taken), ← c .before .same3 .ensures, not-false (else2 (c .before) .before .same2 .result) (else2 (c .before) .if2 .left), ← else2 (c .before) .before .same2 .ensures, not-false (else1 (else2 (c .before) .before) .before .same .result) (else1 (else2 (c .before) .before) .if1 .left), ← else1 (else2 (c .before) .before) .before .same .ensures)
 
 returns-4 : tie.Need-returns-4
 unfolding bytesAt identifier version form
-returns-4 c = λ k. simp (gates, not-false (c .before .same3 .result) (c .if3 .left), ← c .before .same3 .ensures, not-false (c .before .before .before .before .before .same2 .result) (c .before .before .before .before .if2 .left), ← c .before .before .before .before .before .same2 .ensures, not-false (c .before .before .before .before .before .before .before .before .before .same .result) (c .before .before .before .before .before .before .before .before .if1 .left), ← c .before .before .before .before .before .before .before .before .before .same .ensures)
+returns-4 c = λ k. simp (gates, not-false (c .before .same3 .result) (c .if3 .left), ← c .before .same3 .ensures, not-false (else2 (c .before) .before .same2 .result) (else2 (c .before) .if2 .left), ← else2 (c .before) .before .same2 .ensures, not-false (else1 (else2 (c .before) .before) .before .same .result) (else1 (else2 (c .before) .before) .if1 .left), ← else1 (else2 (c .before) .before) .before .same .ensures)
 
 pub names-ok-spec : {M : Type 1} → statement M
 names-ok-spec =

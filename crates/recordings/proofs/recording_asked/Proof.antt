@@ -7,6 +7,7 @@ use borrow.Author.Needs.{needs}
 use borrow.Author.Tests.{not-true, not-false}
 use Rattle.words.proofs.Words.{bytes}
 use Rattle.records.proofs.Facts.{between-in}
+use Rattle.judge.specs.Judged.{AcceptedAs}
 use Rattle.judge.proofs.Verdicts.{accepted-seen}
 use Rattle.recordings.proofs.Reach.{asked-refused, asked-outside, asked-found}
 use Rattle.recordings.proofs.recording_asked.Statement.{statement}
@@ -24,17 +25,28 @@ enum-told c = search needs
 of-judged-requires : tie.Need-of-judged-requires
 of-judged-requires c κs = search needs
 
+-- what was known at the start, of a file that is accepted and of one that is refused
+abbrev start : tie.After-judged → tie.Start
+start c = c .before .before .before .before
+
+abbrev refused-start : tie.After-of-judged → tie.Start
+refused-start c = c .before .before .before .before .before
+
+-- the file is accepted
+accepted : (x : tie.After-judged) → AcceptedAs (now (start x .args .file)) (x .judged .given .0 .0)
+accepted x = rw (x .judged .given .1) at (x .before .before .judge .ensures)
+
 returns : tie.Need-returns
 returns c =
     let e = c .before .enum-told .given .1 in
-    rw (c .of-judged .ensures, e) (asked-refused (now (c .before .before .before .before .before .args .file)) (c .before .before .before .before .before .args .recording) (rw e at (c .before .before .before .judge .ensures)))
+    rw (c .of-judged .ensures, e) (asked-refused (now (refused-start c .args .file)) (refused-start c .args .recording) (rw e at (c .before .before .before .judge .ensures)))
 
 within-requires : tie.Need-within-requires
 within-requires c κs = search needs
 
 returns-2 : tie.Need-returns-2
 returns-2 c =
-    let x = rw (c .before .before .before .judged .given .1) at (c .before .before .before .before .before .judge .ensures) in
+    let x = accepted (c .before .before .before) in
     asked-outside _ _ x _ (sym (c .before .within .ensures) ∙ not-true (c .before .within .result) (c .if1 .taken))
 
 cast-recordings-to : tie.Need-cast-recordings-to
@@ -45,11 +57,11 @@ cast-recordings-to c =
 recordings-to-requires : tie.Need-recordings-to-requires
 recordings-to-requires c κs =
     let b = c .before .before .before in
-    let x = rw (b .judged .given .1) at (b .before .before .judge .ensures) in
+    let x = accepted b in
     let l = sym (c .before .within .ensures) ∙ not-false (c .before .within .result) (c .if1 .left) in
     record {
       header = accepted-seen _ _ x .long;
-      addressable = omega (arith, b .before .before .before .before .good);
+      addressable = omega (arith, start b .good);
       first = between-in 1 _ _ l .0;
     }
 
@@ -66,7 +78,7 @@ returns-3 : tie.Need-returns-3
 returns-3 c =
     let b : tie.After-recordings-to = c .before .before .before in
     let d = b .before .before in
-    let x = rw (d .before .before .judged .given .1) at (d .before .before .before .before .judge .ensures) in
+    let x = accepted (d .before .before) in
     let l = sym (d .within .ensures) ∙ not-false (d .within .result) (b .before .if1 .left) in
     absurd (rw (c .before .enum-told2 .given .1) at (b .recordings-to .ensures _ x refl (between-in 1 _ _ l .1)))
 
@@ -74,10 +86,11 @@ returns-4 : tie.Need-returns-4
 returns-4 c =
     let b : tie.After-recordings-to = c .before .before .before in
     let d = b .before .before in
-    let j = d .before .before .before .before in
-    let x = rw (d .before .before .judged .given .1) at (j .judge .ensures) in
+    let k = d .before .before in
+    let j = k .before .before in
+    let x = accepted k in
     let l = sym (d .within .ensures) ∙ not-false (d .within .result) (b .before .if1 .left) in
-    let s = bytes (now (j .before .before .args .file)) (λ k. omega (arith, j .before .shared-slice-known .given k)) in
+    let s = bytes (now (j .before .before .args .file)) (λ i. omega (arith, j .before .shared-slice-known .given i)) in
     asked-found _ _ x s _ refl _ _ (rw (c .before .last .given .1) at (b .recordings-to .ensures _ x refl (between-in 1 _ _ l .1)))
 
 pub recording-asked-spec : {M : Type 1} → statement M

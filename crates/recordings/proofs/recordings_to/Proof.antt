@@ -39,8 +39,9 @@ returns c = λ h x o l. absurd (rw (c .enum-told .given .1) at (c .before .befor
 
 recording-again-requires-2 : tie.Need-recording-again-requires-2 Inv-loop μ-loop
 recording-again-requires-2 c κs =
-    let k = c .before .before .before .before in
-    let a = rw (c .before .step .given .1) at (k .loop .inv .bounds) in
+    let d = c .before in
+    let k = d .before .before .before in
+    let a = rw (d .step .given .1) at (k .loop .inv .bounds) in
     record { inside = a .end; short = k .before .before .before .pre .addressable; held = a .channels }
 
 loop-again : tie.Need-loop-again Inv-loop μ-loop
@@ -61,10 +62,11 @@ loop-again c =
 
 returns-2 : tie.Need-returns-2 Inv-loop μ-loop
 returns-2 c =
-    let k = c .before .loop in
-    let a = c .before .before .before .before .args in
+    let l = c .before in
+    let k = l .loop in
+    let a = l .before .before .before .args in
     let d : k .i ≡ a .n = omega (arith, k .inv .within) in
-    λ h x o l. met-reached (a .o) (now (a .file)) (h .count) (x .file .recordings) (a .n) (k .step) (rw d at (k .inv .meets h x o l))
+    λ h x o e. met-reached (a .o) (now (a .file)) (h .count) (x .file .recordings) (a .n) (k .step) (rw d at (k .inv .meets h x o e))
 
 pub recordings-to-spec : {M : Type 1} → statement M
 recordings-to-spec =

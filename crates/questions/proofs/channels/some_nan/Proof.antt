@@ -13,10 +13,14 @@ use Rattle.questions.proofs.channels.some_nan.Tie as tie
 clear : (c : tie.Else1) → nanPattern (c .before .before .args .cal) ≡ false
 clear c = sym (c .before .is-nan .ensures) ∙ c .if1 .left
 
-clear-2 : (c : tie.Else2) → nanPattern (c .before .before .before .before .args .cal-ad) ≡ false
+-- what was known at the start
+abbrev start : tie.After-is-nan2 → tie.Start
+start c = c .before .before .before
+
+clear-2 : (c : tie.Else2) → nanPattern (start (c .before) .args .cal-ad) ≡ false
 clear-2 c = sym (c .before .is-nan2 .ensures) ∙ c .if2 .left
 
-clear-3 : (c : tie.Else3) → nanPattern (c .before .before .before .before .before .before .args .offset-ad) ≡ false
+clear-3 : (c : tie.Else3) → nanPattern (start (c .before .before .before) .args .offset-ad) ≡ false
 clear-3 c = sym (c .before .is-nan3 .ensures) ∙ c .if3 .left
 
 returns : tie.Need-returns

@@ -32,9 +32,16 @@ enum-told c = search needs
 of-recording-found-requires : tie.Need-of-recording-found-requires
 of-recording-found-requires c κs = search needs
 
+-- what was known behind `holding`, and at the start where there is no recording
+abbrev at-holding : tie.After-item-in → tie.After-holding
+at-holding c = c .before .before .before .before
+
+abbrev refused-start : tie.After-of-recording-found → tie.Start
+refused-start c = c .before .before .before .before .before
+
 returns : tie.Need-returns
 returns c =
-    let a = c .before .before .before .before .before .args in
+    let a = refused-start c .args in
     simp (c .of-recording-found .ensures, c .before .enum-told .given .1)
     (asked-refused (a .k) (now (a .file)) (a .recording) (a .item) (rw (c .before .enum-told .given .1) at (c .before .before .before .recording-asked .ensures)))
 
@@ -65,7 +72,7 @@ returns-2 c =
 
 returns-3 : tie.Need-returns-3
 returns-3 c =
-    let h : tie.After-holding = c .before .before .before .before in
+    let h : tie.After-holding = at-holding c in
     let x = back h in
     let a = start x .args in
     let f = known x in

@@ -65,9 +65,13 @@ add-t10 c = search needs
 less-requires : tie.Need-less-requires
 less-requires c κs = search needs
 
+-- what was known behind `item-place`
+abbrev at-item-place : tie.After-less → tie.After-item-place
+at-item-place c = c .before .before .before .before
+
 returns-4 : tie.Need-returns-4
 returns-4 c = λ ok room h is e g k.
-    let p : tie.After-item-place = c .before .before .before .before in
+    let p : tie.After-item-place = at-item-place c in
     let x : tie.After-within = p .before .before in
     let w = sym (x .within .ensures) ∙ not-false _ (p .before .if2 .left) in
     rw (kept (c .before .int4 .result) (c .before .int4 .ok), c .before .int4 .ensures, c .less .ensures, c .before .before .number42 .ensures .0)
