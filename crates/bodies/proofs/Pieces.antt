@@ -22,7 +22,8 @@ use Rattle.walk.proofs.Laid.{laid-text}
 use Rattle.walk.proofs.Seen.{part-bytes, length-bytesAt}
 use Rattle.walk.proofs.Tracing.{trace-give, written-append, written-none, written-piece, length-written}
 use Rattle.rules.specs.Rules as R
-use Rattle.bodies.specs.Copy.{copy, sameOrder}
+use Rattle.bodies.specs.Copy.{copy}
+use Rattle.bodies.specs.Orders.{sameOrder}
 use Rattle.bodies.specs.declared.Way.{Way}
 
 -- walks of one length

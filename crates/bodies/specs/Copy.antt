@@ -1,7 +1,7 @@
 -- What is written of a walk's events, and where.
 -- Assumes nothing.
 use mathlib.Core.Path.{_≡_}
-use mathlib.Core.Bool.{Bool, true, false, _&&_}
+use mathlib.Core.Bool.{Bool, true, _&&_}
 use mathlib.Core.List.{List}
 use Prim.Native.Nat.{ℕ, zero, suc, _+_, _≤_}
 use lib.Dec.{eqb}
@@ -9,20 +9,12 @@ use lib.ListN.{length}
 use Rattle.words.specs.Numbers.{numberAt}
 use Rattle.words.specs.Runs.{pasted}
 use Rattle.words.specs.declared.Order.{Order}
-use Rattle.words.specs.declared.Order.the-variants.{Little, Big}
 use Rattle.walk.specs.Trace.{trace, written}
 use Rattle.walk.specs.Walk.{Walk, _>>_, reserve, pick}
 use Rattle.rules.specs.Rules as R
 use Rattle.bodies.specs.declared.Way.{Way}
 use Rattle.bodies.specs.declared.Widths.{Widths}
 use Rattle.bodies.specs.declared.Widths.the-variants as Widths
-
--- the two orders are one
-unfoldable pub sameOrder : Order → Order → Bool
-sameOrder Little Little = true
-sameOrder Little Big = false
-sameOrder Big Little = false
-sameOrder Big Big = true
 
 -- the bytes of the events of a walk over the part s of the file, which stands at b, written anew
 abbrev pub copy : {A : Type 0} → Way → ℕ → List ℕ → ℕ → Walk A → List ℕ

@@ -13,6 +13,7 @@ ghost use Rattle.walk.specs.See.{see, goes};
 ghost use Rattle.rules.specs.Rules as R;
 ghost use Rattle.records.specs.Says.{Kept};
 ghost use Rattle.bodies.specs.Copy.{copy, filling, widthsIn};
+ghost use Rattle.bodies.specs.Asks.{Both, AtLeast, OneWidth, SamplesPart, FramePart};
 use crate::runs::numbers;
 use crate::runs::reserved;
 use bulk::copy_run;
@@ -42,7 +43,7 @@ pub enum Widths {
 
 // The body of a record 100.
 pub fn basic_body(w: Way, s: &[u8], d: &mut [u8])
-    requires { ⌜ (length (now s) ≡ 112) × (length (now d) ≡ 112) ⌝ }
+    requires { ⌜ Both 112 (now s) (now d) ⌝ }
     ensures { λ _. ⌜ ((b : ℕ) → now (d .exit) ≡ copy w b (now (s .entry)) b R.basicBody) ⌝ }
 {
     numbers(
@@ -85,7 +86,7 @@ pub fn basic_body(w: Way, s: &[u8], d: &mut [u8])
 
 // A record 125.
 fn channel(w: Way, s: &[u8], d: &mut [u8])
-    requires { ⌜ (length (now s) ≡ 256) × (length (now d) ≡ 256) ⌝ }
+    requires { ⌜ Both 256 (now s) (now d) ⌝ }
     ensures { λ _. ⌜ ((b room i : ℕ) → now (d .exit) ≡ copy w b (now (s .entry)) b (R.channel room i)) ⌝ }
 {
     numbers(
@@ -114,7 +115,7 @@ fn channel(w: Way, s: &[u8], d: &mut [u8])
 
 // The body of a record 120 of m channels.
 pub fn channels_body(w: Way, m: u32, s: &[u8], d: &mut [u8])
-    requires { ⌜ (length (now s) ≡ 16 + 256 * m) × (length (now d) ≡ 16 + 256 * m) ⌝ }
+    requires { ⌜ Both (16 + 256 * m) (now s) (now d) ⌝ }
     ensures { λ _. ⌜ ((b n : ℕ) (c : R.Basic) → numberAt (w .from) 4 (now (s .entry)) 0 ≡ m →
         now (d .exit) ≡ copy w b (now (s .entry)) b (R.channelsBody c n)) ⌝ }
 {
@@ -139,7 +140,7 @@ pub fn channels_body(w: Way, m: u32, s: &[u8], d: &mut [u8])
 
 // The item at byte p of s: where the next one stands.
 fn item(w: Way, s: &[u8], p: usize, d: &mut [u8]) -> usize
-    requires { ⌜ (p ≤ length (now s)) × (length (now d) ≡ length (now s)) ⌝ }
+    requires { ⌜ AtLeast p (now s) (now d) ⌝ }
     ensures { λ r. ⌜ (r ≤ length (now (s .entry))) × ((b : ℕ) (ok : ℕ → Bool) (x : R.Item) (e : ℕ) →
         see (w .from) b (now (s .entry)) (b + p) (R.item ok (length (now (s .entry)) - p)) ≡ goes x e → (e ≡ b + r) ×
         (r ≡ p + R.itemSize x) ×
@@ -166,7 +167,7 @@ fn item(w: Way, s: &[u8], p: usize, d: &mut [u8]) -> usize
 
 // The body of a record 130 or 200.
 pub fn items_body(w: Way, s: &[u8], d: &mut [u8])
-    requires { ⌜ (8 ≤ length (now s)) × (length (now d) ≡ length (now s)) ⌝ }
+    requires { ⌜ AtLeast 8 (now s) (now d) ⌝ }
     ensures { λ _. ⌜ ((b : ℕ) (ok : ℕ → Bool) (l : List R.Item) (e : ℕ) →
         see (w .from) b (now (s .entry)) b (R.itemsBody ok (16 + length (now (s .entry)))) ≡ goes l e →
         now (d .exit) ≡ copy w b (now (s .entry)) b (R.itemsBody ok (16 + length (now (s .entry))))) ⌝ }
@@ -192,7 +193,7 @@ pub fn items_body(w: Way, s: &[u8], d: &mut [u8])
 
 // The samples, from byte p of s on, of the channel whose 125 stands at byte q of the file: where the next channel's stand.
 fn channel_samples(w: Way, file: &[u8], q: usize, t: u32, s: &[u8], p: usize, d: &mut [u8]) -> usize
-    requires { ⌜ (q + 256 ≤ length (now file)) × (t ≤ 3600) × (p ≤ length (now s)) × (length (now d) ≡ length (now s)) ⌝ }
+    requires { ⌜ SamplesPart (now file) q t (now s) p (now d) ⌝ }
     ensures { λ r. ⌜ (r ≤ length (now (s .entry))) × ((b : ℕ) (c : R.Channel) (cs : List R.Channel) →
         Kept (w .from) (now (file .entry)) q (c ∷ cs) → p + R.samplesIn t c * R.width (c .format) ≤ length (now (s .entry)) →
         (r ≡ p + R.samplesIn t c * R.width (c .format)) ×
@@ -236,7 +237,7 @@ pub fn widths_of(o: Order, file: &[u8], cs: Channels) -> Widths
 
 // The samples of a frame whose channels have one width: they are one run.
 fn one_run(w: Way, width: usize, s: &[u8], d: &mut [u8])
-    requires { ⌜ (2 ≤ width) × (width ≤ 4) × (8 ≤ length (now s)) × (length (now d) ≡ length (now s)) ⌝ }
+    requires { ⌜ OneWidth width (now s) (now d) ⌝ }
     ensures { λ _. ⌜ ((b n : ℕ) → length (now (s .entry)) ≡ 8 + n * width →
         now (d .exit) ≡ pasted (now (d .entry)) 8 (copy w b (now (s .entry)) (b + 8) (R.numberList width n))) ⌝ }
 {
@@ -248,8 +249,7 @@ fn one_run(w: Way, width: usize, s: &[u8], d: &mut [u8])
 
 // A frame's clock and its samples, in one run or channel by channel; the 125s stand in the file.
 pub fn frame_body(w: Way, file: &[u8], cs: Channels, widths: Widths, t: u32, s: &[u8], d: &mut [u8])
-    requires { ⌜ (cs .subs + 256 * cs .count ≤ length (now file)) × (widths ≡ widthsIn (w .from) (now file) (cs .subs) (cs .count)) × (t ≤ 3600) ×
-        (8 ≤ length (now s)) × (length (now d) ≡ length (now s)) ⌝ }
+    requires { ⌜ FramePart (w .from) (now file) cs widths t (now s) (now d) ⌝ }
     ensures { λ _. ⌜ ((b : ℕ) (ch : List R.Channel) → length ch ≡ cs .count → Kept (w .from) (now (file .entry)) (cs .subs) ch →
         length (now (s .entry)) ≡ 8 + R.sampleBytes t ch → now (d .exit) ≡ copy w b (now (s .entry)) b (filling t ch)) ⌝ }
 {

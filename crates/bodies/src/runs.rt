@@ -1,12 +1,14 @@
 // Runs of numbers, reserve areas and the letter of an order, written anew.
 ghost use mathlib.Core.Path.{_≡_};
 ghost use mathlib.Core.List.{[], _∷_};
-ghost use Prim.Native.Nat.{ℕ, _*_, _≤_};
+ghost use Prim.Native.Nat.{ℕ};
 ghost use lib.ListN.{length};
 ghost use Rattle.words.specs.declared.Order.the-variants.{Little};
 ghost use Rattle.walk.specs.Walk.{laid, Letter, reserve};
 ghost use Rattle.rules.specs.Rules as R;
-ghost use Rattle.bodies.specs.Copy.{copy, sameOrder};
+ghost use Rattle.bodies.specs.Copy.{copy};
+ghost use Rattle.bodies.specs.Orders.{sameOrder};
+ghost use Rattle.bodies.specs.Asks.{NumbersPart};
 use crate::Way;
 use bulk::clear_run;
 use bulk::copy_run;
@@ -44,7 +46,7 @@ pub fn letter(o: Order) -> u8
 
 // A run of n numbers of a width.
 pub fn numbers(w: Way, width: usize, n: usize, s: &[u8], d: &mut [u8])
-    requires { ⌜ (2 ≤ width) × (width ≤ 4) × (length (now s) ≡ n * width) × (length (now d) ≡ n * width) ⌝ }
+    requires { ⌜ NumbersPart width n (now s) (now d) ⌝ }
     ensures { λ _. ⌜ ((b : ℕ) → now (d .exit) ≡ copy w b (now (s .entry)) b (R.numberList width n)) ⌝ }
 {
     let from = w.from;

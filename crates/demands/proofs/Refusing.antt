@@ -36,7 +36,7 @@ use Rattle.recordings.proofs.Chosen.{in-between}
 use Rattle.samples.specs.Frames.{frameOf, samplesOf}
 use Rattle.records.specs.declared.items.Holder.{Holder}
 use Rattle.questions.specs.Questions.{factsOf, channelOf, itemOf, itemIn, itemsOf, clockOf, countOf, sampleOf}
-use Rattle.bodies.specs.Copy.{sameOrder}
+use Rattle.bodies.specs.Orders.{sameOrder}
 use Rattle.makers.specs.Makers.{firstMaker}
 use Rattle.permit.specs.Permit as Permit
 use Rattle.permit.specs.Permit.{permitted, Writes}

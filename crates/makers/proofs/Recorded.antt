@@ -12,7 +12,8 @@ use Rattle.rules.specs.Rules.{Held, Placed, makerCode}
 use Rattle.children.specs.Children.{Said, said, _then_, RecordAt}
 use Rattle.children.specs.Recordings.{OfBody, OfRecording, rowsOf}
 use Rattle.children.proofs.Recordings.{bodyOf, within, recording-ends, Sofar, sofar-next, sofar-end}
-use Rattle.makers.specs.Makers.{firstMaker, found, First}
+use Rattle.makers.specs.Makers.{firstMaker}
+use Rattle.makers.specs.Search.{found, First}
 use Rattle.makers.specs.declared.MakerField.{MakerField}
 use Rattle.makers.specs.declared.MakerField.the-variants as MakerField
 use Rattle.makers.proofs.Search.{first-some, first-append, first-row}

@@ -15,7 +15,7 @@ use Rattle.children.specs.Children.{Said, said, _then_, Known, knownOf, Inner, 
 use Rattle.children.specs.Recordings.{OfBody}
 use Rattle.children.proofs.Chained.{body-chain}
 use Rattle.children.proofs.Visiting.{chain-parted, chain-closed}
-use Rattle.rows.specs.Rows.{seriesRows, channelRows, frameRows, heldRows}
+use Rattle.rows.specs.Listing.{seriesRows, channelRows, frameRows, heldRows}
 use Rattle.rows.proofs.Body.{inner-rows, closed-rows}
 use Rattle.makers.specs.Makers.{firstMaker}
 

@@ -1,1 +1,2 @@
 pub mod Makers
+pub mod Search

@@ -6,7 +6,7 @@ ghost use lib.ListN.{length};
 ghost use Rattle.words.specs.Sizes.{Addressable};
 ghost use Rattle.records.specs.Asks.{PartAt};
 ghost use Rattle.children.specs.Recordings.{OfBody, OfFile};
-ghost use Rattle.makers.specs.Makers.{First, SearchedAs, refusalF};
+ghost use Rattle.makers.specs.Search.{First, SearchedAs, refusalF};
 use children::Direct;
 use rules::FileHeader;
 use rules::Head;

@@ -1,6 +1,6 @@
 // Leave to write: no maker's record stands in the way, and there is room.
 ghost use mathlib.Core.Path.{_≡_};
-ghost use Rattle.makers.specs.Makers.{found};
+ghost use Rattle.makers.specs.Search.{found};
 ghost use Rattle.permit.specs.Permit.{meaning, barring, within, earlier, permitted};
 use makers::MakerField;
 use rules::Refusal;

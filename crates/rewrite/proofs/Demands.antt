@@ -18,7 +18,7 @@ use Rattle.rules.proofs.Rewrite.{rewrite-canonical, rewrite-order, rewrite-turn
 use Rattle.rules.proofs.Turn.{turn-judge}
 use Rattle.header.specs.Opened.{lettered}
 use Rattle.header.specs.declared.Lettered.the-variants as Lettered
-use Rattle.bodies.specs.Copy.{sameOrder}
+use Rattle.bodies.specs.Orders.{sameOrder}
 use Rattle.makers.specs.Makers.{firstMaker}
 use Rattle.permit.specs.declared.Written.{Written}
 use Rattle.permit.specs.declared.Written.the-variants as Written

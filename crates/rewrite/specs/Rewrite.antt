@@ -11,7 +11,7 @@ use Rattle.rules.specs.Canonical as C
 use Rattle.header.specs.Opened.{lettered}
 use Rattle.header.specs.declared.Lettered.{Lettered}
 use Rattle.header.specs.declared.Lettered.the-variants as Lettered
-use Rattle.bodies.specs.Copy.{sameOrder}
+use Rattle.bodies.specs.Orders.{sameOrder}
 use Rattle.makers.specs.Makers.{firstMaker}
 use Rattle.permit.specs.Permit.{Answer, refusal, permitted, settled, Writes}
 use Rattle.permit.specs.declared.Written.{Written}

@@ -20,7 +20,7 @@ use Rattle.rules.specs.Rules.{Head, head, admit, span, coded, fixed, zeros, pad
 use Rattle.rules.proofs.Room.{stays-channel, stays-frame}
 use Rattle.records.proofs.Facts.{both-true, both-false}
 use Rattle.records.proofs.Opened.{opened, admit-went, require-went, not-admitted}
-use Rattle.rows.specs.Rows.{seriesRows}
+use Rattle.rows.specs.Listing.{seriesRows}
 
 silent-zeros : (bs : List ℕ) → Silent (zeros bs)
 unfolding zeros

@@ -15,7 +15,7 @@ use Rattle.records.specs.Says.{headOf}
 use Rattle.children.specs.Children.{Said, said, _then_, RecordAt}
 use Rattle.children.specs.Recordings.{OfBody, OfRecording}
 use Rattle.children.proofs.Recordings.{bodyOf, within, recording-ends, recording-head, Sofar, sofar-next}
-use Rattle.rows.specs.Rows.{Wrote}
+use Rattle.rows.specs.Listing.{Wrote}
 use Rattle.rows.proofs.Written.{wrote-join}
 
 -- the row of the recording that the cursor found at p, and those of its body

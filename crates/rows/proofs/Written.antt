@@ -11,7 +11,8 @@ use lib.ListN.{length, take, drop, set, length-append, length-take, length-drop,
 use lib.Seq.{sets-eq, take-at, drop-append-add, drop-drop, length-take-le}
 use Rattle.words.specs.Values.{signed}
 use Rattle.walk.specs.Walk.{Row}
-use Rattle.rows.specs.Rows.{numbers, flat, written, behind, seriesRows, Wrote}
+use Rattle.rows.specs.Rows.{numbers, flat, written}
+use Rattle.rows.specs.Listing.{behind, seriesRows, Wrote}
 
 pub length-flat : (rs : List Row) → length (flat rs) ≡ 4 * length rs
 unfolding flat

@@ -16,7 +16,8 @@ use Rattle.rules.specs.declared.FileHeader.{FileHeader}
 use Rattle.judge.specs.Judged.{AcceptedAs}
 use Rattle.judge.proofs.Accepted.{went, listed}
 use Rattle.children.specs.Recordings.{OfFile}
-use Rattle.rows.specs.Rows.{written, Wrote}
+use Rattle.rows.specs.Rows.{written}
+use Rattle.rows.specs.Listing.{Wrote}
 use Rattle.table.specs.Table.{Answer, rows, refusal, meaning, answerOf, afterwards, counted, kept, Lists}
 use Rattle.table.specs.declared.Listed.{Listed}
 use Rattle.table.specs.declared.Listed.the-variants as Listed

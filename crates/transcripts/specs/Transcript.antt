@@ -15,6 +15,21 @@ use Rattle.children.specs.Children.{Said, Known, Inner}
 use Rattle.bodies.specs.Copy.{copy, Pastes}
 use Rattle.bodies.specs.declared.Way.{Way}
 
+-- what the code asks: q is a place in the part s, and k one in the buffer
+pub record PlacesIn (s : List ℕ) (q : ℕ) (out : List ℕ) (k : ℕ) : Type 0 where
+  -- what is read stands before it, or from it on
+  pub source : q ≤ length s
+  -- the next bytes go there
+  pub target : k ≤ length out
+
+-- a record from byte p up to q of the part s, which goes to byte k of the buffer
+pub record RecordFrom (s : List ℕ) (p q : ℕ) (out : List ℕ) (k : ℕ) : Type 0 where
+  -- with its head
+  pub headed : p + 16 ≤ q
+  pub inside : q ≤ length s
+  -- the next bytes go there
+  pub target : k ≤ length out
+
 -- what is said, written anew
 abbrev pub anew : Way → Said → List ℕ
 anew w l = written (w .keep) (w .to) (l .events)

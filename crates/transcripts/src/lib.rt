@@ -5,7 +5,7 @@ ghost use Prim.Native.Nat.{ℕ, _+_, _≤_};
 ghost use lib.ListN.{length};
 ghost use Rattle.rules.specs.Rules as R;
 ghost use Rattle.bodies.specs.Copy.{copy, Pastes};
-ghost use Rattle.transcripts.specs.Transcript.{Anew, Itemized, Bodied, Transcribed};
+ghost use Rattle.transcripts.specs.Transcript.{PlacesIn, RecordFrom, Anew, Itemized, Bodied, Transcribed};
 use bodies::Way;
 use bodies::basic_body;
 use bodies::channels_body;
@@ -36,7 +36,7 @@ pub fn text(s: &[u8], out: &mut [u8], k: usize) -> usize
 
 // The head at byte p of s, if there is room for it.
 pub fn head(w: Way, s: &[u8], p: usize, out: &mut [u8], k: usize) -> usize
-    requires { ⌜ (p + 16 ≤ length (now s)) × (k ≤ length (now out)) ⌝ }
+    requires { ⌜ PlacesIn (now s) (p + 16) (now out) k ⌝ }
     ensures { λ r. ⌜ (r ≤ length (now (out .entry))) × ((b room : ℕ) →
         Pastes (now (out .entry)) (now (out .exit)) k r (copy w b (now (s .entry)) (b + p) (R.head room))) ⌝ }
 {
@@ -118,7 +118,7 @@ fn body(w: Way, code: u32, s: &[u8], d: &mut [u8])
 
 // A record of a recording, but no 140, with the head h and up to byte `end` of the part s: where the next bytes go.
 pub fn transcribe(w: Way, s: &[u8], h: Head, end: usize, out: &mut [u8], k: usize) -> usize
-    requires { ⌜ (h .at + 16 ≤ end) × (end ≤ length (now s)) × (k ≤ length (now out)) ⌝ }
+    requires { ⌜ RecordFrom (now s) (h .at) end (now out) k ⌝ }
     ensures { λ r. ⌜ Transcribed w (now (s .entry)) h end (now (out .entry)) (now (out .exit)) k r ⌝ }
 {
     let p = h.at;

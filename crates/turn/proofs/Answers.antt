@@ -27,7 +27,8 @@ use Rattle.permit.specs.Permit.{Answer, bytes, refusal, meaning, permitted}
 use Rattle.permit.specs.declared.Written.{Written}
 use Rattle.permit.specs.declared.Written.the-variants as Written
 use Rattle.permit.proofs.Settled.{stopped, wrote}
-use Rattle.turn.specs.Turn.{turning, answerOf, Turns}
+use Rattle.turn.specs.Turn.{answerOf, Turns}
+use Rattle.turn.specs.Steps.{turning}
 
 -- a file that is refused
 pub turns-refused : (s out : List ℕ) {n p : ℕ} → R.judge s ≡ refused n p → Turns s out out (Written.Refused (record { 0 = n; 1 = p }))

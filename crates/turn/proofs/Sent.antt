@@ -42,7 +42,7 @@ use Rattle.bodies.specs.declared.Way.{Way}
 use Rattle.bodies.proofs.Copying.{copy-bind, copy-admit, copy-part, length-copy, holds-join, pastes-join, pastes-nothing}
 use Rattle.transcripts.specs.Transcript.{anew, Copied, Transcribed}
 use Rattle.transcripts.proofs.Transcribing.{inner-140, anew-then, Copying, copying-none, copying-more, closed-bytes}
-use Rattle.turn.specs.Turn.{FramesSent, ChildSent, LastSent}
+use Rattle.turn.specs.Steps.{FramesSent, ChildSent, LastSent}
 use Rattle.turn.proofs.Turning.{filled-first, read-part, copy-require}
 
 -- a record of a recording: its 140, or any other

@@ -35,7 +35,7 @@ use Rattle.bodies.specs.declared.Way.{Way}
 use Rattle.bodies.proofs.Copying.{copy-give, copy-part, length-copy, pastes-join}
 use Rattle.transcripts.specs.Transcript.{anew}
 use Rattle.transcripts.proofs.Transcribing.{behind, padding-stands}
-use Rattle.turn.specs.Turn.{FramesSent}
+use Rattle.turn.specs.Steps.{FramesSent}
 
 -- bytes written front to back: the first of them, and a part behind what stands
 pub filled-first : (d₀ ys : List ℕ) (m : ℕ) → length ys ≡ m → ys ++ drop m d₀ ≡ pasted d₀ 0 ys

@@ -1,14 +1,14 @@
 // Record 140 and its frames, turned into a part of the same length.
 ghost use mathlib.Core.Path.{_≡_};
 ghost use mathlib.Core.List.{List};
-ghost use Prim.Native.Nat.{ℕ, _+_, _*_, _≤_};
+ghost use Prim.Native.Nat.{ℕ, _+_};
 ghost use lib.ListN.{length};
 ghost use Rattle.words.specs.Numbers.{numberAt};
 ghost use Rattle.walk.specs.See.{see, goes};
 ghost use Rattle.rules.specs.Rules as R;
 ghost use Rattle.records.specs.Says.{ChannelsStand};
-ghost use Rattle.bodies.specs.Copy.{widthsIn, copy};
-ghost use Rattle.turn.specs.Turn.{FramesFrom, FramesPasted, ChildFrom, FramesSent};
+ghost use Rattle.bodies.specs.Copy.{copy};
+ghost use Rattle.turn.specs.Steps.{FrameFrom, FramesIn, FramesFrom, FramesPasted, ChildFrom, FramesSent};
 use bodies::Way;
 use bodies::Widths;
 use bodies::fits;
@@ -34,8 +34,7 @@ fn frame(
     s: &[u8],
     d: &mut [u8],
 )
-    requires { ⌜ (cs .subs + 256 * cs .count ≤ length (now file)) × (t ≤ 3600) × (24 ≤ filled) × (filled ≤ length (now s)) ×
-        (length (now d) ≡ length (now s)) × (widths ≡ widthsIn (w .from) (now file) (cs .subs) (cs .count)) ⌝ }
+    requires { ⌜ FrameFrom (w .from) (now file) cs widths t filled (now s) (now d) ⌝ }
     ensures { λ _. ⌜ ((b room i : ℕ) (ch : List R.Channel) → ChannelsStand (w .from) (now (file .entry)) cs ch →
         filled ≡ 24 + R.sampleBytes t ch → now (d .exit) ≡ copy w b (now (s .entry)) b (R.frame (length (now (s .entry))) t ch room i)) ⌝ }
 {
@@ -65,8 +64,7 @@ fn frames_body(
     s: &[u8],
     d: &mut [u8],
 )
-    requires { ⌜ (cs .subs + 256 * cs .count ≤ length (now file)) × (t ≤ 3600) × (24 ≤ filled) × (filled ≤ size) ×
-        (16 + size * count ≤ length (now s)) × (length (now d) ≡ length (now s)) ⌝ }
+    requires { ⌜ FramesIn (now file) cs t filled size count (now s) (now d) ⌝ }
     ensures { λ _. ⌜ ((b : ℕ) (c : R.Basic) (ch : List R.Channel) (hd : R.Head) (f : R.Frames) (e : ℕ) →
         ChannelsStand (w .from) (now (file .entry)) cs ch → filled ≡ 24 + R.sampleBytes t ch →
         numberAt (w .from) 4 (now (s .entry)) 0 ≡ t → numberAt (w .from) 4 (now (s .entry)) 4 ≡ size →

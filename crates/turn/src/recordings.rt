@@ -2,16 +2,17 @@
 ghost use mathlib.Core.Path.{_≡_};
 ghost use mathlib.Core.List.{List, _++_};
 ghost use mathlib.Core.Option.{Option, none};
-ghost use Prim.Native.Nat.{ℕ, _-_, _≤_};
+ghost use Prim.Native.Nat.{ℕ, _-_};
 ghost use lib.ListN.{length};
-ghost use Rattle.words.specs.Sizes.{Addressable};
 ghost use Rattle.words.specs.Numbers as N;
 ghost use Rattle.words.specs.Runs.{pasted};
 ghost use Rattle.walk.specs.See.{see, goes};
 ghost use Rattle.rules.specs.Rules as R;
-ghost use Rattle.records.specs.Says.{subsAt, ChannelsIn, ChannelsStand};
+ghost use Rattle.records.specs.Says.{subsAt, ChannelsStand};
 ghost use Rattle.bodies.specs.Copy.{copy};
-ghost use Rattle.turn.specs.Turn.{turning, ChildFrom, BodyFrom, ChildSent, LastSent, BodySent};
+ghost use Rattle.bodies.specs.Asks.{Both};
+ghost use Rattle.transcripts.specs.Transcript.{PlacesIn};
+ghost use Rattle.turn.specs.Steps.{turning, ChildFrom, BodyFrom, RecordingFrom, FileFrom, ChildSent, LastSent, BodySent};
 use bodies::Way;
 use bodies::runs::letter;
 use bulk::copy_run;
@@ -39,7 +40,7 @@ fn other(o: Order) -> Order
 
 // The file header, with the letter of the order that is written.
 fn header(w: Way, s: &[u8], d: &mut [u8])
-    requires { ⌜ (length (now s) ≡ 32) × (length (now d) ≡ 32) ⌝ }
+    requires { ⌜ Both 32 (now s) (now d) ⌝ }
     ensures { λ _. ⌜ ((n : ℕ) (f : R.FileHeader) (e : ℕ) → see (w .from) 0 (now (s .entry)) 0 (R.fileHeader n) ≡ goes f e →
         now (d .exit) ≡ copy w 0 (now (s .entry)) 0 (R.fileHeader n)) ⌝ }
 {
@@ -70,7 +71,7 @@ fn child(
 
 // The delimiter at byte p of a recording's body s, and what pads the recording.
 fn last(w: Way, s: &[u8], p: usize, out: &mut [u8], k: usize)
-    requires { ⌜ (p ≤ length (now s)) × (k ≤ length (now out)) ⌝ }
+    requires { ⌜ PlacesIn (now s) p (now out) k ⌝ }
     ensures { λ _. ⌜ LastSent w (now (s .entry)) p (now (out .entry)) (now (out .exit)) k ⌝ }
 {
     if s.len() - p < Delimiter::LENGTH {
@@ -102,8 +103,7 @@ fn body(w: Way, file: &[u8], cs: Channels, s: &[u8], base: usize, out: &mut [u8]
 
 // The recording from byte p of the file on, which has these places.
 fn recording(w: Way, file: &[u8], p: usize, q: Places, out: &mut [u8])
-    requires { ⌜ (p ≤ q .end) × (q .end ≤ length (now file)) × Addressable (length (now file)) × (length (now file) ≤ length (now out)) ×
-        ChannelsIn (length (now file)) (subsAt (q .channels) (q .count)) ⌝ }
+    requires { ⌜ RecordingFrom (now file) p q (now out) ⌝ }
     ensures { λ _. ⌜ ((held : Option R.Held) (i : ℕ) (x : R.Placed) →
         see (w .from) 0 (now (file .entry)) p (R.recording held (length (now (file .entry)) - p) i) ≡ goes x (q .end) →
         ChannelsStand (w .from) (now (file .entry)) (subsAt (q .channels) (q .count)) (x .recording .channels) →
@@ -124,7 +124,7 @@ fn recording(w: Way, file: &[u8], p: usize, q: Places, out: &mut [u8])
 
 // A file with so many recordings.
 pub fn file_turned(o: Order, file: &[u8], count: u32, out: &mut [u8])
-    requires { ⌜ (32 ≤ length (now file)) × Addressable (length (now file)) × (length (now file) ≤ length (now out)) ⌝ }
+    requires { ⌜ FileFrom (now file) (now out) ⌝ }
     ensures { λ _. ⌜ ((f : R.FileHeader) (ps : List R.Placed) (e : ℕ) →
         see o 0 (now (file .entry)) 0 (R.fileHeader (length (now (file .entry)))) ≡ goes f 32 →
         see o 0 (now (file .entry)) 32 (R.recordings count none (length (now (file .entry)) - 32) 1) ≡ goes ps e →

@@ -10,9 +10,13 @@ returns c =
     let b = c .before .before in
     rw (c .bits4 .ensures, c .before .bits3 .ensures, b .bits2 .ensures, b .before .bits .ensures, b .before .before .before .c .given .1)
 
+-- what was known behind the words, which fit
+abbrev told : tie.After-word4 → tie.After-known-told2
+told c = c .before .before .before .before
+
 returns-2 : tie.Need-returns-2
 returns-2 c =
-    let x = c .before .before .before .before in
+    let x = told c in
     let v = x .before .c2 .given .0 in
     let f = x .known-told2 .given in
     rw (

@@ -15,7 +15,7 @@ slice-aggregate-numbers-2 : tie.Need-slice-aggregate-numbers-2
 slice-aggregate-numbers-2 c = simp length-take (omega arith)
 
 numbers-requires : tie.Need-numbers-requires
-numbers-requires c κs = (omega arith, omega arith, simp length-take (omega arith), simp length-take (omega arith))
+numbers-requires c κs = record { wide = record { least = omega arith; most = omega arith }; run = record { source = simp length-take (omega arith); room = simp length-take (omega arith) } }
 
 -- what was known behind the second call
 abbrev far : tie.After-slice-known7 → tie.After-slice-known3
@@ -36,20 +36,39 @@ part-copy-run-start-4 c = omega (arith, far (c .before))
 copy-run-requires-2 : tie.Need-copy-run-requires-2
 copy-run-requires-2 c κs = omega (arith, far (c .before .before))
 
+-- what was known at the start, behind each call that is cited, and before the last
+abbrev near : tie.After-slice-known8 → tie.After-slice-known7
+near c = c .before .before .before .before .before
+
+abbrev at-numbers3 : tie.After-slice-known8 → tie.After-numbers3
+at-numbers3 c = near c .before .before .before .before .before .before .before
+
+abbrev at-copy-run : tie.After-slice-known8 → tie.After-copy-run
+at-copy-run c = at-numbers3 c .before .before .before .before .before
+
+abbrev at-numbers2 : tie.After-slice-known8 → tie.After-numbers2
+at-numbers2 c = at-copy-run c .before .before .before .before .before
+
+abbrev at-numbers : tie.After-slice-known8 → tie.After-numbers
+at-numbers c = at-numbers2 c .before .before .before .before .before .before .before .before .before .before
+
+abbrev start : tie.After-slice-known8 → tie.Start
+start c = at-numbers c .before .before .before .before .before
+
 same-length : tie.Need-same-length
-same-length c = omega (arith, far (c .before .before .before .before .before))
+same-length c = omega (arith, far (near c))
 
 returns : tie.Need-returns
 returns c =
-    let start = c .before .before .before .before .before .before .before .before .before .before .before .before .before .before .before .before .before .before .before .before .before .before .before .before .before .before .before .before .before .before .before .before .before .before .before .before .before in
-    let a = start .args in
-    basicBody-written (a .w) (a .s .now) (a .d .now) _ _ _ _ _ _ _ (start .pre .0) (start .pre .1 ∙ sym (start .pre .0))
-    (c .before .before .before .before .before .before .before .before .before .before .before .before .before .before .before .before .before .before .before .before .before .before .before .before .before .before .before .before .before .before .before .before .numbers .ensures)
-    (c .before .before .before .before .before .before .before .before .before .before .before .before .before .before .before .before .before .before .before .before .before .before .before .before .before .before .before .reserved .ensures)
-    (c .before .before .before .before .before .before .before .before .before .before .before .before .before .before .before .before .before .before .before .before .before .before .numbers2 .ensures)
-    (c .before .before .before .before .before .before .before .before .before .before .before .before .before .before .before .before .before .copy-run .ensures)
-    (c .before .before .before .before .before .before .before .before .before .before .before .before .numbers3 .ensures)
-    (c .before .before .before .before .before .before .before .reserved2 .ensures)
+    let z = start c in
+    let a = z .args in
+    basicBody-written (a .w) (a .s .now) (a .d .now) _ _ _ _ _ _ _ (z .pre .source) (z .pre .room ∙ sym (z .pre .source))
+    (at-numbers c .numbers .ensures)
+    (far (near c) .before .before .reserved .ensures)
+    (at-numbers2 c .numbers2 .ensures)
+    (at-copy-run c .copy-run .ensures)
+    (at-numbers3 c .numbers3 .ensures)
+    (near c .before .before .reserved2 .ensures)
     (c .before .before .copy-run2 .ensures)
 
 pub basic-body-spec : {M : Type 1} → statement M

@@ -40,10 +40,23 @@ mul-bytes c = record { fits = omega (arith, bytes-short (c .before .width .resul
 sub-if1 : tie.Need-sub-if1
 sub-if1 c = search needs
 
+-- what was known at the start, and behind `number42`, `width` and `samples-in`
+abbrev at-width : tie.After-numbers-arg2 → tie.After-width
+at-width c = c .before .before .before .before
+
+abbrev at-number42 : tie.Then1 → tie.After-number42
+at-number42 c = c .before .before .before .before
+
+abbrev at-samples-in : tie.After-slice-known2 → tie.After-samples-in
+at-samples-in c = c .before .before .before .before .before .before
+
+abbrev start : tie.After-samples-in → tie.Start
+start c = c .before .before .before .before .before .before .before .before
+
 returns : tie.Need-returns
 returns c =
-    let a = c .before .before .before .before .before .before .before .before .before .args in
-    (search needs, λ b x cs k. samples-past (a .w) _ (a .q) (a .t) _ _ _ _ _ (c .before .before .before .before .before .number4 .ensures .0) (c .before .before .before .before .number42 .ensures .0) (c .before .before .before .number43 .ensures .0) (c .before .before .width .ensures .0) (c .before .samples-in .ensures .0) (now (a .s)) (now (a .d)) (a .p) x cs k (c .if1 .taken) (c .before .before .before .before .before .before .before .before .before .pre .2))
+    let a = start (c .before) .args in
+    (search needs, λ b x cs k. samples-past (a .w) _ (a .q) (a .t) _ _ _ _ _ (at-number42 c .before .number4 .ensures .0) (at-number42 c .number42 .ensures .0) (c .before .before .before .number43 .ensures .0) (c .before .before .width .ensures .0) (c .before .samples-in .ensures .0) (now (a .s)) (now (a .d)) (a .p) x cs k (c .if1 .taken) (start (c .before) .pre .part .least))
 
 add-end : tie.Need-add-end
 add-end c = search needs
@@ -68,15 +81,15 @@ part-numbers-end-2 c = search needs
 
 numbers-requires : tie.Need-numbers-requires
 numbers-requires c κs =
-    (rw (c .before .before .before .before .width .ensures .0) (sample-wide _ .0), c .before .before .before .before .width .ensures .1, simp (length-take, length-drop) (omega arith), simp (length-take, length-drop) (omega arith))
+    record { wide = record { least = rw (at-width c .width .ensures .0) (sample-wide _ .0); most = at-width c .width .ensures .1 }; run = record { source = simp (length-take, length-drop) (omega arith); room = simp (length-take, length-drop) (omega arith) } }
 
 same-length : tie.Need-same-length
 same-length c = search needs
 
 returns-2 : tie.Need-returns-2
 returns-2 c =
-    let a = c .before .before .before .before .before .before .before .before .before .before .before .before .before .before .args in
-    (search needs, λ b x cs k _. samples-copied (a .w) _ (a .q) (a .t) _ _ _ _ _ (c .before .before .before .before .before .before .before .before .before .before .number4 .ensures .0) (c .before .before .before .before .before .before .before .before .before .number42 .ensures .0) (c .before .before .before .before .before .before .before .before .number43 .ensures .0) (c .before .before .before .before .before .before .before .width .ensures .0) (c .before .before .before .before .before .before .samples-in .ensures .0) (now (a .s)) (now (a .d)) (a .p) x cs k _ _ (add-sub-cancel-left _ _) (omega arith) (c .before .before .numbers .ensures) b)
+    let a = start (at-samples-in c) .args in
+    (search needs, λ b x cs k _. samples-copied (a .w) _ (a .q) (a .t) _ _ _ _ _ (at-width (c .before .before .before) .before .before .before .number4 .ensures .0) (at-samples-in c .before .before .before .number42 .ensures .0) (at-samples-in c .before .before .number43 .ensures .0) (at-samples-in c .before .width .ensures .0) (at-samples-in c .samples-in .ensures .0) (now (a .s)) (now (a .d)) (a .p) x cs k _ _ (add-sub-cancel-left _ _) (omega arith) (c .before .before .numbers .ensures) b)
 
 pub channel-samples-spec : {M : Type 1} → statement M
 channel-samples-spec =

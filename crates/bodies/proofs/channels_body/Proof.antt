@@ -18,28 +18,41 @@ abbrev μ-loop : tie.MeasureT-loop
 slice-aggregate-numbers : tie.Need-slice-aggregate-numbers Inv-loop μ-loop
 slice-aggregate-numbers c = sym (length-take-le 8 (c .before .before .before .args .s .now) (omega arith))
 
+-- what was known at the start, in the loop, and behind the numbers, with the buffer handed back
+abbrev start : tie.After-numbers-arg2 Inv-loop μ-loop → tie.Start Inv-loop μ-loop
+start c = c .before .before .before .before
+
+abbrev in-loop : tie.After-slice-known4 Inv-loop μ-loop → tie.In-loop Inv-loop μ-loop
+in-loop c = c .before .before .before .before .before
+
+abbrev at-d : tie.After-slice-known3 Inv-loop μ-loop → tie.After-d Inv-loop μ-loop
+at-d c = c .before .before .before .before .before .before
+
+abbrev far-start : tie.After-slice-known4 Inv-loop μ-loop → tie.Start Inv-loop μ-loop
+far-start c = in-loop c .before .before .before .before .before .before .before .before .before .before .before .before .before .before
+
 slice-aggregate-numbers-2 : tie.Need-slice-aggregate-numbers-2 Inv-loop μ-loop
-slice-aggregate-numbers-2 c = sym (length-take-le 8 (c .before .before .before .before .args .d .now) (omega arith))
+slice-aggregate-numbers-2 c = sym (length-take-le 8 (start c .args .d .now) (omega arith))
 
 numbers-requires : tie.Need-numbers-requires Inv-loop μ-loop
-numbers-requires c κs = (omega arith, omega arith, length-take-le 8 (c .before .before .before .before .args .s .now) (omega arith), length-take-le 8 (c .before .before .before .before .args .d .now) (omega arith))
+numbers-requires c κs = record { wide = record { least = omega arith; most = omega arith }; run = record { source = length-take-le 8 (start c .args .s .now) (omega arith); room = length-take-le 8 (start c .args .d .now) (omega arith) } }
 
 loop-holds : tie.Need-loop-holds Inv-loop μ-loop
 loop-holds c =
-    let start = c .before .before .before .before .before .before .before .before .before .before .before .before in
-    let a = start .args in
-    channels-front (a .w) (a .m) (a .s .now) (a .d .now) _ _ (start .pre .0) (start .pre .1 ∙ sym (start .pre .0)) (c .before .d2 .given .1 ∙ c .before .before .before .before .before .before .d .given .1) (c .before .before .before .before .before .before .before .numbers .ensures) (c .before .before .reserved .ensures)
+    let z = start (at-d c .before .before) in
+    let a = z .args in
+    channels-front (a .w) (a .m) (a .s .now) (a .d .now) _ _ (z .pre .source) (z .pre .room ∙ sym (z .pre .source)) (c .before .d2 .given .1 ∙ at-d c .d .given .1) (at-d c .before .numbers .ensures) (c .before .before .reserved .ensures)
 
 loop-again : tie.Need-loop-again Inv-loop μ-loop
 loop-again c =
-    let l = c .before .before .before .before .before .before .loop in
-    let a = c .before .before .before .before .before .before .before .before .before .before .before .before .before .before .before .before .before .before .before .args in
-    channels-more (a .w) (a .m) (a .s .now) (l .d) (l .at) (l .i) (l .at + 256 - l .at) (l .at + 256) _ (c .before .before .before .before .before .loop-test .taken) (omega arith) (omega arith) (c .before .d3 .given .1) (c .before .before .channel .ensures) (l .inv)
+    let l = in-loop c .before .loop in
+    let a = far-start c .args in
+    channels-more (a .w) (a .m) (a .s .now) (l .d) (l .at) (l .i) (l .at + 256 - l .at) (l .at + 256) _ (in-loop c .loop-test .taken) (omega arith) (omega arith) (c .before .d3 .given .1) (c .before .before .channel .ensures) (l .inv)
 
 returns : tie.Need-returns Inv-loop μ-loop
 returns c =
     let l = c .before .loop in
-    let a = c .before .before .before .before .before .before .before .before .before .before .before .before .before .before .args in
+    let a = start (at-d (c .before .before) .before .before) .args in
     channels-all (a .w) (a .m) (a .s .now) (l .d) (l .at) (l .i) (omega arith) (l .inv)
 
 pub channels-body-spec : {M : Type 1} → statement M

@@ -30,7 +30,7 @@ slice-aggregate-numbers-2 : tie.Need-slice-aggregate-numbers-2 Inv-loop μ-loop
 slice-aggregate-numbers-2 c = simp length-take (omega arith)
 
 numbers-requires : tie.Need-numbers-requires Inv-loop μ-loop
-numbers-requires c κs = (omega arith, omega arith, simp length-take (omega arith), simp length-take (omega arith))
+numbers-requires c κs = record { wide = record { least = omega arith; most = omega arith }; run = record { source = simp length-take (omega arith); room = simp length-take (omega arith) } }
 
 sub-reserved : tie.Need-sub-reserved Inv-loop μ-loop
 sub-reserved c = search needs
@@ -56,30 +56,49 @@ reserved-requires c κs = search needs
 enum-known-widths : tie.Need-enum-known-widths Inv-loop μ-loop
 enum-known-widths c = search needs
 
+-- what was known at the start, at the head of the loop, and behind `numbers`, `reserved` and `widths`
+abbrev at-reserved : tie.After-enum-told Inv-loop μ-loop → tie.After-reserved Inv-loop μ-loop
+at-reserved c = c .before .before .before .before
+
+abbrev at-widths : tie.After-slice-known4 Inv-loop μ-loop → tie.After-widths Inv-loop μ-loop
+at-widths c = c .before .before .before .before .before
+
+abbrev top : tie.After-slice-known5 Inv-loop μ-loop → tie.At-loop Inv-loop μ-loop
+top c = c .before .before .before .before .before .before
+
+abbrev at-numbers : tie.After-reserved Inv-loop μ-loop → tie.After-numbers Inv-loop μ-loop
+at-numbers c = c .before .before .before .before .before
+
+abbrev at-reserved-2 : tie.After-widths Inv-loop μ-loop → tie.After-reserved Inv-loop μ-loop
+at-reserved-2 c = c .before .before .before .before
+
+abbrev start : tie.After-reserved Inv-loop μ-loop → tie.Start Inv-loop μ-loop
+start c = at-numbers c .before .before .before .before .before .before
+
 one-run-requires : tie.Need-one-run-requires Inv-loop μ-loop
 one-run-requires c κs =
-    let y = c .before .before .before .before .before .before .before .before .before .before .before .before .before .before .before .before .before in
-    let k = widths-told _ _ _ _ _ (rw (c .before .before .widths .given .1) at (y .pre .1)) in
-    (k .0, k .1, search needs, search needs)
+    let y = start (at-reserved-2 (c .before .before)) in
+    let k = widths-told _ _ _ _ _ (sym (c .before .before .widths .given .1) ∙ y .pre .wide) in
+    record { wide = record { least = k .0; most = k .1 }; clock = search needs }
 
 same-length : tie.Need-same-length Inv-loop μ-loop
 same-length c = search needs
 
 returns : tie.Need-returns Inv-loop μ-loop
 returns c =
-    let y = c .before .before .before .before .before .before .before .before .before .before .before .before .before .before .before .before .before .before .before .before in
+    let y = start (at-reserved-2 (at-widths c)) in
     let a = y .args in
-    let k = widths-told _ _ _ _ _ (rw (c .before .before .before .before .before .widths .given .1) at (y .pre .1)) in
-    body-once (a .w) (now (a .file)) (a .t) (now (a .s)) (a .cs .subs) (a .cs .count) _ (now (a .d)) _ _ _ (y .pre .4) (c .before .before .before .before .before .before .before .before .before .before .before .before .before .before .numbers .ensures) (c .before .before .before .before .before .before .before .before .before .reserved .ensures) (k .2) (c .before .before .one-run .ensures)
+    let k = widths-told _ _ _ _ _ (sym (at-widths c .widths .given .1) ∙ y .pre .wide) in
+    body-once (a .w) (now (a .file)) (a .t) (now (a .s)) (a .cs .subs) (a .cs .count) _ (now (a .d)) _ _ _ (y .pre .clock .room) (at-numbers (at-reserved-2 (at-widths c)) .numbers .ensures) (at-reserved-2 (at-widths c) .reserved .ensures) (k .2) (c .before .before .one-run .ensures)
 
 enum-told : tie.Need-enum-told Inv-loop μ-loop
 enum-told c = search needs
 
 loop-holds : tie.Need-loop-holds Inv-loop μ-loop
 loop-holds c =
-    let y = c .before .before .before .before .before .before .before .before .before .before .before .before .before .before .before in
+    let y = start (at-reserved c) in
     let a = y .args in
-    (search needs, search needs, search needs, search needs, λ b ch e k l. samples-begun (a .w) (now (a .file)) (a .t) (now (a .s)) _ (now (a .d)) _ _ (y .pre .4) (c .before .before .before .before .before .before .before .before .before .numbers .ensures) (c .before .before .before .before .reserved .ensures) b ch _ (e ∙ sym (sub-zero _)) k l)
+    (search needs, search needs, search needs, search needs, λ b ch e k l. samples-begun (a .w) (now (a .file)) (a .t) (now (a .s)) _ (now (a .d)) _ _ (y .pre .clock .room) (at-numbers (at-reserved c) .numbers .ensures) (at-reserved c .reserved .ensures) b ch _ (e ∙ sym (sub-zero _)) k l)
 
 channel-samples-requires : tie.Need-channel-samples-requires Inv-loop μ-loop
 channel-samples-requires c κs = search needs
@@ -95,7 +114,7 @@ loop-less c = search needs
 
 loop-again : tie.Need-loop-again Inv-loop μ-loop
 loop-again c =
-    let l = c .before .before .before .before .before .before .loop in
+    let l = top c .loop in
     let x = c .before .before .channel-samples in
     (search needs, omega arith, x .ensures .0, search needs, λ b ch e k n. samples-more _ _ _ _ (l .inv .4 b ch e k n) _ _ _ (omega arith) (x .ensures .1 b))
 

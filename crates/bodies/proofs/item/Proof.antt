@@ -23,14 +23,24 @@ number4-requires c κs = search needs
 cast-size : tie.Need-cast-size
 cast-size c = search needs
 
+-- what was known at the start, behind the second test, and behind `numbers`
+abbrev start : tie.After-number4 → tie.Start
+start c = c .before .before .before .before
+
+abbrev at-numbers : tie.After-slice-known3 → tie.After-numbers
+at-numbers c = c .before .before .before .before .before .before .before
+
+abbrev else2 : tie.After-slice-known3 → tie.Else2
+else2 c = at-numbers c .before .before .before .before
+
 returns-2 : tie.Need-returns-2
 returns-2 c =
-    let a = c .before .before .before .before .before .args in
+    let a = start (c .before) .args in
     (search needs, λ b ok x e g. absurd (let i = item-says b (now (a .s)) (a .p) ok _ (a .w .from) g in omega (arith, i .0, c .before .number4 .ensures .0)))
 
 returns-3 : tie.Need-returns-3
 returns-3 c =
-    let a = c .before .before .before .before .before .before .args in
+    let a = start (c .before .before) .args in
     (search needs, λ b ok x e g. absurd (let i = item-says b (now (a .s)) (a .p) ok _ (a .w .from) g in omega (arith, i .1, c .before .before .number4 .ensures .0)))
 
 add-text : tie.Need-add-text
@@ -86,9 +96,9 @@ same-length c = search needs
 
 returns-4 : tie.Need-returns-4
 returns-4 c =
-    let a = c .before .before .before .before .before .before .before .before .before .before .before .before .before .before .before .before .args in
-    let n = c .before .before .before .before .before .before .before .before .before .before .before .before .number4 in
-    (search needs, item-copied (a .w) (now (a .s)) (now (a .d)) (a .p) (n .result) _ _ (c .before .before .before .before .before .before .before .before .before .before .before .before .before .before .before .before .pre .1) (n .ensures .0) (omega (arith, c .before .before .before .before .before .before .before .before .before .before .before .if2 .left)) (omega (arith, c .before .before .before .before .before .before .before .before .before .before .if3 .left)) (add-sub-cancel-left (a .p) 8) (add-sub-add (a .p) (n .result) 8) _ _ (c .before .before .before .before .before .before .before .numbers .ensures) (c .before .before .copy-run .ensures))
+    let a = start (else2 c .before) .args in
+    let n = else2 c .before .number4 in
+    (search needs, item-copied (a .w) (now (a .s)) (now (a .d)) (a .p) (n .result) _ _ (start (else2 c .before) .pre .room) (n .ensures .0) (omega (arith, else2 c .if2 .left)) (omega (arith, at-numbers c .before .before .before .if3 .left)) (add-sub-cancel-left (a .p) 8) (add-sub-add (a .p) (n .result) 8) _ _ (at-numbers c .numbers .ensures) (c .before .before .copy-run .ensures))
 
 pub item-spec : {M : Type 1} → statement M
 item-spec =

@@ -34,7 +34,7 @@ slice-aggregate-numbers-2 : tie.Need-slice-aggregate-numbers-2 Inv-loop μ-loop
 slice-aggregate-numbers-2 c = simp length-take (omega arith)
 
 numbers-requires : tie.Need-numbers-requires Inv-loop μ-loop
-numbers-requires c κs = (omega arith, omega arith, simp length-take (omega arith), simp length-take (omega arith))
+numbers-requires c κs = record { wide = record { least = omega arith; most = omega arith }; run = record { source = simp length-take (omega arith); room = simp length-take (omega arith) } }
 
 sub-reserved : tie.Need-sub-reserved Inv-loop μ-loop
 sub-reserved c = search needs
@@ -57,10 +57,20 @@ part-reserved-end-2 c = search needs
 reserved-requires : tie.Need-reserved-requires Inv-loop μ-loop
 reserved-requires c κs = search needs
 
+-- what was known at the start, at the head of the loop, and behind `numbers`
+abbrev top : tie.After-slice-known4 Inv-loop μ-loop → tie.At-loop Inv-loop μ-loop
+top c = c .before .before .before .before .before
+
+abbrev at-numbers : tie.After-slice-known3 Inv-loop μ-loop → tie.After-numbers Inv-loop μ-loop
+at-numbers c = c .before .before .before .before .before .before .before
+
+abbrev start : tie.After-slice-known3 Inv-loop μ-loop → tie.Start Inv-loop μ-loop
+start c = at-numbers c .before .before .before .before .before .before
+
 loop-holds : tie.Need-loop-holds Inv-loop μ-loop
 loop-holds c =
-    let a = c .before .before .before .before .before .before .before .before .before .before .before .before .before .args in
-    (search needs, search needs, search needs, items-begun (a .w) (now (a .s)) _ (now (a .d)) _ _ (sub-zero _ ∙ c .before .before .before .before .before .before .before .before .before .before .number4 .ensures .0) (c .before .before .before .before .before .before .before .before .before .before .before .before .before .pre .0) (c .before .before .before .before .before .before .before .before .before .before .before .before .before .pre .1) (c .before .before .before .before .before .before .before .numbers .ensures) (c .before .before .reserved .ensures))
+    let a = start c .args in
+    (search needs, search needs, search needs, items-begun (a .w) (now (a .s)) _ (now (a .d)) _ _ (sub-zero _ ∙ at-numbers c .before .before .before .number4 .ensures .0) (start c .pre .least) (start c .pre .room) (at-numbers c .numbers .ensures) (c .before .before .reserved .ensures))
 
 item-requires : tie.Need-item-requires Inv-loop μ-loop
 item-requires c κs = search needs
@@ -73,7 +83,7 @@ loop-less c = search needs
 
 loop-again : tie.Need-loop-again Inv-loop μ-loop
 loop-again c =
-    let l = c .before .before .before .before .before .loop in
+    let l = top c .loop in
     let x = c .before .before .item in
     (search needs, x .ensures .0, search needs, λ b ok is e g. items-more _ _ (l .inv .3 b ok is e g) _ _ _ (omega arith) (x .ensures .0) (x .ensures .1 b ok))
 

@@ -41,20 +41,24 @@ part-numbers-start-2 c = search needs
 part-numbers-end-2 : tie.Need-part-numbers-end-2
 part-numbers-end-2 c = let a = c .before .before .before .args in omega (arith, div-mul-le-self (length (now (a .s)) - 8) (a .width))
 
+-- what was known at the start
+abbrev start : tie.After-numbers-arg2 → tie.Start
+start c = c .before .before .before .before
+
 numbers-requires : tie.Need-numbers-requires
 numbers-requires c κs =
-    let a = c .before .before .before .before .args in
+    let a = start c .args in
     let m = div-mul-le-self (length (now (a .s)) - 8) (a .width) in
-    (search needs, search needs, simp (length-take, length-drop) (omega (arith, m)), simp (length-take, length-drop) (omega (arith, m)))
+    record { wide = start c .pre .wide; run = record { source = simp (length-take, length-drop) (omega (arith, m)); room = simp (length-take, length-drop) (omega (arith, m)) } }
 
 same-length : tie.Need-same-length
 same-length c = search needs
 
 returns : tie.Need-returns
 returns c =
-    let a = c .before .before .before .before .before .before .before .args in
-    let p = c .before .before .before .before .before .before .before .pre in
-    run-copied (a .w) (now (a .s)) (now (a .d)) (a .width) _ _ _ (p .0) refl (add-sub-cancel-left _ _) (p .2) (c .before .before .numbers .ensures)
+    let a = start (c .before .before .before) .args in
+    let p = start (c .before .before .before) .pre in
+    run-copied (a .w) (now (a .s)) (now (a .d)) (a .width) _ _ _ (p .wide .least) refl (add-sub-cancel-left _ _) (p .clock .least) (c .before .before .numbers .ensures)
 
 pub one-run-spec : {M : Type 1} → statement M
 one-run-spec =

@@ -31,9 +31,16 @@ number4-requires c κs = search needs
 width-requires : tie.Need-width-requires Inv-loop μ-loop
 width-requires c κs = search needs
 
+-- what was known at the start, and at the head of the loop
+abbrev start : tie.After-width Inv-loop μ-loop → tie.Start Inv-loop μ-loop
+start c = c .before .before .before .before .before
+
+abbrev top : tie.After-width2 Inv-loop μ-loop → tie.At-loop Inv-loop μ-loop
+top c = c .before .before .before .before
+
 loop-holds : tie.Need-loop-holds Inv-loop μ-loop
 loop-holds c =
-    let a = c .before .before .before .before .before .args in
+    let a = start c .args in
     (search needs, omega (arith, c .before .before .if1 .left), search needs, c .width .ensures .0 ∙ ap R.width (c .before .number4 .ensures .0), ap (λ (n : ℕ). allWide (a .o) (now (a .file)) (a .cs .subs) n (c .width .result)) (sym (sub-zero (a .cs .count))))
 
 add-number4-2 : tie.Need-add-number4-2 Inv-loop μ-loop
@@ -47,8 +54,8 @@ width-requires-2 c κs = search needs
 
 returns-2 : tie.Need-returns-2 Inv-loop μ-loop
 returns-2 c =
-    let l = c .before .before .before .before .before .loop in
-    let y = c .before .before .before .before .before .before .before .before .before .before .before in
+    let l = top (c .before) .loop in
+    let y = start (top (c .before) .before) in
     widths-several _ _ _ _ _ (y .args .cs .count - 1) (omega arith) (l .inv .3) (l .inv .4 ∙ wide-other _ _ _ _ _ (y .args .cs .count - l .i - 1) (omega arith) (λ e. c .if3 .taken (c .before .width2 .ensures .0 ∙ (ap R.width (c .before .before .number42 .ensures .0) ∙ e))))
 
 add-sub : tie.Need-add-sub Inv-loop μ-loop
@@ -62,8 +69,8 @@ loop-less c = search needs
 
 loop-again : tie.Need-loop-again Inv-loop μ-loop
 loop-again c =
-    let l = c .before .before .before .before .before .loop in
-    let y = c .before .before .before .before .before .before .before .before .before .before .before in
+    let l = top (c .before) .loop in
+    let y = start (top (c .before) .before) in
     let m : y .args .cs .count - l .i ≡ suc (y .args .cs .count - (l .i + 1)) = omega arith in
     let e = sym (c .before .width2 .ensures .0 ∙ ap R.width (c .before .before .number42 .ensures .0)) ∙ c .if3 .left in
     (search needs, l .inv .1, omega arith, l .inv .3, l .inv .4 ∙ wide-more _ _ _ _ _ (y .args .cs .count - (l .i + 1)) m e)
@@ -71,7 +78,7 @@ loop-again c =
 returns-3 : tie.Need-returns-3 Inv-loop μ-loop
 returns-3 c =
     let l = c .before .before .loop in
-    let y = c .before .before .before .before .before .before .before .before in
+    let y = start (c .before .before .before) in
     let n : y .args .cs .count - l .i ≡ 0 = omega (arith, c .if2 .left) in
     widths-one _ _ _ _ _ (y .args .cs .count - 1) (omega arith) (l .inv .3) (l .inv .4 ∙ wide-none _ _ _ _ _ n)
 

@@ -9,9 +9,13 @@ use borrow.Author.Needs.{needs}
 use Rattle.makers.proofs.in_recording.Statement.{statement}
 use Rattle.makers.proofs.in_recording.Tie as tie
 
+-- what was known at the start
+abbrev start : tie.After-enum-told → tie.Start
+start c = c .before .before .before .before
+
 returns : tie.Need-returns
 returns c =
-    let z = c .before .before .before .before in
+    let z = start c in
     let v = rw (c .enum-told .given .1) at (c .before .before .record-at .ensures) in
     record { on = omega arith; inside = z .pre .low; first = λ held i x e g. recording-none v held i g }
 

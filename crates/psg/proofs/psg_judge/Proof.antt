@@ -10,8 +10,9 @@ use Rattle.psg.proofs.psg_judge.Tie as tie
 
 returns : tie.Need-returns
 returns c =
-    let e = c .before .before .enum-told .given .1 in
-    let j = rw e at (c .before .before .before .before .judge .ensures) in
+    let x = c .before .before in
+    let e = x .enum-told .given .1 in
+    let j = rw e at (x .before .before .judge .ensures) in
     rw (c .header-refused .ensures, c .before .of-judged .ensures, e, j)
 
 byte-requires : tie.Need-byte-requires

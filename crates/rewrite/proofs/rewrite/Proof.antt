@@ -14,7 +14,7 @@ use Rattle.header.specs.declared.Lettered.the-variants as Lettered
 use Rattle.judge.specs.Judged.{AcceptedAs}
 use Rattle.children.specs.Recordings.{ReadAs}
 use Rattle.judge.proofs.Accepted.{accepted-long, went}
-use Rattle.makers.specs.Makers.{found}
+use Rattle.makers.specs.Search.{found}
 use Rattle.permit.specs.Permit.{meaning}
 use Rattle.permit.proofs.Settled.{permit-room}
 use Rattle.rewrite.specs.RecordingsAnew.{Lent, Counts, lengthAnew}

@@ -10,7 +10,7 @@ use lib.ListN.{length}
 use Rattle.children.proofs.Visiting.{recorded}
 use Rattle.words.specs.declared.Order.{Order}
 use Rattle.children.specs.Recordings.{OfBody}
-use Rattle.rows.proofs.Body.{Listed, listed-none, listed-all, listed-short, listed-more}
+use Rattle.rows.proofs.Body.{unrecorded, Listed, listed-none, listed-all, listed-short, listed-more}
 use borrow.Author.Needs.{needs}
 use Rattle.rows.proofs.body_rows.Statement.{statement}
 use Rattle.rows.proofs.body_rows.Tie as tie
@@ -30,17 +30,24 @@ abbrev μ-loop : tie.MeasureT-loop
 loop-holds : tie.Need-loop-holds Inv-loop μ-loop
 loop-holds c = record { inside = omega arith; reaches = omega arith; same = refl; listed = listed-none }
 
+-- what was known at the head of the loop, and behind the answer of the cursor that found no record
+abbrev at-enum-told : tie.After-out Inv-loop μ-loop → tie.After-enum-told Inv-loop μ-loop
+at-enum-told c = c .before .before .before .before
+
+abbrev top : tie.Then1 Inv-loop μ-loop → tie.At-loop Inv-loop μ-loop
+top c = c .before .before .before .before
+
 returns : tie.Need-returns Inv-loop μ-loop
 returns c =
-    let w = c .before .before .before .before .loop .inv in
-    let v = rw (c .before .enum-told .given .1) at (c .before .before .before .record-at .ensures) in
+    let w = top c .loop .inv in
+    let v = unrecorded (c .before .enum-told .given .1) (c .before .before .before .record-at .ensures) in
     record { reaches = omega arith; wrote = λ held h x e n g. listed-short (w .inside) (w .listed held h x e n g) v (c .if1 .taken) }
 
 returns-2 : tie.Need-returns-2 Inv-loop μ-loop
 returns-2 c =
-    let y = c .before .before .before .before in
+    let y = at-enum-told c in
     let w = y .before .before .before .loop .inv in
-    let v = rw (y .enum-told .given .1) at (y .before .before .record-at .ensures) in
+    let v = unrecorded (y .enum-told .given .1) (y .before .before .record-at .ensures) in
     let u = c .before .put .ensures in
     record { reaches = omega (arith, u .next); wrote = λ held h x e n g. listed-all (w .inside) (w .listed held h x e n g) v u }
 

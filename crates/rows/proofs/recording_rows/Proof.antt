@@ -9,9 +9,16 @@ use borrow.Author.Needs.{needs}
 use Rattle.rows.proofs.recording_rows.Statement.{statement}
 use Rattle.rows.proofs.recording_rows.Tie as tie
 
+-- what was known at the start, and behind the row of the recording, with the buffer handed back
+abbrev start : tie.After-enum-told → tie.Start
+start c = c .before .before .before .before
+
+abbrev at-out : tie.After-out2 → tie.After-out
+at-out c = c .before .before .before .before
+
 returns : tie.Need-returns
 returns c =
-    let z = c .before .before .before .before in
+    let z = start c in
     let v = rw (c .enum-told .given .1) at (c .before .before .record-at .ensures) in
     record { on = omega arith; inside = z .pre .inside; reaches = z .pre .low; wrote = λ held i x e g. recording-none v held i g }
 
@@ -59,7 +66,7 @@ body-rows-requires c κs =
 
 returns-2 : tie.Need-returns-2
 returns-2 c =
-    let y = step (c .before .before .before .before) in
+    let y = step (at-out c) in
     let v = recorded (y .there .given .1) (y .before .before .record-at .ensures) in
     let b = c .before .body-rows .ensures in
     let l = simp (length-take, length-drop) at (b .reaches) in
@@ -67,7 +74,7 @@ returns-2 c =
       on = omega (arith, v .least);
       inside = v .inside;
       reaches = omega (arith, l, v .least, v .inside);
-      wrote = wrote-recording v (c .before .before .before .before .before .put .ensures) (b .wrote);
+      wrote = wrote-recording v (at-out c .before .put .ensures) (b .wrote);
     }
 
 pub recording-rows-spec : {M : Type 1} → statement M

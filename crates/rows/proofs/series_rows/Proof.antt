@@ -10,7 +10,7 @@ use mathlib.Core.Path.{_≡_, ap}
 use Prim.Native.Nat.{ℕ, _-_, _≤_, _+_, _*_}
 use lib.IntN.{ℤ}
 use lib.ListN.{length}
-use Rattle.rows.specs.Rows.{seriesRows, Wrote}
+use Rattle.rows.specs.Listing.{seriesRows, Wrote}
 use Rattle.rows.proofs.series_rows.Statement.{statement}
 use Rattle.rows.proofs.series_rows.Tie as tie
 

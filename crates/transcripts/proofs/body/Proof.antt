@@ -6,25 +6,41 @@ use borrow.Author.Needs.{needs}
 use Rattle.transcripts.proofs.body.Statement.{statement}
 use Rattle.transcripts.proofs.body.Tie as tie
 
+-- what was known behind the tests
+abbrev then1 : tie.After-slice-known2 → tie.Then1
+then1 c = c .before .before .before .before
+
+abbrev then2 : tie.After-slice-known3 → tie.Then2
+then2 c = c .before .before .before .before
+
+abbrev then3 : tie.After-slice-known4 → tie.Then3
+then3 c = c .before .before .before .before
+
+abbrev then4 : tie.After-slice-known5 → tie.Then4
+then4 c = c .before .before .before .before
+
+abbrev else4 : tie.After-slice-known6 → tie.Else4
+else4 c = c .before .before .before .before
+
 returns : tie.Need-returns
-returns c = bodied-100 _ _ _ _ (c .before .before .before .before .if1 .taken) (c .before .before .sized-basic .ensures)
+returns c = bodied-100 _ _ _ _ (then1 c .if1 .taken) (c .before .before .sized-basic .ensures)
 
 returns-2 : tie.Need-returns-2
-returns-2 c = bodied-120 _ _ _ _ (c .before .before .before .before .if2 .taken) (c .before .before .sized-channels .ensures)
+returns-2 c = bodied-120 _ _ _ _ (then2 c .if2 .taken) (c .before .before .sized-channels .ensures)
 
 returns-3 : tie.Need-returns-3
 returns-3 c =
-    let x = c .before .before .before .before in
+    let x = then3 c in
     bodied-items _ _ _ _ (x .before .before .if1 .left) (x .before .if2 .left) (omega (arith, x .if3 .taken)) (c .before .before .sized-items .ensures)
 
 returns-4 : tie.Need-returns-4
 returns-4 c =
-    let x = c .before .before .before .before in
+    let x = then4 c in
     bodied-items _ _ _ _ (x .before .before .before .if1 .left) (x .before .before .if2 .left) (omega (arith, x .if4 .taken)) (c .before .before .sized-items2 .ensures)
 
 returns-5 : tie.Need-returns-5
 returns-5 c =
-    let x = c .before .before .before .before in
+    let x = else4 c in
     bodied-other _ _ _ _ (x .before .before .before .if1 .left) (x .before .before .if2 .left) (x .before .if3 .left) (x .if4 .left) (c .before .before .copy-run .ensures)
 
 pub body-spec : {M : Type 1} → statement M

@@ -14,7 +14,7 @@ returns : tie.Need-returns
 returns c =
     let a = c .before .before .before .args in
     let p = c .before .before .before .pre in
-    (p .1, λ b room. head-full (a .w) b (now (a .s)) (a .p) room (p .0) (now (a .out)) (a .k) (c .if1 .taken))
+    (p .target, λ b room. head-full (a .w) b (now (a .s)) (a .p) room (p .source) (now (a .out)) (a .k) (c .if1 .taken))
 
 add-end : tie.Need-add-end
 add-end c = search needs
@@ -46,11 +46,15 @@ numbers-requires c κs = search needs
 same-length : tie.Need-same-length
 same-length c = search needs
 
+-- what was known at the start
+abbrev start : tie.After-slice-known2 → tie.Start
+start c = c .before .before .before .before .before .before .before .before
+
 returns-2 : tie.Need-returns-2
 returns-2 c =
-    let a = c .before .before .before .before .before .before .before .before .args in
-    let p = c .before .before .before .before .before .before .before .before .pre in
-    (omega arith, λ b room. head-written (a .w) b (now (a .s)) (a .p) room (p .0) (now (a .out)) (a .k) _ (c .before .before .numbers .ensures (b + a .p)))
+    let a = start c .args in
+    let p = start c .pre in
+    (omega arith, λ b room. head-written (a .w) b (now (a .s)) (a .p) room (p .source) (now (a .out)) (a .k) _ (c .before .before .numbers .ensures (b + a .p)))
 
 pub head-spec : {M : Type 1} → statement M
 head-spec =

@@ -1,7 +1,7 @@
 -- `bodies::runs::is_little` meets its contract, order by order.
 -- Assumes nothing.
 use borrow.Author.Needs.{needs}
-use Rattle.bodies.specs.Copy.{sameOrder}
+use Rattle.bodies.specs.Orders.{sameOrder}
 use Rattle.bodies.proofs.runs.is_little.Statement.{statement}
 use Rattle.bodies.proofs.runs.is_little.Tie as tie
 

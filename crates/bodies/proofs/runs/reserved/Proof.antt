@@ -6,11 +6,18 @@ use Rattle.bodies.proofs.Pieces.{reserve-same, reserve-cleared}
 use Rattle.bodies.proofs.runs.reserved.Statement.{statement}
 use Rattle.bodies.proofs.runs.reserved.Tie as tie
 
+-- what was known behind the first test
+abbrev then1 : tie.After-slice-known2 → tie.Then1
+then1 c = c .before .before .before .before
+
+abbrev else1 : tie.After-slice-known3 → tie.Else1
+else1 c = c .before .before .before .before
+
 returns : tie.Need-returns
-returns c = λ b. c .before .before .copy-run .ensures ∙ reserve-same _ b _ (c .before .before .before .before .if1 .taken)
+returns c = λ b. c .before .before .copy-run .ensures ∙ reserve-same _ b _ (then1 c .if1 .taken)
 
 returns-2 : tie.Need-returns-2
-returns-2 c = λ b. c .before .before .clear-run .ensures ∙ reserve-cleared _ b _ _ (c .before .before .before .before .before .before .before .pre) (c .before .before .before .before .if1 .left)
+returns-2 c = λ b. c .before .before .clear-run .ensures ∙ reserve-cleared _ b _ _ (else1 c .before .before .before .pre) (else1 c .if1 .left)
 
 pub reserved-spec : {M : Type 1} → statement M
 reserved-spec =

@@ -25,6 +25,10 @@ is-bytes c = bytes (start c .args .s .now) (λ i. c .before .before .shared-slic
 returns : tie.Need-returns
 returns c = let y = c .before .before in signals-full _ _ _ _ _ _ _ (is-bytes y) (start y .pre .target) (c .if1 .taken)
 
+-- what was known behind the head, with the buffer handed back
+abbrev at-out : tie.After-frames-body → tie.After-out
+at-out c = c .before .before .before .before
+
 returns-2 : tie.Need-returns-2
 returns-2 c =
     let y = c .before .before in
@@ -33,7 +37,7 @@ returns-2 c =
     let z = start (e .before .before) in
     let a = z .args in
     signals-written (a .w) (a .file .now) (a .s .now) (a .cs) (a .f) (a .out .now) _ _ (a .k) (a .k + 16 - a .k) (a .k + a .f .signals .length - (a .k + 16)) (is-bytes (e .before .before)) (omega arith) (omega (arith, z .pre .bounds .signals)) (omega (arith, e .if1 .left, z .pre .target))
-    (y .before .before .before .before .out .given .1) (p .put-head .ensures) (y .frames-body .ensures)
+    (at-out y .out .given .1) (p .put-head .ensures) (y .frames-body .ensures)
 
 pub frames-spec : {M : Type 1} → statement M
 frames-spec =

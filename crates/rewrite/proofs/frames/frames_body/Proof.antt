@@ -76,10 +76,14 @@ frame-requires c κs =
 abbrev turn : tie.After-frame Inv-loop μ-loop → tie.In-loop Inv-loop μ-loop
 turn c = c .before .before .before
 
+-- what was known behind `clear-run`
+abbrev at-clear-run : tie.In-loop Inv-loop μ-loop → tie.After-clear-run Inv-loop μ-loop
+at-clear-run c = c .before .before .before .before
+
 add-from : tie.Need-add-from Inv-loop μ-loop
 add-from c =
     let t = turn (c .before .before) in
-    omega (arith, framing-room _ _ _ _ _ _ _ _ (t .before .loop .inv) (t .loop-test .taken), widths (t .before .before .before .before) .before .before)
+    omega (arith, framing-room _ _ _ _ _ _ _ _ (t .before .loop .inv) (t .loop-test .taken), widths (at-clear-run t) .before .before)
 
 add-i : tie.Need-add-i Inv-loop μ-loop
 add-i c = let t = turn (c .before .before) in omega (arith, t .loop-test .taken, entry (t .before))

@@ -8,6 +8,7 @@ use borrow.Author.Needs.{needs}
 use Rattle.words.proofs.Words.{bytes}
 use Rattle.rules.specs.Rules.{Placed}
 use Rattle.children.proofs.Visiting.{recorded}
+use Rattle.rows.proofs.Body.{unrecorded}
 use Rattle.rewrite.specs.FramesAnew.{BodyMeasured}
 use Rattle.rewrite.proofs.Bodied.{RenewedUpTo, renewed-none, renewed-more, renewed-last}
 use Rattle.rewrite.proofs.recordings.body.Statement.{statement}
@@ -26,11 +27,18 @@ start c = c .before .before .before .before
 loop-holds : tie.Need-loop-holds Inv-loop μ-loop
 loop-holds c = (omega arith, omega arith, refl, λ x g. renewed-none g (bytes (c .before .before .before .args .s .now) (λ i. c .before .shared-slice-known2 .given i .fits)))
 
+-- what was known behind the answer of the cursor, where it found no record and where it found one
+abbrev at-enum-told : tie.After-slice-known2 Inv-loop μ-loop → tie.After-enum-told Inv-loop μ-loop
+at-enum-told c = c .before .before .before .before
+
+abbrev at-there : tie.After-slice-known3 Inv-loop μ-loop → tie.After-there Inv-loop μ-loop
+at-there c = c .before .before .before .before .before
+
 returns : tie.Need-returns Inv-loop μ-loop
 returns c =
-    let y = c .before .before .before .before in
+    let y = at-enum-told c in
     let l = y .before .before .before in
-    let v = rw (y .enum-told .given .1) at (y .before .before .record-at .ensures) in
+    let v = unrecorded (y .enum-told .given .1) (y .before .before .record-at .ensures) in
     λ x g. renewed-last g (l .loop .inv .3 x g) _ (start l .pre .room) (l .loop .inv .2) (c .before .d .given .1) v (c .before .before .clear-run .ensures)
 
 child-requires : tie.Need-child-requires Inv-loop μ-loop
@@ -42,13 +50,13 @@ child-requires c κs =
 
 loop-less : tie.Need-loop-less Inv-loop μ-loop
 loop-less c =
-    let y = c .before .before .before .before .before in
+    let y = at-there c in
     let v = recorded (y .there .given .1) (y .before .before .record-at .ensures) in
     omega (arith, v .least, v .inside)
 
 loop-again : tie.Need-loop-again Inv-loop μ-loop
 loop-again c =
-    let y = c .before .before .before .before .before in
+    let y = at-there c in
     let w = y .before .before .before .loop .inv in
     let v = recorded (y .there .given .1) (y .before .before .record-at .ensures) in
     let d = c .before .before .child .ensures in

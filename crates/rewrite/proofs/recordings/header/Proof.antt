@@ -52,8 +52,12 @@ part-copy-run-start-3 c = omega (arith, simp length-set at (c .before .before .d
 copy-run-requires-4 : tie.Need-copy-run-requires-4
 copy-run-requires-4 c κs = omega (arith, simp length-set at (c .before .before .before .d4 .given .1), far (c .before .before .before))
 
+-- what was known of the buffer `d4`
+abbrev at-d4 : tie.After-slice-known6 → tie.After-d4
+at-d4 c = c .before .before .before .before .before .before
+
 same-length : tie.Need-same-length
-same-length c = omega (arith, simp length-set at (c .before .before .before .before .before .before .d4 .given .1), far (c .before .before .before .before .before .before))
+same-length c = omega (arith, simp length-set at (at-d4 c .d4 .given .1), far (at-d4 c))
 
 returns : tie.Need-returns
 unfolding R.identifier R.version R.form

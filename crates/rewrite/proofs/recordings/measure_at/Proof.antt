@@ -36,9 +36,13 @@ returns-2 c =
     let b = bytes (a .file .now) (λ i. y .shared-slice-known .given i .fits) in
     record { bounds = tt; reads = tt; told = λ held i x v. absurd (omega (arith, c .if2 .taken, inside (a .o) (a .file .now) (a .p) (a .q) (y .before .pre) b held i x v)) }
 
+-- what was known of the bytes of the file
+abbrev file-known : tie.After-struct-known2 → tie.After-shared-slice-known
+file-known c = c .before .before .before .before
+
 returns-3 : tie.Need-returns-3
 returns-3 c =
-    let y = c .before .before .before .before .before in
+    let y = file-known (c .before) in
     let a = y .before .args in
     let b = bytes (a .file .now) (λ i. y .shared-slice-known .given i .fits) in
     record { bounds = tt; reads = tt; told = λ held i x v. absurd (omega (arith, c .if3 .taken, inside (a .o) (a .file .now) (a .p) (a .q) (y .before .pre) b held i x v)) }

@@ -12,17 +12,30 @@ use borrow.Author.Needs.{needs}
 use Rattle.turn.proofs.frames.frame.Statement.{statement}
 use Rattle.turn.proofs.frames.frame.Tie as tie
 
+-- what was known at the start, and behind `numbers` and `frame-body`
+abbrev start : tie.After-numbers-arg → tie.Start
+start c = c .before .before .before .before
+
+abbrev at-numbers : tie.After-frame-body → tie.After-numbers
+at-numbers c = c .before .before .before .before .before
+
+abbrev at-frame-body : tie.After-slice-known4 → tie.After-frame-body
+at-frame-body c = c .before .before .before .before .before .before .before
+
+abbrev far-start : tie.After-frame-body-arg2 → tie.Start
+far-start c = c .before .before .before .before .before .before .before .before .before .before
+
 slice-aggregate-numbers : tie.Need-slice-aggregate-numbers
-slice-aggregate-numbers c = sym (length-take-le 16 (c .before .before .before .before .args .s .now) (omega arith))
+slice-aggregate-numbers c = sym (length-take-le 16 (start c .args .s .now) (omega arith))
 
 slice-relend-prefix-numbers : tie.Need-slice-relend-prefix-numbers
 slice-relend-prefix-numbers c = search needs
 
 slice-aggregate-numbers-2 : tie.Need-slice-aggregate-numbers-2
-slice-aggregate-numbers-2 c = sym (length-take-le 16 (c .before .before .before .before .before .args .d .now) (omega arith))
+slice-aggregate-numbers-2 c = sym (length-take-le 16 (start (c .before) .args .d .now) (omega arith))
 
 numbers-requires : tie.Need-numbers-requires
-numbers-requires c κs = (omega arith, omega arith, length-take-le 16 (c .before .before .before .before .before .args .s .now) (omega arith), length-take-le 16 (c .before .before .before .before .before .args .d .now) (omega arith))
+numbers-requires c κs = record { wide = record { least = omega arith; most = omega arith }; run = record { source = length-take-le 16 (start (c .before) .args .s .now) (omega arith); room = length-take-le 16 (start (c .before) .args .d .now) (omega arith) } }
 
 sub-frame-body : tie.Need-sub-frame-body
 sub-frame-body c = search needs
@@ -44,8 +57,8 @@ part-frame-body-end-2 c = search needs
 
 frame-body-requires : tie.Need-frame-body-requires
 frame-body-requires c κs =
-    let z = c .before .before .before .before .before .before .before .before .before .before in
-    (z .pre .0, z .pre .5, z .pre .1, search needs, search needs)
+    let z = far-start c in
+    record { channels = z .pre .channels; wide = z .pre .wide; seconds = z .pre .seconds; clock = search needs }
 
 sub-copy-run : tie.Need-sub-copy-run
 sub-copy-run c = search needs
@@ -73,13 +86,13 @@ same-length c = search needs
 
 returns : tie.Need-returns
 returns c b room i ch st e =
-    let x = c .before .before .before .before .before .before .before in
-    let y = x .before .before .before .before .before in
-    let z = y .before .before .before .before .before .before in
+    let x = at-frame-body c in
+    let y = at-numbers x in
+    let z = start (y .before .before) in
     let a = z .args in
     let s = now (a .s) in
     let m : length (take (a .filled - 16) (drop 16 s)) ≡ 8 + sampleBytes (a .t) ch = simp (length-take, length-drop) (omega arith) in
-    frame-copied (a .w) b s (now (a .d)) (a .t) (a .filled) room i ch _ _ _ _ _ (z .pre .2) (z .pre .3) (z .pre .4) e
+    frame-copied (a .w) b s (now (a .d)) (a .t) (a .filled) room i ch _ _ _ _ _ (z .pre .least) (z .pre .part .least) (z .pre .part .room) e
     (y .numbers .ensures b) refl (x .frame-body .ensures (b + 16) ch (st .count) (st .kept) m) refl (c .before .before .copy-run .ensures)
 
 pub frame-spec : {M : Type 1} → statement M

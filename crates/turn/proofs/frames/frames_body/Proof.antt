@@ -1,6 +1,6 @@
 -- `turn::frames::frames_body` meets its contract. The loop's invariant: what is written of the body is what stands before the next frame, which is read where it is written.
 -- The measure is how many frames are left. Assumes nothing.
-use mathlib.Core.Path.{_≡_, refl, sym, _∙_}
+use mathlib.Core.Path.{_≡_, refl, sym, ap, _∙_}
 use mathlib.Core.List.{List}
 use Prim.Native.Nat.{ℕ, _+_, _-_, _*_, _≤_}
 use native.Mathlib.Omega.{arith}
@@ -32,17 +32,36 @@ abbrev μ-loop : tie.MeasureT-loop
 widths-of-requires : tie.Need-widths-of-requires Inv-loop μ-loop
 widths-of-requires c κs = search needs
 
+-- what was known at the start, in the loop, and behind the widths, the numbers and the buffer handed back
+abbrev start : tie.After-numbers-arg Inv-loop μ-loop → tie.Start Inv-loop μ-loop
+start c = c .before .before .before .before .before
+
+abbrev at-numbers : tie.After-reserved Inv-loop μ-loop → tie.After-numbers Inv-loop μ-loop
+at-numbers c = c .before .before .before .before .before
+
+abbrev in-loop : tie.After-slice-known4 Inv-loop μ-loop → tie.In-loop Inv-loop μ-loop
+in-loop c = c .before .before .before .before .before
+
+abbrev at-d : tie.After-slice-known3 Inv-loop μ-loop → tie.After-d Inv-loop μ-loop
+at-d c = c .before .before .before .before .before .before
+
+abbrev at-widths-of : tie.After-frame-arg2 Inv-loop μ-loop → tie.After-widths-of Inv-loop μ-loop
+at-widths-of c = c .before .before .before .before .before .before .before .before .before .before .before .before .before .before
+
+abbrev far-start : tie.After-frame-arg2 Inv-loop μ-loop → tie.Start Inv-loop μ-loop
+far-start c = at-widths-of c .before .before .before .before
+
 slice-aggregate-numbers : tie.Need-slice-aggregate-numbers Inv-loop μ-loop
-slice-aggregate-numbers c = sym (length-take-le 12 (c .before .before .before .before .before .args .s .now) (omega arith))
+slice-aggregate-numbers c = sym (length-take-le 12 (start c .args .s .now) (omega arith))
 
 slice-relend-prefix-numbers : tie.Need-slice-relend-prefix-numbers Inv-loop μ-loop
 slice-relend-prefix-numbers c = search needs
 
 slice-aggregate-numbers-2 : tie.Need-slice-aggregate-numbers-2 Inv-loop μ-loop
-slice-aggregate-numbers-2 c = sym (length-take-le 12 (c .before .before .before .before .before .before .args .d .now) (omega arith))
+slice-aggregate-numbers-2 c = sym (length-take-le 12 (start (c .before) .args .d .now) (omega arith))
 
 numbers-requires : tie.Need-numbers-requires Inv-loop μ-loop
-numbers-requires c κs = (omega arith, omega arith, length-take-le 12 (c .before .before .before .before .before .before .args .s .now) (omega arith), length-take-le 12 (c .before .before .before .before .before .before .args .d .now) (omega arith))
+numbers-requires c κs = record { wide = record { least = omega arith; most = omega arith }; run = record { source = length-take-le 12 (start (c .before) .args .s .now) (omega arith); room = length-take-le 12 (start (c .before) .args .d .now) (omega arith) } }
 
 sub-reserved : tie.Need-sub-reserved Inv-loop μ-loop
 sub-reserved c = search needs
@@ -68,23 +87,23 @@ reserved-requires c κs = search needs
 loop-holds : tie.Need-loop-holds Inv-loop μ-loop
 loop-holds c =
     let y = c .before .before in
-    let x = y .before .before .before .before .before in
-    let z = x .before .before .before .before .before .before .before in
+    let x = at-numbers y in
+    let z = start (x .before .before) in
     let a = z .args in (
       search needs,
       omega arith,
       search needs,
-      c .before .d2 .given .1 ∙ (c .before .before .before .before .before .before .d .given .1 ∙ z .pre .5),
+      c .before .d2 .given .1 ∙ (at-d c .d .given .1 ∙ z .pre .part .room),
       refl,
-      λ b k ch hd f e st l e₁ e₂ e₃ q v. framing-start (framed (a .w) b (now (a .s)) k ch hd q v (a .t) (a .size) (a .count) e₁ e₂ e₃) (now (a .d)) _ _ _ (z .pre .5) (x .numbers .ensures b) refl (y .reserved .ensures (b + 12)),
+      λ b k ch hd f e st l e₁ e₂ e₃ q v. framing-start (framed (a .w) b (now (a .s)) k ch hd q v (a .t) (a .size) (a .count) e₁ e₂ e₃) (now (a .d)) _ _ _ (z .pre .part .room) (x .numbers .ensures b) refl (y .reserved .ensures (b + 12)),
     )
 
 -- the frame that a turn writes ends in the body
 reach : (c : tie.In-loop Inv-loop μ-loop) →
-    let a = c .before .before .before .before .before .before .before .before .before .before .before .before .before .before .before .before .args in
+    let a = start (at-d (c .before .before) .before .before .before) .args in
     c .before .loop .k + a .size ≤ length (now (a .s))
 reach c =
-    let a = c .before .before .before .before .before .before .before .before .before .before .before .before .before .before .before .before .args in
+    let a = start (at-d (c .before .before) .before .before .before) .args in
     omega (arith, series-reach (c .before .loop .i) (a .count) 16 (a .size) (omega arith))
 
 add-end : tie.Need-add-end Inv-loop μ-loop
@@ -113,13 +132,13 @@ part-frame-end-2 c = omega (arith, reach (c .before))
 
 frame-requires : tie.Need-frame-requires Inv-loop μ-loop
 frame-requires c κs =
-    let z = c .before .before .before .before .before .before .before .before .before .before .before .before .before .before .before .before .before .before in
-    (z .pre .0, z .pre .1, z .pre .2, search needs, search needs, c .before .before .before .before .before .before .before .before .before .before .before .before .before .before .widths-of .ensures)
+    let z = far-start c in
+    record { channels = z .pre .channels; wide = at-widths-of c .widths-of .ensures; seconds = z .pre .seconds; least = z .pre .least; part = search needs }
 
 add-from : tie.Need-add-from Inv-loop μ-loop
 add-from c =
-    let x = c .before .before .before .before .before in
-    omega (arith, reach x, x .before .before .before .before .before .before .before .before .before .before .before .before .before .before .before .before .good)
+    let x = in-loop c in
+    omega (arith, reach x, start (at-d (x .before .before) .before .before .before) .good)
 
 add-i : tie.Need-add-i Inv-loop μ-loop
 add-i c = search needs
@@ -132,7 +151,7 @@ loop-again c =
     let y = c .before .before in
     let x = y .before .before .before in
     let l = x .before .loop in
-    let z = x .before .before .before .before .before .before .before .before .before .before .before .before .before .before .before .before in
+    let z = start (at-d (x .before .before) .before .before .before) in
     let a = z .args in
     let m : l .k + a .size - l .k ≡ a .size = omega arith in (
       search needs,
@@ -171,11 +190,12 @@ same-length c = search needs
 
 returns : tie.Need-returns Inv-loop μ-loop
 returns c =
-    let x = c .before .before .before .before .before in
+    let y = c .before .before in
+    let x = y .before .before .before in
     let l = x .before .loop in
-    let z = x .before .before .before .before .before .before .before .before .before .before .before .before .before .before .before .before in
+    let z = start (at-d (x .before .before) .before .before .before) in
     let h : l .i ≡ z .args .count = omega arith in
-    λ b k ch hd f e st m e₁ e₂ e₃ q v. framing-end (l .inv .5 b k ch hd f e st m e₁ e₂ e₃ q v) _ (c .before .before .before .before .before .loop-test .left) (rw h at (l .inv .1)) (l .inv .2) (rw (l .inv .4) at (c .before .before .copy-run .ensures))
+    λ b k ch hd f e st m e₁ e₂ e₃ q v. framing-end (l .inv .5 b k ch hd f e st m e₁ e₂ e₃ q v) _ (x .loop-test .left) (l .inv .1 ∙ ap (λ (n : ℕ). 16 + z .args .size * n) h) (l .inv .2) (rw (l .inv .4) at (y .copy-run .ensures))
 
 pub frames-body-spec : {M : Type 1} → statement M
 frames-body-spec =

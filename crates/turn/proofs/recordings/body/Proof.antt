@@ -10,6 +10,7 @@ use Rattle.rules.specs.Rules.{Held, Head, Placed, span, recordingBody}
 use Rattle.records.specs.Says.{ChannelsStand}
 use Rattle.children.specs.Children.{knownOf}
 use Rattle.children.proofs.Visiting.{recorded}
+use Rattle.rows.proofs.Body.{unrecorded}
 use Rattle.bodies.specs.Copy.{copy}
 use Rattle.turn.proofs.Sent.{SentUpTo, sent-none, sent-more, sent-last}
 use borrow.Author.Needs.{needs}
@@ -28,11 +29,18 @@ abbrev μ-loop : tie.MeasureT-loop
 loop-holds : tie.Need-loop-holds Inv-loop μ-loop
 loop-holds c = (omega arith, search needs, refl, λ held h x e n m g. sent-none held h x e n g)
 
+-- what was known behind the answer of the cursor, where it found no record and where it found one
+abbrev at-enum-told : tie.After-slice-known2 Inv-loop μ-loop → tie.After-enum-told Inv-loop μ-loop
+at-enum-told c = c .before .before .before .before
+
+abbrev at-there : tie.After-slice-known3 Inv-loop μ-loop → tie.After-there Inv-loop μ-loop
+at-there c = c .before .before .before .before .before
+
 returns : tie.Need-returns Inv-loop μ-loop
 returns c =
-    let y = c .before .before .before .before in
+    let y = at-enum-told c in
     let w = y .before .before .before .loop .inv in
-    let v = rw (y .enum-told .given .1) at (y .before .before .record-at .ensures) in
+    let v = unrecorded (y .enum-told .given .1) (y .before .before .record-at .ensures) in
     λ held h x e n m g. sent-last _ (w .3 held h x e n m g) (w .0) v (c .before .before .last .ensures)
 
 child-requires : tie.Need-child-requires Inv-loop μ-loop
@@ -43,13 +51,13 @@ child-requires c κs =
 
 loop-less : tie.Need-loop-less Inv-loop μ-loop
 loop-less c =
-    let y = c .before .before .before .before .before in
+    let y = at-there c in
     let v = recorded (y .there .given .1) (y .before .before .record-at .ensures) in
     omega (arith, v .least, v .inside)
 
 loop-again : tie.Need-loop-again Inv-loop μ-loop
 loop-again c =
-    let y = c .before .before .before .before .before in
+    let y = at-there c in
     let w = y .before .before .before .loop .inv in
     let v = recorded (y .there .given .1) (y .before .before .record-at .ensures) in
     let d = c .before .before .child .ensures in

@@ -28,27 +28,37 @@ Inv-loop o file count out₀ w p₀ before₀ i₀ out p before i = Going w file
 abbrev μ-loop : tie.MeasureT-loop
 μ-loop o file count out₀ w p₀ before₀ i₀ out p before i = count - i
 
--- the start, from behind the header
+-- the start and the other order, from behind the header
 abbrev start : tie.After-out Inv-loop μ-loop → tie.Start Inv-loop μ-loop
 start c = c .before .before .before .before .before .before .before
 
+abbrev at-other : tie.After-out Inv-loop μ-loop → tie.After-other Inv-loop μ-loop
+at-other c = c .before .before .before .before
+
 -- the way from order to order
 abbrev way : tie.After-out Inv-loop μ-loop → Way
-way c = record { from = start c .args .o; to = c .before .before .before .before .other .result; keep = true }
+way c = record { from = start c .args .o; to = at-other c .other .result; keep = true }
+
+-- what was known at the start, and behind `recording-again`
+abbrev near-start : tie.After-header-arg Inv-loop μ-loop → tie.Start Inv-loop μ-loop
+near-start c = c .before .before .before .before
+
+abbrev at-recording-again : tie.After-recording Inv-loop μ-loop → tie.After-recording-again Inv-loop μ-loop
+at-recording-again c = c .before .before .before .before .before
 
 slice-aggregate-header : tie.Need-slice-aggregate-header Inv-loop μ-loop
-slice-aggregate-header c = sym (length-take-le 32 (c .before .before .before .before .args .file .now) (omega arith))
+slice-aggregate-header c = sym (length-take-le 32 (near-start c .args .file .now) (omega arith))
 
 slice-aggregate-header-2 : tie.Need-slice-aggregate-header-2 Inv-loop μ-loop
-slice-aggregate-header-2 c = sym (length-take-le 32 (c .before .before .before .before .before .args .out .now) (omega arith))
+slice-aggregate-header-2 c = sym (length-take-le 32 (near-start (c .before) .args .out .now) (omega arith))
 
 header-requires : tie.Need-header-requires Inv-loop μ-loop
-header-requires c κs = (length-take-le 32 (c .before .before .before .before .before .args .file .now) (omega arith), length-take-le 32 (c .before .before .before .before .before .args .out .now) (omega arith))
+header-requires c κs = record { source = length-take-le 32 (near-start (c .before) .args .file .now) (omega arith); room = length-take-le 32 (near-start (c .before) .args .out .now) (omega arith) }
 
 loop-holds : tie.Need-loop-holds Inv-loop μ-loop
 loop-holds c =
     let z = start (c .before) in
-    record { room = omega (arith, c .before .out .given .1, z .pre .2); same = refl; along = along-start (z .pre .0) (sent-first (way (c .before)) _) }
+    record { room = omega (arith, c .before .out .given .1, z .pre .room); same = refl; along = along-start (z .pre .header) (sent-first (way (c .before)) _) }
 
 returns : tie.Need-returns Inv-loop μ-loop
 returns c =
@@ -61,12 +71,12 @@ recording-requires c κs =
     let y = st .before .before in
     let l = y .before .before in
     let x = along-fits (l .loop .inv .along) (y .before .loop-test .taken) _ (y .recording-again .ensures) (st .step .given .1) in
-    (x .start, x .end, start (l .before .before) .pre .1, omega (arith, l .loop .inv .room, l .loop .inv .same), x .channels)
+    record { on = x .start; inside = x .end; short = start (l .before .before) .pre .short; room = omega (arith, l .loop .inv .room, l .loop .inv .same); channels = x .channels }
 
 loop-again : tie.Need-loop-again Inv-loop μ-loop
 loop-again c =
     let w = c .before .before in
-    let y = w .before .before .before .before .before in
+    let y = at-recording-again w in
     let l = y .before .before in
     let i = l .loop .inv in
     let r = y .recording-again in
@@ -82,9 +92,9 @@ returns-2 c =
     let x = c .before .before .before in
     let z = start x in
     let s = now (z .args .file) in
-    λ f ps e h g. rw (← x .before .before .before .before .other .ensures)
-    (whole-file (along-end (c .before .loop .inv .along) (c .loop-test .left) ps e g) (now (z .args .out)) _ _ (omega (arith, z .pre .0, z .pre .2)) (header-first (way x) s (length s) _ (z .pre .0) h (x .before .header .ensures)) (x .out .given .1) refl
-    (omega (arith, z .pre .2, sent-length (way x) s (z .args .count) (z .pre .0) g)))
+    λ f ps e h g. rw (← at-other x .other .ensures)
+    (whole-file (along-end (c .before .loop .inv .along) (c .loop-test .left) ps e g) (now (z .args .out)) _ _ (omega (arith, z .pre .header, z .pre .room)) (header-first (way x) s (length s) _ (z .pre .header) h (x .before .header .ensures)) (x .out .given .1) refl
+    (omega (arith, z .pre .room, sent-length (way x) s (z .args .count) (z .pre .header) g)))
 
 pub file-turned-spec : {M : Type 1} → statement M
 file-turned-spec =

@@ -18,12 +18,16 @@ slice-write-d c = search needs
 same-length : tie.Need-same-length
 same-length c = search needs
 
+-- what was known at the start
+abbrev start : tie.After-copy-run → tie.Start
+start c = c .before .before .before .before
+
 returns : tie.Need-returns
 returns c =
     let x = c .before .before .before in
-    let z = x .before .before .before .before in
+    let z = start x in
     let a = z .args in
-    λ n f e g. rw (x .copy-run .ensures) (header-copied (a .w) (now (a .s)) n (c .letter .result) (z .pre .0) (c .letter .ensures) g)
+    λ n f e g. rw (x .copy-run .ensures) (header-copied (a .w) (now (a .s)) n (c .letter .result) (z .pre .source) (c .letter .ensures) g)
 
 pub header-spec : {M : Type 1} → statement M
 header-spec =

@@ -33,12 +33,19 @@ body-requires c κs = search needs
 same-length : tie.Need-same-length
 same-length c = search needs
 
+-- what was known at the start, and behind `head`
+abbrev at-head : tie.After-slice-known3 → tie.After-head
+at-head c = c .before .before .before .before .before .before .before .before
+
+abbrev start : tie.After-slice-known3 → tie.Start
+start c = at-head c .before .before .before .before .before
+
 returns-2 : tie.Need-returns-2
 returns-2 c =
-    let z = c .before .before .before .before .before .before .before .before .before .before .before .before .before in
+    let z = start c in
     let a = z .args in
-    let h = c .before .before .before .before .before .before .before .before .head in
-    recording-copied (a .w) (now (a .file)) (a .p) (a .q .end) (a .q .channels) (a .q .count) (now (a .out)) _ _ (h .result) (z .pre .3) (h .ensures .1) (c .before .before .body .ensures)
+    let h = at-head c .head in
+    recording-copied (a .w) (now (a .file)) (a .p) (a .q .end) (a .q .channels) (a .q .count) (now (a .out)) _ _ (h .result) (z .pre .room) (h .ensures .1) (c .before .before .body .ensures)
 
 pub recording-spec : {M : Type 1} → statement M
 recording-spec =
