@@ -3,7 +3,8 @@ use mathlib.Core.Path.{_≡_, refl, sym, ap, _∙_}
 use mathlib.Core.List.{List}
 use Prim.Native.Nat.{ℕ, _+_, _-_, _≤_}
 use native.Mathlib.Omega.{arith}
-use lib.ListN.{length, take, drop}
+use lib.ListN.{length, take, drop, length-take, length-drop}
+use Rattle.words.specs.Sizes.{Addressable}
 use Rattle.words.specs.declared.Order.{Order}
 use Rattle.walk.specs.Walk.{Walk, give, _>>=_, _>>_}
 use Rattle.walk.specs.See.{Verdict, stops, goes, Stays, see, onward, ends}
@@ -12,6 +13,7 @@ use Rattle.rules.specs.Rules.{Channel, sampleBytes, fixed, frameRule, frameBody
 use Rattle.rules.specs.Rules as R
 use Rattle.records.specs.declared.Tested.{Tested}
 use Rattle.records.specs.declared.Tested.the-variants as Tested
+use Rattle.records.specs.Asks.{BodyOf}
 use Rattle.records.specs.Says.{opened, ended, tested, stepped, Beyond, Advances}
 
 join : {X H A : Type 0} (v : Verdict X) (f : X → ℕ → Verdict A) (f′ : X → ℕ → Verdict H) (g : H → ℕ → Verdict A) →
@@ -61,6 +63,10 @@ frame-opened o b s size t cs room i at =
 -- the body of the record of n bytes at p, which stops at q, is read in the part behind its head
 pub body-long : (p q n : ℕ) (s : List ℕ) → q ≡ p + n → 16 ≤ n → q ≤ length s → 16 + length (take (q - (p + 16)) (drop (p + 16) s)) ≡ n
 body-long p q n s is least inside = let e : q - p ≡ n = omega arith in body-length p q s (omega arith) (omega arith) ∙ e
+
+-- and is what the function of a body asks for, where it has at least so many bytes
+pub body-asked : (b p q least : ℕ) (s : List ℕ) → p + 16 + least ≤ q → q ≤ length s → Addressable (b + length s) → BodyOf least (b + p) (take (q - (p + 16)) (drop (p + 16) s))
+body-asked b p q least s long inside short = record { long = simp (length-take, length-drop) (omega arith); short = simp (length-take, length-drop) (omega arith) }
 
 module _ {A : Type 0} (o : Order) (b p q n : ℕ) (s : List ℕ) (is : q ≡ p + n) (least : 16 ≤ n) (inside : q ≤ length s) where
   pub body-seen : (w : Walk A) → ((x : ℕ) → Stays (x + (n - 16)) x w (λ _ e. e ≡ x + (n - 16))) →

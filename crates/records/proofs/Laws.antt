@@ -14,13 +14,18 @@ use Rattle.rules.specs.Rules as R
 use Rattle.rules.specs.declared.Head.{Head}
 use Rattle.rules.specs.declared.Kind.{Kind}
 use Rattle.rules.specs.declared.Kind.the-variants as Kind
-use Rattle.records.specs.Says.{headroom, fitsOf, serialOf, asRule, ruleOf, Spans, Fitting, Admits, tested}
+use Rattle.records.specs.Says.{headroom, headOf, fitsOf, serialOf, asRule, ruleOf, Spans, Fitting, Admits, AdmittedBy, admitted, tested}
 use Rattle.records.specs.declared.kinds.Rule.{Rule}
 use Rattle.records.specs.declared.Step.{Step}
 use Rattle.records.specs.declared.Step.the-variants as Step
 use Rattle.records.specs.declared.Tested.{Tested}
 use Rattle.records.specs.declared.Tested.the-variants as Tested
 use Rattle.records.proofs.Steps.{next-stop, next-done, next-refused, next-more}
+
+-- a head that stands at byte p, admitted: the walk goes on 16 bytes behind p
+pub admitted-at : {h : Head} {base n p : ℕ} {k : Kind} {a : Step} → h .at ≡ p → AdmittedBy h base n k a →
+    (o : Order) (b : ℕ) (s : List ℕ) → see o b s (base + (p + 16)) (R.admitBy (ruleOf k) (n - p) (headOf h)) ≡ admitted a (base + (p + 16))
+admitted-at e x o b s = rw e at (x .seen o b s)
 
 -- no kind's multiplier is larger than 128, and a length that fits is the kind's
 most-small : (k : Kind) → ruleOf k .most ≤ 128

@@ -6,7 +6,7 @@ ghost use lib.ListN.{length};
 ghost use Rattle.walk.specs.See.{see, ends};
 ghost use Rattle.rules.specs.Rules as R;
 ghost use Rattle.rules.specs.Rules.{frameBody};
-ghost use Rattle.records.specs.Asks.{FrameBodyOf, FramesAt};
+ghost use Rattle.records.specs.Asks.{FilledBody, FilledFrames};
 ghost use Rattle.records.specs.Says.{Advances, tested, FramesOver};
 use crate::Step;
 use crate::Tested;
@@ -24,7 +24,7 @@ use words::Order;
 
 // The body of the record 145 at `at`, whose samples end at byte `filled` of the record.
 fn frame_body(o: Order, s: &[u8], at: usize, filled: usize) -> Tested
-    requires { ⌜ FrameBodyOf filled at (now s) ⌝ }
+    requires { ⌜ FilledBody filled at (now s) ⌝ }
     ensures { λ a. ⌜ ((t : ℕ) (cs : List R.Channel) → filled ≡ 24 + R.sampleBytes t cs →
         ends (see o (at + 16) (now (s .entry)) (at + 16) (frameBody (16 + length (now (s .entry))) t cs))
         ≡ tested a (at + (16 + length (now (s .entry))))) ⌝ }
@@ -43,7 +43,7 @@ fn frame_body(o: Order, s: &[u8], at: usize, filled: usize) -> Tested
 
 // The record 145 at byte p of the part s, with the serial i, the length `size`, and samples that end at byte `filled` of it: where it stops.
 fn frame_at(o: Order, s: &[u8], base: usize, p: usize, i: u32, size: usize, filled: usize) -> Step
-    requires { ⌜ FramesAt base (now s) p size filled ⌝ }
+    requires { ⌜ FilledFrames base (now s) p size filled ⌝ }
     ensures { λ a. ⌜ FramesOver o base (now (s .entry)) p filled
         (λ t cs. R.frame size t cs (length (now (s .entry)) - p) i) (Advances p size (length (now (s .entry)))) a ⌝ }
 {
@@ -65,7 +65,7 @@ pub fn frames_from(
     size: usize,
     filled: usize,
 ) -> Step
-    requires { ⌜ FramesAt base (now s) from size filled ⌝ }
+    requires { ⌜ FilledFrames base (now s) from size filled ⌝ }
     ensures { λ a. ⌜ FramesOver o base (now (s .entry)) from filled
         (λ t cs. R.series count 1 size (length (now (s .entry)) - from) (R.frame size t cs)) (Advances from (size * count) (length (now (s .entry)))) a ⌝ }
 {

@@ -5,6 +5,10 @@ use borrow.Author.Needs.{needs}
 use Rattle.records.proofs.padding.Statement.{statement}
 use Rattle.records.proofs.padding.Tie as tie
 
+-- what was known at the start
+abbrev start : tie.After-first-nonzero → tie.Start
+start x = x .before .before .before
+
 sub-pad : tie.Need-sub-pad
 sub-pad c = search needs
 
@@ -25,12 +29,12 @@ add-t12 c = search needs
 
 returns : tie.Need-returns
 returns c =
-    let z = c .before .before .before .before in
+    let z = start (c .before) in
     λ o. pad-stop o (z .args .base) (now (z .args .s)) (z .args .from) (z .args .to) (c .before .first-nonzero .result) (z .pre .start) (z .pre .inside) (c .before .first-nonzero .ensures) (c .if1 .taken)
 
 returns-2 : tie.Need-returns-2
 returns-2 c =
-    let z = c .before .before .before .before in
+    let z = start (c .before) in
     λ o. pad-clear o (z .args .base) (now (z .args .s)) (z .args .from) (z .args .to) (c .before .first-nonzero .result) (z .pre .start) (z .pre .inside) (c .before .first-nonzero .ensures) (c .if1 .left)
 
 pub padding-spec : {M : Type 1} → statement M

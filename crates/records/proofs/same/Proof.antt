@@ -29,8 +29,9 @@ shared-slice-read-if2-2 c = search needs
 
 returns-2 : tie.Need-returns-2 Inv-loop μ-loop
 returns-2 c =
-    let h = c .before .before .before .before .loop .inv .0 in
-    sym (c .before .before .before .before .loop .inv .1 ∙ same-not _ _ _ (c .before .before .before .loop-test .taken) (omega arith) (c .if2 .taken))
+    let l : tie.In-loop Inv-loop μ-loop = c .before .before .before in
+    let h = l .before .loop .inv .0 in
+    sym (l .before .loop .inv .1 ∙ same-not _ _ _ (l .loop-test .taken) (omega arith) (c .if2 .taken))
 
 add-i : tie.Need-add-i Inv-loop μ-loop
 add-i c = search needs
@@ -40,8 +41,9 @@ loop-less c = search needs
 
 loop-again : tie.Need-loop-again Inv-loop μ-loop
 loop-again c =
-    let h = c .before .before .before .before .loop .inv .0 in
-    (h, c .before .before .before .before .loop .inv .1 ∙ same-more _ _ _ (c .before .before .before .loop-test .taken) (omega arith) (c .if2 .left))
+    let l : tie.In-loop Inv-loop μ-loop = c .before .before .before in
+    let h = l .before .loop .inv .0 in
+    (h, l .before .loop .inv .1 ∙ same-more _ _ _ (l .loop-test .taken) (omega arith) (c .if2 .left))
 
 returns-3 : tie.Need-returns-3 Inv-loop μ-loop
 returns-3 c =

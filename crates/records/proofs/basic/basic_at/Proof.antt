@@ -1,18 +1,27 @@
 -- `records::basic::basic_at` meets its contract: a record that is refused before its body, or its body's answer. Assumes nothing.
 use denote.Ref.{now}
 use mathlib.Core.Path.{_∙_, sym, ap}
-use lib.ListN.{length-take, length-drop}
+use lib.ListN.{length}
 use Prim.Native.Nat.{_+_}
 use native.Mathlib.Omega.{arith}
 use Rattle.walk.specs.See.{over}
 use Rattle.walk.proofs.Seen.{walks}
 use Rattle.rules.specs.Rules.{basicBody}
 use Rattle.rules.proofs.Room.{stays-basicBody}
-use Rattle.records.specs.Says.{basicOf}
-use Rattle.records.proofs.Bodies.{fixed-opened, body-seen}
+use Rattle.rules.specs.declared.Kind.the-variants as Kind
+use Rattle.records.specs.Says.{basicOf, Reaches}
+use Rattle.records.proofs.Bodies.{fixed-opened, body-asked, body-seen}
 use borrow.Author.Needs.{needs}
 use Rattle.records.proofs.basic.basic_at.Statement.{statement}
 use Rattle.records.proofs.basic.basic_at.Tie as tie
+
+-- what was known at the start
+abbrev start : tie.After-opened → tie.Start
+start x = x .before .before .before .before
+
+-- the record that was opened: where it stands, and where it stops
+reached : (x : tie.After-opened) → Reaches (start x .args .p) Kind.Basic (length (now (start x .args .s))) (x .opened .given .0 .0) (x .opened .given .0 .1 .0)
+reached x = rw (x .opened .given .1) at (x .before .before .open .ensures .stands)
 
 open-requires : tie.Need-open-requires
 open-requires c κs = search needs
@@ -33,30 +42,29 @@ add-body : tie.Need-add-body
 add-body c = search needs
 
 sub-body : tie.Need-sub-body
-sub-body c = let v = rw (c .before .opened .given .1) at (c .before .before .before .open .ensures .stands) in omega (arith, v .end, v .spans)
+sub-body c = let v = reached (c .before) in omega (arith, v .end, v .spans)
 
 part-body-start : tie.Need-part-body-start
-part-body-start c = let v = rw (c .before .opened .given .1) at (c .before .before .before .open .ensures .stands) in omega (arith, v .end, v .spans)
+part-body-start c = let v = reached (c .before) in omega (arith, v .end, v .spans)
 
 part-body-end : tie.Need-part-body-end
-part-body-end c = let v = rw (c .before .opened .given .1) at (c .before .before .before .open .ensures .stands) in omega (arith, v .inside)
+part-body-end c = let v = reached (c .before) in omega (arith, v .inside)
 
 add-basic-body : tie.Need-add-basic-body
 add-basic-body c = search needs
 
 basic-body-requires : tie.Need-basic-body-requires
 basic-body-requires c κs =
-    let v = rw (c .before .before .opened .given .1) at (c .before .before .before .before .open .ensures .stands) in
-    record {
-      long = simp (length-take, length-drop) (omega (arith, v .end, v .spans, v .inside));
-      short = simp (length-take, length-drop) (omega (arith, v .end, v .spans, v .inside));
-    }
+    let x : tie.After-opened = c .before .before in
+    let z = start x in
+    let v = reached x in
+    body-asked (z .args .base) (z .args .p) (x .opened .given .0 .1 .0) 112 (now (z .args .s)) (omega (arith, v .end, v .spans)) (v .inside) (z .pre .short)
 
 returns-2 : tie.Need-returns-2
 returns-2 c =
-    let t = c .before .before .before in
-    let z = t .before .before .before .before in
-    let v = rw (t .opened .given .1) at (t .before .before .open .ensures .stands) in
+    let t : tie.After-opened = c .before .before .before in
+    let z = start t in
+    let v = reached t in
     let o = z .args .o in
     let s = now (z .args .s) in
     let b = z .args .base in

@@ -6,6 +6,13 @@ use borrow.Author.Needs.{needs}
 use Rattle.records.proofs.basic.basic_body.Statement.{statement}
 use Rattle.records.proofs.basic.basic_body.Tie as tie
 
+-- what was known behind the time, and behind the date
+abbrev time : tie.After-mains-ok → tie.After-time-ok
+time m = m .before .before .before .before
+
+abbrev date : tie.After-time-ok → tie.After-date-ok
+date t = t .before .before .before
+
 counts-ok-requires : tie.Need-counts-ok-requires
 counts-ok-requires c κs = search needs
 
@@ -34,7 +41,9 @@ of-test-requires-2 : tie.Need-of-test-requires-2
 of-test-requires-2 c κs = search needs
 
 returns-2 : tie.Need-returns-2
-returns-2 c = simp (basic-open, gates, tests, c .of-test2 .ensures, c .before .enum-told4 .given .1, c .before .before .before .date-ok .ensures, c .before .before .before .before .enum-told .given .1, c .before .before .before .before .before .before .counts-ok .ensures)
+returns-2 c =
+    let d : tie.After-date-ok = c .before .before .before in
+    simp (basic-open, gates, tests, c .of-test2 .ensures, c .before .enum-told4 .given .1, d .date-ok .ensures, d .before .enum-told .given .1, d .before .before .before .counts-ok .ensures)
 
 time-ok-requires : tie.Need-time-ok-requires
 time-ok-requires c κs = search needs
@@ -49,7 +58,10 @@ of-test-requires-3 : tie.Need-of-test-requires-3
 of-test-requires-3 c κs = search needs
 
 returns-3 : tie.Need-returns-3
-returns-3 c = simp (basic-open, gates, tests, c .of-test3 .ensures, c .before .enum-told6 .given .1, c .before .before .before .time-ok .ensures, c .before .before .before .before .enum-told3 .given .1, c .before .before .before .before .before .before .date-ok .ensures, c .before .before .before .before .before .before .before .enum-told .given .1, c .before .before .before .before .before .before .before .before .before .counts-ok .ensures)
+returns-3 c =
+    let t : tie.After-time-ok = c .before .before .before in
+    let d = date t in
+    simp (basic-open, gates, tests, c .of-test3 .ensures, c .before .enum-told6 .given .1, t .time-ok .ensures, t .before .enum-told3 .given .1, d .date-ok .ensures, d .before .enum-told .given .1, d .before .before .before .counts-ok .ensures)
 
 field-requires : tie.Need-field-requires
 field-requires c κs = search needs
@@ -61,7 +73,11 @@ add-t13 : tie.Need-add-t13
 add-t13 c = search needs
 
 returns-4 : tie.Need-returns-4
-returns-4 c = simp (basic-open, gates, tests, not-true (c .before .mains-ok .result) (c .if1 .taken), ← c .before .mains-ok .ensures, ← c .before .before .field .ensures .0, c .before .before .before .enum-told5 .given .1, c .before .before .before .before .before .time-ok .ensures, c .before .before .before .before .before .before .enum-told3 .given .1, c .before .before .before .before .before .before .before .before .date-ok .ensures, c .before .before .before .before .before .before .before .before .before .enum-told .given .1, c .before .before .before .before .before .before .before .before .before .before .before .counts-ok .ensures)
+returns-4 c =
+    let m : tie.After-mains-ok = c .before in
+    let t = time m in
+    let d = date t in
+    simp (basic-open, gates, tests, not-true (m .mains-ok .result) (c .if1 .taken), ← m .mains-ok .ensures, ← m .before .field .ensures .0, m .before .before .enum-told5 .given .1, t .time-ok .ensures, t .before .enum-told3 .given .1, d .date-ok .ensures, d .before .enum-told .given .1, d .before .before .before .counts-ok .ensures)
 
 field-requires-2 : tie.Need-field-requires-2
 field-requires-2 c κs = search needs
@@ -70,7 +86,11 @@ field-requires-3 : tie.Need-field-requires-3
 field-requires-3 c κs = search needs
 
 returns-5 : tie.Need-returns-5
-returns-5 c = simp (basic-open, gates, tests, not-false (c .before .before .before .mains-ok .result) (c .before .before .if1 .left), ← c .before .before .before .mains-ok .ensures, ← c .before .before .before .before .field .ensures .0, c .before .before .before .before .before .enum-told5 .given .1, c .before .before .before .before .before .before .before .time-ok .ensures, c .before .before .before .before .before .before .before .before .enum-told3 .given .1, c .before .before .before .before .before .before .before .before .before .before .date-ok .ensures, c .before .before .before .before .before .before .before .before .before .before .before .enum-told .given .1, c .before .before .before .before .before .before .before .before .before .before .before .before .before .counts-ok .ensures) (rw (c .before .field2 .ensures .0, c .field3 .ensures .0))
+returns-5 c =
+    let m : tie.After-mains-ok = c .before .before .before in
+    let t = time m in
+    let d = date t in
+    simp (basic-open, gates, tests, not-false (m .mains-ok .result) (c .before .before .if1 .left), ← m .mains-ok .ensures, ← m .before .field .ensures .0, m .before .before .enum-told5 .given .1, t .time-ok .ensures, t .before .enum-told3 .given .1, d .date-ok .ensures, d .before .enum-told .given .1, d .before .before .before .counts-ok .ensures) (rw (c .before .field2 .ensures .0, c .field3 .ensures .0))
 
 pub basic-body-spec : {M : Type 1} → statement M
 basic-body-spec =

@@ -4,6 +4,10 @@ use borrow.Author.Needs.{needs}
 use Rattle.records.proofs.basic.time_ok.Statement.{statement}
 use Rattle.records.proofs.basic.time_ok.Tie as tie
 
+-- what was known where the hour holds, behind the minute
+abbrev houred : tie.Else2 → tie.Else1
+houred y = y .before .before
+
 field-requires : tie.Need-field-requires
 field-requires c κs = search needs
 
@@ -29,10 +33,16 @@ add-t10 : tie.Need-add-t10
 add-t10 c = search needs
 
 returns-3 : tie.Need-returns-3
-returns-3 c = λ k. simp (gates, tests, c .if3 .taken, ← c .before .field3 .ensures .0, c .before .before .if2 .left, ← c .before .before .before .field2 .ensures .0, c .before .before .before .before .if1 .left, ← c .before .before .before .before .before .field .ensures .0)
+returns-3 c =
+    let y : tie.Else2 = c .before .before in
+    let x = houred y in
+    λ k. simp (gates, tests, c .if3 .taken, ← c .before .field3 .ensures .0, y .if2 .left, ← y .before .field2 .ensures .0, x .if1 .left, ← x .before .field .ensures .0)
 
 returns-4 : tie.Need-returns-4
-returns-4 c = λ k. simp (gates, tests, c .if3 .left, ← c .before .field3 .ensures .0, c .before .before .if2 .left, ← c .before .before .before .field2 .ensures .0, c .before .before .before .before .if1 .left, ← c .before .before .before .before .before .field .ensures .0)
+returns-4 c =
+    let y : tie.Else2 = c .before .before in
+    let x = houred y in
+    λ k. simp (gates, tests, c .if3 .left, ← c .before .field3 .ensures .0, y .if2 .left, ← y .before .field2 .ensures .0, x .if1 .left, ← x .before .field .ensures .0)
 
 pub time-ok-spec : {M : Type 1} → statement M
 time-ok-spec =

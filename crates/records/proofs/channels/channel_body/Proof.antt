@@ -8,6 +8,10 @@ use borrow.Author.Needs.{needs}
 use Rattle.records.proofs.channels.channel_body.Statement.{statement}
 use Rattle.records.proofs.channels.channel_body.Tie as tie
 
+-- what was known where the type holds, behind the format
+abbrev typed : tie.After-field3 → tie.Else1
+typed y = y .before .before .before .before
+
 field-requires : tie.Need-field-requires
 field-requires c κs = search needs
 
@@ -32,7 +36,9 @@ add-t11 c = search needs
 
 returns-2 : tie.Need-returns-2
 unfolding channelBody see over gate _>>=_ _>>_
-returns-2 c = simp (places, tests, not-true (c .before .between .result) (c .if2 .taken), ← c .before .between .ensures, ← c .before .before .field2 .ensures .0, not-false (c .before .before .before .before .type-ok .result) (c .before .before .before .if1 .left), ← c .before .before .before .before .type-ok .ensures, ← c .before .before .before .before .before .field .ensures .0)
+returns-2 c =
+    let x : tie.Else1 = c .before .before .before in
+    simp (places, tests, not-true (c .before .between .result) (c .if2 .taken), ← c .before .between .ensures, ← c .before .before .field2 .ensures .0, not-false (x .before .type-ok .result) (x .if1 .left), ← x .before .type-ok .ensures, ← x .before .before .field .ensures .0)
 
 field-requires-3 : tie.Need-field-requires-3
 field-requires-3 c κs = search needs
@@ -48,11 +54,17 @@ add-t13 c = search needs
 
 returns-3 : tie.Need-returns-3
 unfolding channelBody see over gate _>>=_ _>>_
-returns-3 c = simp (places, tests, not-true (c .before .rate-ok .result) (c .if3 .taken), ← c .before .rate-ok .ensures, ← c .before .before .field4 .ensures .0, ← c .before .before .before .field3 .ensures .0, not-false (c .before .before .before .before .before .between .result) (c .before .before .before .before .if2 .left), ← c .before .before .before .before .before .between .ensures, ← c .before .before .before .before .before .before .field2 .ensures .0, not-false (c .before .before .before .before .before .before .before .before .type-ok .result) (c .before .before .before .before .before .before .before .if1 .left), ← c .before .before .before .before .before .before .before .before .type-ok .ensures, ← c .before .before .before .before .before .before .before .before .before .field .ensures .0)
+returns-3 c =
+    let y : tie.After-field3 = c .before .before .before in
+    let x = typed y in
+    simp (places, tests, not-true (c .before .rate-ok .result) (c .if3 .taken), ← c .before .rate-ok .ensures, ← c .before .before .field4 .ensures .0, ← y .field3 .ensures .0, not-false (y .before .before .between .result) (y .before .if2 .left), ← y .before .before .between .ensures, ← y .before .before .before .field2 .ensures .0, not-false (x .before .type-ok .result) (x .if1 .left), ← x .before .type-ok .ensures, ← x .before .before .field .ensures .0)
 
 returns-4 : tie.Need-returns-4
 unfolding channelBody see over gate _>>=_ _>>_
-returns-4 c = simp (places, tests, not-false (c .before .rate-ok .result) (c .if3 .left), ← c .before .rate-ok .ensures, ← c .before .before .field4 .ensures .0, ← c .before .before .before .field3 .ensures .0, not-false (c .before .before .before .before .before .between .result) (c .before .before .before .before .if2 .left), ← c .before .before .before .before .before .between .ensures, ← c .before .before .before .before .before .before .field2 .ensures .0, not-false (c .before .before .before .before .before .before .before .before .type-ok .result) (c .before .before .before .before .before .before .before .if1 .left), ← c .before .before .before .before .before .before .before .before .type-ok .ensures, ← c .before .before .before .before .before .before .before .before .before .field .ensures .0)
+returns-4 c =
+    let y : tie.After-field3 = c .before .before .before in
+    let x = typed y in
+    simp (places, tests, not-false (c .before .rate-ok .result) (c .if3 .left), ← c .before .rate-ok .ensures, ← c .before .before .field4 .ensures .0, ← y .field3 .ensures .0, not-false (y .before .before .between .result) (y .before .if2 .left), ← y .before .before .between .ensures, ← y .before .before .before .field2 .ensures .0, not-false (x .before .type-ok .result) (x .if1 .left), ← x .before .type-ok .ensures, ← x .before .before .field .ensures .0)
 
 pub channel-body-spec : {M : Type 1} → statement M
 channel-body-spec =

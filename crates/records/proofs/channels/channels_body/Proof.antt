@@ -14,6 +14,16 @@ use borrow.Author.Needs.{needs}
 use Rattle.records.proofs.channels.channels_body.Statement.{statement}
 use Rattle.records.proofs.channels.channels_body.Tie as tie
 
+-- what was known where the length is that of the channels, where their count holds, and at the start
+abbrev long : tie.After-channels-from → tie.Else3
+long f = f .before .before .before
+
+abbrev counted : tie.Else3 → tie.Else1
+counted y = y .before .before
+
+abbrev start : tie.Else1 → tie.Start
+start x = x .before .before .before .before
+
 field-requires : tie.Need-field-requires
 field-requires c κs = search needs
 
@@ -51,7 +61,9 @@ add-t18 c = search needs
 
 returns-3 : tie.Need-returns-3
 unfolding channelsBody
-returns-3 c = λ b e. simp (walks, tests, e, c .if3 .taken, eq-eqb _ _ (c .before .if2 .left), not-false (c .before .before .before .between .result) (c .before .before .if1 .left), ← c .before .before .before .between .ensures, ← c .before .before .before .before .field .ensures .0)
+returns-3 c =
+    let x : tie.Else1 = c .before .before in
+    λ b e. simp (walks, tests, e, c .if3 .taken, eq-eqb _ _ (c .before .if2 .left), not-false (x .before .between .result) (x .if1 .left), ← x .before .between .ensures, ← x .before .before .field .ensures .0)
 
 field-requires-2 : tie.Need-field-requires-2
 field-requires-2 c κs = search needs
@@ -61,7 +73,10 @@ add-t21 c = search needs
 
 returns-4 : tie.Need-returns-4
 unfolding channelsBody
-returns-4 c = λ b e. simp (walks, tests, e, c .if4 .taken, ← c .before .field2 .ensures .0, eq-eqb _ _ (c .before .before .if3 .left), eq-eqb _ _ (c .before .before .before .if2 .left), not-false (c .before .before .before .before .before .between .result) (c .before .before .before .before .if1 .left), ← c .before .before .before .before .before .between .ensures, ← c .before .before .before .before .before .before .field .ensures .0)
+returns-4 c =
+    let y : tie.Else3 = c .before .before in
+    let x = counted y in
+    λ b e. simp (walks, tests, e, c .if4 .taken, ← c .before .field2 .ensures .0, eq-eqb _ _ (y .if3 .left), eq-eqb _ _ (y .before .if2 .left), not-false (x .before .between .result) (x .if1 .left), ← x .before .between .ensures, ← x .before .before .field .ensures .0)
 
 add-channels-from : tie.Need-add-channels-from
 add-channels-from c = search needs
@@ -80,13 +95,22 @@ of-step-requires c κs = search needs
 
 returns-5 : tie.Need-returns-5
 unfolding channelsBody
-returns-5 c = λ b e. let r : 16 + length (now (c .before .before .before .before .before .before .before .before .before .before .before .before .args .s)) - 32 ≡ length (now (c .before .before .before .before .before .before .before .before .before .before .before .before .args .s)) - 16 = omega arith in simp (walks, tests, r, e, c .before .enum-told2 .given .1, c .of-step .ensures, eq-eqb _ _ (c .before .before .before .before .if4 .left), ← c .before .before .before .before .before .field2 .ensures .0, eq-eqb _ _ (c .before .before .before .before .before .before .if3 .left), eq-eqb _ _ (c .before .before .before .before .before .before .before .if2 .left), not-false (c .before .before .before .before .before .before .before .before .before .between .result) (c .before .before .before .before .before .before .before .before .if1 .left), ← c .before .before .before .before .before .before .before .before .before .between .ensures, ← c .before .before .before .before .before .before .before .before .before .before .field .ensures .0) (simp places at (rw (c .before .enum-told2 .given .1) at (c .before .before .before .channels-from .ensures .seen)))
+returns-5 c =
+    let f : tie.After-channels-from = c .before .before .before in
+    let y = long f in
+    let x = counted y in
+    let z = start x in
+    λ b e. let r : 16 + length (now (z .args .s)) - 32 ≡ length (now (z .args .s)) - 16 = omega arith in simp (walks, tests, r, e, c .before .enum-told2 .given .1, c .of-step .ensures, eq-eqb _ _ (f .before .if4 .left), ← f .before .before .field2 .ensures .0, eq-eqb _ _ (y .if3 .left), eq-eqb _ _ (y .before .if2 .left), not-false (x .before .between .result) (x .if1 .left), ← x .before .between .ensures, ← x .before .before .field .ensures .0) (simp places at (rw (c .before .enum-told2 .given .1) at (f .channels-from .ensures .seen)))
 
 returns-6 : tie.Need-returns-6
 unfolding channelsBody
 returns-6 c =
-    let v = rw (c .enum-told .given .1) at (c .before .before .channels-from .ensures .stands) in
-    λ b e. let r : 16 + length (now (c .before .before .before .before .before .before .before .before .before .before .before .args .s)) - 32 ≡ length (now (c .before .before .before .before .before .before .before .before .before .before .before .args .s)) - 16 = omega arith in simp (walks, tests, r, e, eq-eqb _ _ (c .before .before .before .if4 .left), ← c .before .before .before .before .field2 .ensures .0, eq-eqb _ _ (c .before .before .before .before .before .if3 .left), eq-eqb _ _ (c .before .before .before .before .before .before .if2 .left), not-false (c .before .before .before .before .before .before .before .before .between .result) (c .before .before .before .before .before .before .before .if1 .left), ← c .before .before .before .before .before .before .before .before .between .ensures, ← c .before .before .before .before .before .before .before .before .before .field .ensures .0) (simp places at (rw (c .enum-told .given .1) at (c .before .before .channels-from .ensures .seen)) ∙ ap (λ (x : ℕ). goes tt x) (omega arith))
+    let f : tie.After-channels-from = c .before .before in
+    let y = long f in
+    let x = counted y in
+    let z = start x in
+    let v = rw (c .enum-told .given .1) at (f .channels-from .ensures .stands) in
+    λ b e. let r : 16 + length (now (z .args .s)) - 32 ≡ length (now (z .args .s)) - 16 = omega arith in simp (walks, tests, r, e, eq-eqb _ _ (f .before .if4 .left), ← f .before .before .field2 .ensures .0, eq-eqb _ _ (y .if3 .left), eq-eqb _ _ (y .before .if2 .left), not-false (x .before .between .result) (x .if1 .left), ← x .before .between .ensures, ← x .before .before .field .ensures .0) (simp places at (rw (c .enum-told .given .1) at (f .channels-from .ensures .seen)) ∙ ap (λ (x : ℕ). goes tt x) (omega arith))
 
 pub channels-body-spec : {M : Type 1} → statement M
 channels-body-spec =

@@ -34,7 +34,8 @@ enum-told c = search needs
 
 returns : tie.Need-returns Inv-loop μ-loop
 returns c =
-    simp (c .enum-told .given .1) (record { seen = c .before .before .before .before .loop .inv .3 ∙ series-stop _ _ _ _ _ _ _ _ _ _ _ (c .before .before .before .loop-test .taken) (rw (c .enum-told .given .1) at (c .before .before .channel-at .ensures .seen)); stands = tt })
+    let f : tie.After-channel-at Inv-loop μ-loop = c .before .before in
+    simp (c .enum-told .given .1) (record { seen = f .before .before .loop .inv .3 ∙ series-stop _ _ _ _ _ _ _ _ _ _ _ (f .before .loop-test .taken) (rw (c .enum-told .given .1) at (f .channel-at .ensures .seen)); stands = tt })
 
 add-i : tie.Need-add-i Inv-loop μ-loop
 add-i c = search needs
@@ -44,8 +45,9 @@ loop-less c = search needs
 
 loop-again : tie.Need-loop-again Inv-loop μ-loop
 loop-again c =
-    let v = rw (c .before .step .given .1) at (c .before .before .before .channel-at .ensures .stands) in
-    (search needs, omega arith, v .1, c .before .before .before .before .before .loop .inv .3 ∙ series-go _ _ _ _ _ _ _ _ _ (c .before .before .before .before .loop-test .taken) (v .0) (rw (c .before .step .given .1) at (c .before .before .before .channel-at .ensures .seen)))
+    let f : tie.After-channel-at Inv-loop μ-loop = c .before .before .before in
+    let v = rw (c .before .step .given .1) at (f .channel-at .ensures .stands) in
+    (search needs, omega arith, v .1, f .before .before .loop .inv .3 ∙ series-go _ _ _ _ _ _ _ _ _ (f .before .loop-test .taken) (v .0) (rw (c .before .step .given .1) at (f .channel-at .ensures .seen)))
 
 returns-2 : tie.Need-returns-2 Inv-loop μ-loop
 returns-2 c = record { seen = c .before .loop .inv .3 ∙ series-none _ _ _ _ _ _ _ _ _ (c .loop-test .left); stands = omega arith }

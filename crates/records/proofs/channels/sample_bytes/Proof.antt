@@ -19,6 +19,10 @@ Inv-loop o s subs m t p₀ sum₀ i₀ p sum i = (i ≤ m) × (p ≡ subs + 256 
 abbrev μ-loop : tie.MeasureT-loop
 μ-loop o s subs m t p₀ sum₀ i₀ p sum i = m - i
 
+-- a channel has few bytes
+few : (c : tie.After-samples-in Inv-loop μ-loop) → c .before .width .result * c .samples-in .result ≤ 61847529062400
+few c = bytes-short (c .before .width .result) (c .samples-in .result) (c .before .width .ensures .1) (c .samples-in .ensures .1)
+
 loop-holds : tie.Need-loop-holds Inv-loop μ-loop
 loop-holds c = (search needs, search needs, search needs, λ cs e k. record { rest = cs; count = e ∙ sym (sub-zero _); kept = k; total = zero-add _ })
 
@@ -47,10 +51,10 @@ samples-in-requires : tie.Need-samples-in-requires Inv-loop μ-loop
 samples-in-requires c κs = search needs
 
 mul-sum : tie.Need-mul-sum Inv-loop μ-loop
-mul-sum c = record { fits = omega (arith, bytes-short (c .before .width .result) (c .samples-in .result) (c .before .width .ensures .1) (c .samples-in .ensures .1)) }
+mul-sum c = record { fits = omega (arith, few c) }
 
 add-sum : tie.Need-add-sum Inv-loop μ-loop
-add-sum c = let h = bytes-short (c .before .width .result) (c .samples-in .result) (c .before .width .ensures .1) (c .samples-in .ensures .1) in omega arith
+add-sum c = let h = few c in omega arith
 
 add-p : tie.Need-add-p Inv-loop μ-loop
 add-p c = search needs
@@ -63,13 +67,14 @@ loop-less c = search needs
 
 loop-again : tie.Need-loop-again Inv-loop μ-loop
 loop-again c =
-    let h = bytes-short (c .before .width .result) (c .samples-in .result) (c .before .width .ensures .1) (c .samples-in .ensures .1) in (
+    let n : tie.After-number42 Inv-loop μ-loop = c .before .before .before in
+    let h = few c in (
       omega arith,
       omega arith,
       omega arith,
       λ cs e k.
           rw (c .before .width .ensures .0, c .samples-in .ensures .0)
-          (rest-more (c .before .before .before .before .before .before .loop .inv .3 cs e k) _ (omega arith) _ _ _ (c .before .before .before .before .number4 .ensures .0) (c .before .before .before .number42 .ensures .0) (c .before .before .number43 .ensures .0)),
+          (rest-more (n .before .before .before .loop .inv .3 cs e k) _ (omega arith) _ _ _ (n .before .number4 .ensures .0) (n .number42 .ensures .0) (c .before .before .number43 .ensures .0)),
     )
 
 returns : tie.Need-returns Inv-loop μ-loop

@@ -12,6 +12,13 @@ use borrow.Author.Needs.{needs}
 use Rattle.records.proofs.frames.frame_body.Statement.{statement}
 use Rattle.records.proofs.frames.frame_body.Tie as tie
 
+-- what was known where the hour holds, behind the minute, and at the start
+abbrev houred : tie.Else2 → tie.Else1
+houred y = y .before .before
+
+abbrev start : tie.Else1 → tie.Start
+start x = x .before .before .before
+
 short-field-requires : tie.Need-short-field-requires
 short-field-requires c κs = search needs
 
@@ -40,7 +47,10 @@ add-t11 c = search needs
 
 returns-3 : tie.Need-returns-3
 unfolding frameBody
-returns-3 c = λ t cs e. simp (walks, tests, c .if3 .taken, ← c .before .short-field3 .ensures .0, c .before .before .if2 .left, ← c .before .before .before .short-field2 .ensures .0, c .before .before .before .before .if1 .left, ← c .before .before .before .before .before .short-field .ensures .0)
+returns-3 c =
+    let y : tie.Else2 = c .before .before in
+    let x = houred y in
+    λ t cs e. simp (walks, tests, c .if3 .taken, ← c .before .short-field3 .ensures .0, y .if2 .left, ← y .before .short-field2 .ensures .0, x .if1 .left, ← x .before .short-field .ensures .0)
 
 add-padding : tie.Need-add-padding
 add-padding c = search needs
@@ -54,15 +64,18 @@ padding-requires c κs = search needs
 returns-4 : tie.Need-returns-4
 unfolding frameBody
 returns-4 c =
-    let o = c .before .before .before .before .before .before .before .before .args .o in
-    let s = now (c .before .before .before .before .before .before .before .before .args .s) in
-    let a = c .before .before .before .before .before .before .before .before .args .at in
-    let f = c .before .before .before .before .before .before .before .before .args .filled in
+    let y : tie.Else2 = c .before .before .before in
+    let x = houred y in
+    let z = start x in
+    let o = z .args .o in
+    let s = now (z .args .s) in
+    let a = z .args .at in
+    let f = z .args .filled in
     λ t cs e.
     let d : a + 24 + sampleBytes t cs ≡ a + 16 + (f - 16) = omega arith in
     let m : 16 + length s - (24 + sampleBytes t cs) ≡ length s - (f - 16) = omega arith in
     let z : a + (16 + length s) ≡ a + 16 + length s = omega arith in
-    simp (walks, tests, c .before .if3 .left, ← c .before .before .short-field3 .ensures .0, c .before .before .before .if2 .left, ← c .before .before .before .before .short-field2 .ensures .0, c .before .before .before .before .before .if1 .left, ← c .before .before .before .before .before .before .short-field .ensures .0)
+    simp (walks, tests, c .before .if3 .left, ← c .before .before .short-field3 .ensures .0, y .if2 .left, ← y .before .short-field2 .ensures .0, x .if1 .left, ← x .before .short-field .ensures .0)
     (then-skip _ _ (a + 24 + sampleBytes t cs) _ (ends-samples o (a + 16) s t cs (a + 24))
     (λ ss. rw (d, m, z, c .padding .ensures o) (tested-give (c .padding .result) _ _)))
 

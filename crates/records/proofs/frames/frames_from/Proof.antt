@@ -19,6 +19,10 @@ Inv-loop o s base from count size filled p₀ i₀ p i = (i ≤ count) × (p ≡
 abbrev μ-loop : tie.MeasureT-loop
 μ-loop o s base from count size filled p₀ i₀ p i = count - i
 
+-- what was known at the start
+abbrev start : tie.After-frame-at Inv-loop μ-loop → tie.Start Inv-loop μ-loop
+start f = f .before .before .before .before
+
 loop-holds : tie.Need-loop-holds Inv-loop μ-loop
 loop-holds c = (search needs, omega arith, search needs, λ t cs e. simp sub-zero)
 
@@ -36,7 +40,8 @@ enum-told c = search needs
 
 returns : tie.Need-returns Inv-loop μ-loop
 returns c =
-    simp (c .enum-told .given .1) (record { seen = (λ t cs e. c .before .before .before .before .loop .inv .3 t cs e ∙ series-stop _ _ _ _ _ _ _ _ _ _ _ (c .before .before .before .loop-test .taken) (rw (c .enum-told .given .1) at (c .before .before .frame-at .ensures .seen t cs e))); stands = tt })
+    let f : tie.After-frame-at Inv-loop μ-loop = c .before .before in
+    simp (c .enum-told .given .1) (record { seen = (λ t cs e. f .before .before .loop .inv .3 t cs e ∙ series-stop _ _ _ _ _ _ _ _ _ _ _ (f .before .loop-test .taken) (rw (c .enum-told .given .1) at (f .frame-at .ensures .seen t cs e))); stands = tt })
 
 add-i : tie.Need-add-i Inv-loop μ-loop
 add-i c = search needs
@@ -46,9 +51,11 @@ loop-less c = search needs
 
 loop-again : tie.Need-loop-again Inv-loop μ-loop
 loop-again c =
-    let v = rw (c .before .step .given .1) at (c .before .before .before .frame-at .ensures .stands) in
-    let m : c .before .before .before .before .before .before .before .args .size * (c .before .before .before .before .before .loop .i + 1) ≡ c .before .before .before .before .before .before .before .args .size * c .before .before .before .before .before .loop .i + c .before .before .before .before .before .before .before .args .size = rw add-one (mul-suc (c .before .before .before .before .before .before .before .args .size) (c .before .before .before .before .before .loop .i)) in
-    (search needs, omega arith, v .1, λ t cs e. c .before .before .before .before .before .loop .inv .3 t cs e ∙ series-go _ _ _ _ _ _ _ _ _ (c .before .before .before .before .loop-test .taken) (v .0) (rw (c .before .step .given .1) at (c .before .before .before .frame-at .ensures .seen t cs e)))
+    let f : tie.After-frame-at Inv-loop μ-loop = c .before .before .before in
+    let z = start f in
+    let v = rw (c .before .step .given .1) at (f .frame-at .ensures .stands) in
+    let m : z .args .size * (f .before .before .loop .i + 1) ≡ z .args .size * f .before .before .loop .i + z .args .size = rw add-one (mul-suc (z .args .size) (f .before .before .loop .i)) in
+    (search needs, omega arith, v .1, λ t cs e. f .before .before .loop .inv .3 t cs e ∙ series-go _ _ _ _ _ _ _ _ _ (f .before .loop-test .taken) (v .0) (rw (c .before .step .given .1) at (f .frame-at .ensures .seen t cs e)))
 
 returns-2 : tie.Need-returns-2 Inv-loop μ-loop
 returns-2 c =

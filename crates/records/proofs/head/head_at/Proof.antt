@@ -38,7 +38,9 @@ number4-requires-4 c κs = search needs
 
 returns-2 : tie.Need-returns-2
 unfolding head
-returns-2 c = record { seen = simp (walks, tests, ← c .number44 .ensures .0, ← c .before .number43 .ensures .0, ← c .before .before .number42 .ensures .0, ← c .before .before .before .number4 .ensures .0, c .before .before .before .before .if1 .left); stands = search needs }
+returns-2 c =
+    let x : tie.After-number4 = c .before .before .before in
+    record { seen = simp (walks, tests, ← c .number44 .ensures .0, ← c .before .number43 .ensures .0, ← c .before .before .number42 .ensures .0, ← x .number4 .ensures .0, x .before .if1 .left); stands = search needs }
 
 pub head-at-spec : {M : Type 1} → statement M
 head-at-spec =

@@ -7,6 +7,13 @@ use borrow.Author.Needs.{needs}
 use Rattle.records.proofs.items.code_ok.Statement.{statement}
 use Rattle.records.proofs.items.code_ok.Tie as tie
 
+-- what was known where the code is none of the first range, and where it is no keyword
+abbrev unranged : tie.Else3 → tie.Else2
+unranged w = w .before .before
+
+abbrev unkeyed : tie.Else2 → tie.Else1
+unkeyed y = y .before .before
+
 enum-told : tie.Need-enum-told
 enum-told c = search needs
 
@@ -22,21 +29,30 @@ between-requires c κs = search needs
 
 returns-2 : tie.Need-returns-2
 unfolding patientCode eventCode okOf
-returns-2 c = simp (tests, c .if2 .taken, ← c .before .between .ensures, c .before .before .if1 .left, ← c .before .before .before .keyword .ensures, c .before .before .before .before .enum-told .given .1)
+returns-2 c =
+    let x : tie.Else1 = c .before .before in
+    simp (tests, c .if2 .taken, ← c .before .between .ensures, x .if1 .left, ← x .before .keyword .ensures, x .before .before .enum-told .given .1)
 
 between-requires-2 : tie.Need-between-requires-2
 between-requires-2 c κs = search needs
 
 returns-3 : tie.Need-returns-3
 unfolding patientCode eventCode okOf
-returns-3 c = simp (tests, c .if3 .taken, ← c .before .between2 .ensures, c .before .before .if2 .left, ← c .before .before .before .between .ensures, c .before .before .before .before .if1 .left, ← c .before .before .before .before .before .keyword .ensures, c .before .before .before .before .before .before .enum-told .given .1)
+returns-3 c =
+    let y : tie.Else2 = c .before .before in
+    let x = unkeyed y in
+    simp (tests, c .if3 .taken, ← c .before .between2 .ensures, y .if2 .left, ← y .before .between .ensures, x .if1 .left, ← x .before .keyword .ensures, x .before .before .enum-told .given .1)
 
 between-requires-3 : tie.Need-between-requires-3
 between-requires-3 c κs = search needs
 
 returns-4 : tie.Need-returns-4
 unfolding patientCode eventCode okOf
-returns-4 c = simp (tests, c .if4 .taken, ← c .before .between3 .ensures, c .before .before .if3 .left, ← c .before .before .before .between2 .ensures, c .before .before .before .before .if2 .left, ← c .before .before .before .before .before .between .ensures, c .before .before .before .before .before .before .if1 .left, ← c .before .before .before .before .before .before .before .keyword .ensures, c .before .before .before .before .before .before .before .before .enum-told .given .1)
+returns-4 c =
+    let w : tie.Else3 = c .before .before in
+    let y = unranged w in
+    let x = unkeyed y in
+    simp (tests, c .if4 .taken, ← c .before .between3 .ensures, w .if3 .left, ← w .before .between2 .ensures, y .if2 .left, ← y .before .between .ensures, x .if1 .left, ← x .before .keyword .ensures, x .before .before .enum-told .given .1)
 
 between-requires-4 : tie.Need-between-requires-4
 between-requires-4 c κs = search needs
@@ -57,7 +73,11 @@ returns-6 c = simp (tests, not-true (c .before .between5 .result) (c .if6 .taken
 
 returns-7 : tie.Need-returns-7
 unfolding patientCode eventCode okOf
-returns-7 c = simp (tests, ← c .between4 .ensures, c .before .if4 .left, ← c .before .before .between3 .ensures, c .before .before .before .if3 .left, ← c .before .before .before .before .between2 .ensures, c .before .before .before .before .before .if2 .left, ← c .before .before .before .before .before .before .between .ensures, c .before .before .before .before .before .before .before .if1 .left, ← c .before .before .before .before .before .before .before .before .keyword .ensures, c .before .before .before .before .before .before .before .before .before .enum-told .given .1)
+returns-7 c =
+    let w : tie.Else3 = c .before .before .before in
+    let y = unranged w in
+    let x = unkeyed y in
+    simp (tests, ← c .between4 .ensures, c .before .if4 .left, ← c .before .before .between3 .ensures, w .if3 .left, ← w .before .between2 .ensures, y .if2 .left, ← y .before .between .ensures, x .if1 .left, ← x .before .keyword .ensures, x .before .before .enum-told .given .1)
 
 returns-8 : tie.Need-returns-8
 unfolding patientCode eventCode okOf

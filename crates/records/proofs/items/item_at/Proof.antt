@@ -10,6 +10,13 @@ use borrow.Author.Needs.{needs}
 use Rattle.records.proofs.items.item_at.Statement.{statement}
 use Rattle.records.proofs.items.item_at.Tie as tie
 
+-- what was known where the size is no less than the least, and at the start
+abbrev sized : tie.Else4 → tie.Else2
+sized e = e .before .before
+
+abbrev start : tie.Else2 → tie.Start
+start y = y .before .before .before .before
+
 add-if1 : tie.Need-add-if1
 add-if1 c = search needs
 
@@ -48,7 +55,10 @@ add-t18 c = search needs
 
 returns-4 : tie.Need-returns-4
 unfolding item see over gate _>>=_ _>>_
-returns-4 c = record { seen = simp (places, tests, leb-fits _ _ (c .before .before .before .before .before .before .pre .low), c .if4 .taken, c .before .if3 .left, c .before .before .if2 .left, ← c .before .before .before .number4 .ensures .0, c .before .before .before .before .if1 .left); stands = tt }
+returns-4 c =
+    let y : tie.Else2 = c .before .before in
+    let z = start y in
+    record { seen = simp (places, tests, leb-fits _ _ (z .pre .low), c .if4 .taken, c .before .if3 .left, y .if2 .left, ← y .before .number4 .ensures .0, y .before .before .if1 .left); stands = tt }
 
 add-number4 : tie.Need-add-number4
 add-number4 c = search needs
@@ -64,7 +74,11 @@ add-t21 c = search needs
 
 returns-5 : tie.Need-returns-5
 unfolding item see over gate _>>=_ _>>_
-returns-5 c = record { seen = simp (places, tests, leb-fits _ _ (c .before .before .before .before .before .before .before .before .before .pre .low), c .if5 .taken, ← c .before .code-ok .ensures, ← c .before .before .number42 .ensures .0, c .before .before .before .if4 .left, c .before .before .before .before .if3 .left, c .before .before .before .before .before .if2 .left, ← c .before .before .before .before .before .before .number4 .ensures .0, c .before .before .before .before .before .before .before .if1 .left) (ap (λ (x : ℕ). goes tt x) (omega arith)); stands = record { low = omega arith; inside = omega arith } }
+returns-5 c =
+    let e : tie.Else4 = c .before .before .before in
+    let y = sized e in
+    let z = start y in
+    record { seen = simp (places, tests, leb-fits _ _ (z .pre .low), c .if5 .taken, ← c .before .code-ok .ensures, ← c .before .before .number42 .ensures .0, e .if4 .left, e .before .if3 .left, y .if2 .left, ← y .before .number4 .ensures .0, y .before .before .if1 .left) (ap (λ (x : ℕ). goes tt x) (omega arith)); stands = record { low = omega arith; inside = omega arith } }
 
 add-t9 : tie.Need-add-t9
 add-t9 c = search needs
@@ -74,7 +88,11 @@ add-t22 c = search needs
 
 returns-6 : tie.Need-returns-6
 unfolding item see over gate _>>=_ _>>_
-returns-6 c = record { seen = simp (places, tests, leb-fits _ _ (c .before .before .before .before .before .before .before .before .before .pre .low), c .if5 .left, ← c .before .code-ok .ensures, ← c .before .before .number42 .ensures .0, c .before .before .before .if4 .left, c .before .before .before .before .if3 .left, c .before .before .before .before .before .if2 .left, ← c .before .before .before .before .before .before .number4 .ensures .0, c .before .before .before .before .before .before .before .if1 .left); stands = tt }
+returns-6 c =
+    let e : tie.Else4 = c .before .before .before in
+    let y = sized e in
+    let z = start y in
+    record { seen = simp (places, tests, leb-fits _ _ (z .pre .low), c .if5 .left, ← c .before .code-ok .ensures, ← c .before .before .number42 .ensures .0, e .if4 .left, e .before .if3 .left, y .if2 .left, ← y .before .number4 .ensures .0, y .before .before .if1 .left); stands = tt }
 
 pub item-at-spec : {M : Type 1} → statement M
 item-at-spec =

@@ -32,7 +32,8 @@ enum-told c = search needs
 
 returns : tie.Need-returns Inv-loop μ-loop
 returns c =
-    simp (c .enum-told .given .1) (record { seen = c .before .before .before .before .loop .inv .3 ∙ list-stop _ _ _ _ _ _ _ _ _ _ (c .before .before .before .loop-test .taken) (rw (c .enum-told .given .1) at (c .before .before .item-at .ensures .seen)); stands = tt })
+    let f : tie.After-item-at Inv-loop μ-loop = c .before .before in
+    simp (c .enum-told .given .1) (record { seen = f .before .before .loop .inv .3 ∙ list-stop _ _ _ _ _ _ _ _ _ _ (f .before .loop-test .taken) (rw (c .enum-told .given .1) at (f .item-at .ensures .seen)); stands = tt })
 
 add-i : tie.Need-add-i Inv-loop μ-loop
 add-i c = search needs
@@ -42,8 +43,9 @@ loop-less c = search needs
 
 loop-again : tie.Need-loop-again Inv-loop μ-loop
 loop-again c =
-    let v = rw (c .before .step .given .1) at (c .before .before .before .item-at .ensures .stands) in
-    (search needs, omega arith, v .inside, c .before .before .before .before .before .loop .inv .3 ∙ list-go _ _ _ _ _ _ _ _ (c .before .before .before .before .loop-test .taken) (c .before .before .before .before .before .loop .inv .2) (rw (c .before .step .given .1) at (c .before .before .before .item-at .ensures .seen)))
+    let f : tie.After-item-at Inv-loop μ-loop = c .before .before .before in
+    let v = rw (c .before .step .given .1) at (f .item-at .ensures .stands) in
+    (search needs, omega arith, v .inside, f .before .before .loop .inv .3 ∙ list-go _ _ _ _ _ _ _ _ (f .before .loop-test .taken) (f .before .before .loop .inv .2) (rw (c .before .step .given .1) at (f .item-at .ensures .seen)))
 
 returns-2 : tie.Need-returns-2 Inv-loop μ-loop
 returns-2 c = record { seen = c .before .loop .inv .3 ∙ list-none _ _ _ _ _ _ _ _ (c .loop-test .left); stands = record { low = c .before .loop .inv .1; inside = c .before .loop .inv .2 } }

@@ -30,7 +30,9 @@ returns-3 : tie.Need-returns-3
 returns-3 c = simp (tests, c .before .f2 .given .1)
 
 returns-4 : tie.Need-returns-4
-returns-4 c = simp (tests, ← c .pad-ok .ensures, ← c .before .less .ensures, eq-eqb _ _ (c .before .before .if1 .left), c .before .before .before .before .f3 .given .1)
+returns-4 c =
+    let x : tie.Else1 = c .before .before in
+    simp (tests, ← c .pad-ok .ensures, ← c .before .less .ensures, eq-eqb _ _ (x .if1 .left), x .before .before .f3 .given .1)
 
 pub length-ok-spec : {M : Type 1} → statement M
 length-ok-spec =
