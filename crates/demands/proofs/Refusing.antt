@@ -22,7 +22,7 @@ use Rattle.rules.specs.Turned.{turned}
 use Rattle.rules.specs.declared.Refusal.{Refusal}
 use Rattle.rules.proofs.Refusals.{refusals}
 use Rattle.rules.proofs.Turn.{nothing-left, turn-length}
-use Rattle.header.specs.Opened.{lettered}
+use Rattle.header.specs.Letters.{lettered}
 use Rattle.header.specs.declared.Lettered.{Lettered}
 use Rattle.header.specs.declared.Lettered.the-variants as Lettered
 use Rattle.rows.specs.Rows.{written, flat}

@@ -23,7 +23,7 @@ use Rattle.rules.specs.Rules as R
 use Rattle.rules.specs.declared.FileHeader.{FileHeader}
 use Rattle.rules.specs.declared.Refusal.{Refusal}
 use Rattle.records.specs.declared.items.Holder.the-variants as Holder
-use Rattle.header.specs.Opened.{lettered}
+use Rattle.header.specs.Letters.{lettered}
 use Rattle.header.specs.declared.Lettered.the-variants as Lettered
 use Rattle.judge.specs.Judged.{AcceptedAs, JudgedAs}
 use Rattle.judge.specs.declared.Judged.{Judged}

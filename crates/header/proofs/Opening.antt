@@ -19,7 +19,8 @@ use Rattle.walk.specs.See.{Verdict, gate, see, stops, goes}
 use Rattle.walk.specs.Walk.{pick, swap, laid, Letter, _>>=_, _>>_}
 use Rattle.walk.proofs.Laid.{laid-text}
 use Rattle.rules.specs.Rules.{between, sameBytes, identifier, version, form, allSpaces, isDigit, decimal, countOf, countFits, countIs, isScript, FileHeader, fileHeader, orderOf}
-use Rattle.header.specs.Opened.{lettered, names, nameTests}
+use Rattle.header.specs.Letters.{lettered}
+use Rattle.header.specs.Opened.{names, nameTests}
 use Rattle.header.specs.declared.Lettered.{Lettered}
 use Rattle.header.specs.declared.Lettered.the-variants as Lettered
 

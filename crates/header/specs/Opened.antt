@@ -3,35 +3,24 @@ use mathlib.Core.Path.{_≡_}
 use mathlib.Core.Bool.{Bool, true, false}
 use mathlib.Core.List.{List}
 use Prim.Native.Nat.{ℕ, _≤_}
-use lib.Dec.{eqb}
 use lib.ListN.{length}
-use Rattle.words.specs.Numbers.{letterOf, bytesAt}
+use Rattle.words.specs.Numbers.{bytesAt}
 use Rattle.words.specs.declared.Order.{Order}
-use Rattle.words.specs.declared.Order.the-variants.{Little, Big}
 use Rattle.walk.specs.See.{Verdict, goes, gate, see}
-use Rattle.walk.specs.Walk.{pick}
 use Rattle.rules.specs.declared.FileHeader.{FileHeader}
-use Rattle.rules.specs.declared.Heading.{Heading}
 use Rattle.rules.specs.declared.Refusal.{Refusal}
 use Rattle.rules.specs.Rules as R
 use Rattle.records.specs.Says.{halts}
+use Rattle.header.specs.Letters.{headingOf}
 use Rattle.header.specs.declared.Lettered.{Lettered}
 use Rattle.header.specs.declared.Opened.{Opened}
 use Rattle.header.specs.declared.Lettered.the-variants as Lettered
 use Rattle.header.specs.declared.Opened.the-variants as Opened
 
--- the order that a byte names: L or B
-unfoldable pub lettered : ℕ → Lettered
-lettered b = pick (eqb b (letterOf Little)) (Lettered.Names Little) (pick (eqb b (letterOf Big)) (Lettered.Names Big) Lettered.Nothing)
-
 -- whether it names one
 abbrev pub names : Lettered → Bool
 names (Lettered.Names o) = true
 names Lettered.Nothing = false
-
--- the header's values that the code keeps, as the rules have them
-abbrev pub headingOf : Heading → R.Heading
-headingOf g = record { script = g .script }
 
 -- the header holds, and the walk goes on behind its 32 bytes; or it is refused
 abbrev pub opened : Opened → Verdict R.FileHeader

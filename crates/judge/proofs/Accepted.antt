@@ -14,7 +14,7 @@ use Rattle.walk.proofs.Told.{tell-bind, tell-give, Silent, silent}
 use Rattle.rules.specs.Rules.{FileHeader, Placed, File, orderOf, fileHeader, recordings, file}
 use Rattle.rules.specs.declared.FileHeader as Declared
 use Rattle.rules.proofs.Rows.{judge-rows}
-use Rattle.header.specs.Opened.{headingOf}
+use Rattle.header.specs.Letters.{headingOf}
 use Rattle.judge.specs.Judged.{AcceptedAs}
 use Rattle.judge.proofs.Verdicts.{accepted-seen}
 

@@ -19,7 +19,7 @@ use Rattle.rules.specs.Rules.{FileHeader, Placed, File, fileHeader, recordings,
 use Rattle.rules.specs.declared.FileHeader as Declared
 use Rattle.rules.proofs.Refusals.{Told, judge-told}
 use Rattle.rules.proofs.Room.{stays-fileHeader, stays-file}
-use Rattle.header.specs.Opened.{headingOf}
+use Rattle.header.specs.Letters.{headingOf}
 use Rattle.judge.specs.Judged.{AcceptedAs, JudgedAs}
 use Rattle.judge.specs.declared.Judged.{Judged}
 use Rattle.judge.specs.declared.Judged.the-variants as Judged

@@ -8,7 +8,7 @@ use Rattle.walk.specs.Walk.{Event, refused, passed}
 use Rattle.rules.specs.Rules as R
 use Rattle.rules.specs.declared.FileHeader.{FileHeader}
 use Rattle.rules.specs.declared.Refusal.{Refusal}
-use Rattle.header.specs.Opened.{headingOf}
+use Rattle.header.specs.Letters.{headingOf}
 use Rattle.judge.specs.declared.Judged.{Judged}
 use Rattle.judge.specs.declared.Judged.the-variants as Judged
 use Rattle.judge.specs.declared.recording.Recorded.{Recorded}

@@ -21,7 +21,7 @@ use Rattle.rules.proofs.Canon.{ContentsOk, file-ok, header-size}
 use Rattle.rules.proofs.Renew.{and-true}
 use Rattle.rules.proofs.Rewrite.{rewritten-of, reading-words}
 use Rattle.rules.proofs.Turn.{accepted}
-use Rattle.header.specs.Opened.{lettered, headingOf}
+use Rattle.header.specs.Letters.{lettered, headingOf}
 use Rattle.header.specs.declared.Lettered.{Lettered}
 use Rattle.header.specs.declared.Lettered.the-variants as Lettered
 use Rattle.judge.specs.Judged.{AcceptedAs}

@@ -16,7 +16,7 @@ use Rattle.rules.specs.Rules.{File, judge, orderOf}
 use Rattle.rules.specs.Turned.{turned}
 use Rattle.rules.proofs.Rewrite.{rewrite-canonical, rewrite-order, rewrite-turned}
 use Rattle.rules.proofs.Turn.{turn-judge}
-use Rattle.header.specs.Opened.{lettered}
+use Rattle.header.specs.Letters.{lettered}
 use Rattle.header.specs.declared.Lettered.the-variants as Lettered
 use Rattle.bodies.specs.Orders.{sameOrder}
 use Rattle.makers.specs.Makers.{firstMaker}

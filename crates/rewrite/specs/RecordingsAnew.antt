@@ -17,7 +17,7 @@ use Rattle.rules.specs.declared.Channels.{Channels}
 use Rattle.rules.specs.declared.Head.{Head}
 use Rattle.rules.specs.declared.Heading.{Heading}
 use Rattle.records.specs.Says.{subsAt, ChannelsIn, ChannelsStand}
-use Rattle.header.specs.Opened.{headingOf}
+use Rattle.header.specs.Letters.{headingOf}
 use Rattle.descriptions.specs.declared.Places.{Places}
 use Rattle.children.specs.Recordings.{ReadAs}
 use Rattle.bodies.specs.Copy.{Pastes}

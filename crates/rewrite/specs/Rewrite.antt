@@ -8,7 +8,7 @@ use Rattle.words.specs.declared.Order.{Order}
 use Rattle.walk.specs.Walk.{Event, pick, Outcome, refused, passed, rows}
 use Rattle.rules.specs.Rules as R
 use Rattle.rules.specs.Canonical as C
-use Rattle.header.specs.Opened.{lettered}
+use Rattle.header.specs.Letters.{lettered}
 use Rattle.header.specs.declared.Lettered.{Lettered}
 use Rattle.header.specs.declared.Lettered.the-variants as Lettered
 use Rattle.bodies.specs.Orders.{sameOrder}

@@ -6,7 +6,7 @@ ghost use lib.ListN.{length};
 ghost use Rattle.walk.specs.Walk.{render};
 ghost use Rattle.rules.specs.Rules as R;
 ghost use Rattle.rules.specs.Canonical as C;
-ghost use Rattle.header.specs.Opened.{headingOf};
+ghost use Rattle.header.specs.Letters.{headingOf};
 ghost use Rattle.children.specs.Recordings.{ReadAs};
 ghost use Rattle.measures.specs.Measures.{lengthIn};
 ghost use Rattle.rewrite.specs.RecordingsAnew.{StandsIn, MeasuredAt, ChildFits, ChildAnew, BodyFits, BodyAnew, RecordingFits, RecordingAnew};

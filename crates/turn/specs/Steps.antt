@@ -42,7 +42,7 @@ pub record FrameFrom (o : Order) (file : List ℕ) (cs : Channels) (widths : Wid
   pub part : AtLeast filled s d
 
 -- the body s of a 140 of so many frames of this size
-pub record FramesIn (file : List ℕ) (cs : Channels) (t filled size count : ℕ) (s d : List ℕ) : Type 0 where
+pub record FramesSized (file : List ℕ) (cs : Channels) (t filled size count : ℕ) (s d : List ℕ) : Type 0 where
   -- the records 125 that hold for it are in the file
   pub channels : cs .subs + 256 * cs .count ≤ length file
   -- the longest frame

@@ -8,7 +8,7 @@ ghost use Rattle.walk.specs.See.{see, goes};
 ghost use Rattle.rules.specs.Rules as R;
 ghost use Rattle.records.specs.Says.{ChannelsStand};
 ghost use Rattle.bodies.specs.Copy.{copy};
-ghost use Rattle.turn.specs.Steps.{FrameFrom, FramesIn, FramesFrom, FramesPasted, ChildFrom, FramesSent};
+ghost use Rattle.turn.specs.Steps.{FrameFrom, FramesSized, FramesFrom, FramesPasted, ChildFrom, FramesSent};
 use bodies::Way;
 use bodies::Widths;
 use bodies::fits;
@@ -64,7 +64,7 @@ fn frames_body(
     s: &[u8],
     d: &mut [u8],
 )
-    requires { ⌜ FramesIn (now file) cs t filled size count (now s) (now d) ⌝ }
+    requires { ⌜ FramesSized (now file) cs t filled size count (now s) (now d) ⌝ }
     ensures { λ _. ⌜ ((b : ℕ) (c : R.Basic) (ch : List R.Channel) (hd : R.Head) (f : R.Frames) (e : ℕ) →
         ChannelsStand (w .from) (now (file .entry)) cs ch → filled ≡ 24 + R.sampleBytes t ch →
         numberAt (w .from) 4 (now (s .entry)) 0 ≡ t → numberAt (w .from) 4 (now (s .entry)) 4 ≡ size →

@@ -12,7 +12,8 @@ use Rattle.walk.proofs.Seen.{gates, tests}
 use Rattle.records.specs.Says.{resumed}
 use Rattle.records.specs.declared.Tested.{Tested}
 use Rattle.records.proofs.Facts.{between-in}
-use Rattle.header.specs.Opened.{lettered, names}
+use Rattle.header.specs.Letters.{lettered}
+use Rattle.header.specs.Opened.{names}
 use Rattle.header.specs.declared.Lettered.{Lettered}
 use Rattle.header.proofs.Opening.{letter-order, header-open, passing, stopping, walk, fromLetter, fromScript, fromCount, fromSpaces}
 use Rattle.header.proofs.file_header.Statement.{statement}

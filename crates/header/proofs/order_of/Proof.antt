@@ -1,7 +1,7 @@
 -- `header::order_of` meets its contract: one case a return. Assumes nothing.
 use borrow.Author.Tests.{eq-eqb}
 use Rattle.walk.proofs.Seen.{tests}
-use Rattle.header.specs.Opened.{lettered}
+use Rattle.header.specs.Letters.{lettered}
 use Rattle.header.proofs.order_of.Statement.{statement}
 use Rattle.header.proofs.order_of.Tie as tie
 

@@ -5,7 +5,7 @@ use native.Mathlib.Omega.{arith}
 use lib.ListN.{length-set}
 use lib.Seq.{length-take-le}
 use Rattle.rules.specs.Rules as R
-use Rattle.header.specs.Opened.{headingOf}
+use Rattle.header.specs.Letters.{headingOf}
 use Rattle.rewrite.proofs.Headed.{header-written}
 use borrow.Author.Needs.{needs}
 use Rattle.rewrite.proofs.recordings.header.Statement.{statement}
