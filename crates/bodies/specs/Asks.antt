@@ -5,7 +5,7 @@ use mathlib.Core.List.{List}
 use Prim.Native.Nat.{ℕ, _+_, _*_, _≤_}
 use lib.ListN.{length}
 use Rattle.words.specs.declared.Order.{Order}
-use Rattle.bulk.specs.Runs.{Run}
+use Rattle.bulk.specs.Runs.{NumberWidth}
 use Rattle.rules.specs.declared.Channels.{Channels}
 use Rattle.bodies.specs.Copy.{widthsIn}
 use Rattle.bodies.specs.declared.Widths.{Widths}
@@ -23,20 +23,6 @@ pub record AtLeast (n : ℕ) (s d : List ℕ) : Type 0 where
   pub least : n ≤ length s
   -- and d is as long
   pub room : length d ≡ length s
-
--- the numbers that the format knows have two, three or four bytes
-pub record NumberWidth (width : ℕ) : Type 0 where
-  -- the clock's and the narrowest samples
-  pub least : 2 ≤ width
-  -- the fields of records and the widest samples
-  pub most : width ≤ 4
-
--- s is a run of numbers
-pub record NumbersPart (width n : ℕ) (s d : List ℕ) : Type 0 where
-  -- each of this width
-  pub wide : NumberWidth width
-  -- so many, and d has room for them
-  pub run : Run width n s d
 
 -- s is a frame's clock and its samples, all of one width
 pub record OneWidth (width : ℕ) (s d : List ℕ) : Type 0 where

@@ -1,12 +1,12 @@
 // Runs of bytes in bulk: copied, cleared, and numbers of one width turned to the other byte order.
 ghost use mathlib.Core.Path.{_≡_};
 ghost use mathlib.Core.List.{_++_};
-ghost use Prim.Native.Nat.{_*_, _≤_};
+ghost use Prim.Native.Nat.{_*_};
 ghost use lib.ListN.{length, drop, replicate};
 ghost use Rattle.words.specs.Numbers.{word, bytesOf};
 ghost use Rattle.words.specs.Runs.{turned};
 ghost use Rattle.bulk.specs.Masks.{Widened, wovenWord};
-ghost use Rattle.bulk.specs.Runs.{Run, RunFits};
+ghost use Rattle.bulk.specs.Runs.{Run, NumbersPart, RunFits};
 
 // One number of two bytes, turned.
 fn one_of_2(s: &[u8], d: &mut [u8])
@@ -357,8 +357,7 @@ fn turn4(src: &[u8], dst: &mut [u8], n: usize)
 
 // A run of n numbers of a width, turned.
 pub fn turn_run(width: usize, n: usize, src: &[u8], dst: &mut [u8])
-    requires { ⌜ (2 ≤ width) × (width ≤ 4) ⌝ }
-    requires { ⌜ (length (now src) ≡ n * width) × (length (now dst) ≡ n * width) ⌝ }
+    requires { ⌜ NumbersPart width n (now src) (now dst) ⌝ }
     ensures { λ _. ⌜ now (dst .exit) ≡ turned width n (now (src .entry)) ⌝ }
 {
     if width == 2 {

@@ -25,6 +25,10 @@ use Rattle.children.specs.declared.Direct.the-variants as Direct
 pub recorded : {o : Order} {b : ℕ} {s : List ℕ} {p : ℕ} {a : Direct} {h : At.Head} {q : ℕ} → a ≡ Direct.Record h q → Visits o b s p a → RecordAt o b s p h q
 recorded e v = rw e at v
 
+-- and where it is none
+pub unrecorded : {o : Order} {b : ℕ} {s : List ℕ} {p : ℕ} {a : Direct} → a ≡ Direct.Last → Visits o b s p a → NoRecord o b s p
+unrecorded e v = rw e at v
+
 low : (n m : ℕ) → 16 ≤ n → leb n m ≡ true → 16 ≤ m
 low n m z q = let l : n ≤ m = leb-true n m q in omega arith
 

@@ -15,8 +15,14 @@ use Rattle.rules.specs.Rules.{FileHeader, Placed, File, orderOf, fileHeader, re
 use Rattle.rules.specs.declared.FileHeader as Declared
 use Rattle.rules.proofs.Rows.{judge-rows}
 use Rattle.header.specs.Letters.{headingOf}
-use Rattle.judge.specs.Judged.{AcceptedAs}
+use Rattle.judge.specs.Judged.{AcceptedAs, JudgedAs}
+use Rattle.judge.specs.declared.Judged.{Judged}
+use Rattle.judge.specs.declared.Judged.the-variants as Judged
 use Rattle.judge.proofs.Verdicts.{accepted-seen}
+
+-- the judge's answer where it is a header
+pub accepted : {s : List ℕ} {a : Judged} {h : Declared.FileHeader} → a ≡ Judged.Accepted h → JudgedAs s a → AcceptedAs s h
+accepted e x = rw e at x
 
 silent-fileHeader : (n : ℕ) → Silent (fileHeader n)
 unfolding fileHeader _>>=_ _>>_

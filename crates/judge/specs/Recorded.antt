@@ -80,7 +80,9 @@ Continues p n (Recorded.Stop r) = Unit {0}
 
 -- a file of n bytes has its header
 pub record HeaderIn (n : ℕ) : Type 0 where
+  -- recordings stand behind its 32 bytes
   pub header : 32 ≤ n
+  -- every byte has a place in a slice
   pub short : Addressable n
 
 -- a recording may stand at byte p of it, behind the recording before

@@ -1,10 +1,11 @@
 // The first maker's record of a file, which stands in the way of turning it.
 // Every function is safe for any bytes; what it finds is said of what was accepted.
 ghost use mathlib.Core.Path.{_≡_};
-ghost use Prim.Native.Nat.{_+_, _≤_};
+ghost use Prim.Native.Nat.{_+_};
 ghost use lib.ListN.{length};
 ghost use Rattle.words.specs.Sizes.{Addressable};
 ghost use Rattle.records.specs.Asks.{PartAt};
+ghost use Rattle.judge.specs.Recorded.{HeaderIn};
 ghost use Rattle.children.specs.Recordings.{OfBody, OfFile};
 ghost use Rattle.makers.specs.Search.{First, SearchedAs, refusalF};
 use children::Direct;
@@ -72,7 +73,7 @@ fn in_recording(o: Order, file: &[u8], p: usize) -> Searched
 
 // The first maker's record of a file with so many recordings.
 pub fn first_maker(o: Order, file: &[u8], count: u32) -> MakerField
-    requires { ⌜ (32 ≤ length (now file)) × Addressable (length (now file)) ⌝ }
+    requires { ⌜ HeaderIn (length (now file)) ⌝ }
     ensures { λ r. ⌜ OfFile o (now (file .entry)) count (First r) ⌝ }
 {
     let mut p = FileHeader::LENGTH;

@@ -15,6 +15,7 @@ use Rattle.walk.specs.See.{goes, see}
 use Rattle.rules.specs.Rules as R
 use Rattle.rules.specs.Canonical as C
 use Rattle.rules.specs.declared.Channels.{Channels}
+use Rattle.records.specs.Asks.{PartAt}
 use Rattle.records.specs.Says.{ChannelsIn, ChannelsStand}
 use Rattle.measures.specs.declared.Sized.{Sized}
 use Rattle.measures.specs.declared.Measure.{Measure}
@@ -117,9 +118,10 @@ pub record MeasureIn (o : Order) (b : ℕ) (s : List ℕ) (f : Measure) : Type 0
 
 -- a recording's body s stands at `base`, its 140 at byte `at` of it, and the records 125 that hold for it at cs in the file
 pub record Measurable (file s : List ℕ) (cs : Channels) (at base : ℕ) : Type 0 where
+  -- they are in the file
   pub channels : ChannelsIn (length file) cs
-  pub inside : at ≤ length s
-  pub short : Addressable (base + length s)
+  -- the 140 starts inside the body, or at its end
+  pub part : PartAt base s at
 
 -- what `measure_of` answers of it
 pub record MeasuredAs (o : Order) (file s : List ℕ) (cs : Channels) (at base : ℕ) (a : Measured) : Type 0 where

@@ -5,7 +5,6 @@ use mathlib.Core.List.{List}
 use Prim.Native.Nat.{ℕ, _+_, _-_, _≤_}
 use lib.ListN.{length}
 use Rattle.words.specs.Numbers.{Bytes}
-use Rattle.words.specs.Sizes.{Addressable}
 use Rattle.words.specs.declared.Order.{Order}
 use Rattle.walk.specs.Walk.{pick}
 use Rattle.rules.specs.Rules as R
@@ -14,6 +13,7 @@ use Rattle.rules.specs.declared.Refusal.{Refusal}
 use Rattle.descriptions.specs.DescriptionsJudged.{Owned}
 use Rattle.descriptions.specs.declared.Places.{Places}
 use Rattle.judge.specs.Judged.{AcceptedAs}
+use Rattle.judge.specs.Recorded.{HeaderIn}
 use Rattle.judge.specs.declared.recording.Recorded.{Recorded}
 use Rattle.judge.specs.declared.recording.Recorded.the-variants as Recorded
 use Rattle.recordings.specs.Answers.{value, refusal, numbered}
@@ -57,10 +57,8 @@ pub record Standing (o : Order) (s : List ℕ) (ps : List R.Placed) (n : ℕ) (q
 
 -- the walk to recording n of the file s begins behind the file header
 pub record Walkable (s : List ℕ) (n : ℕ) : Type 0 where
-  -- the header is in the file
-  pub header : 32 ≤ length s
-  -- every place in the file is a number of 64 bits
-  pub addressable : Addressable (length s)
+  -- which is in the file
+  pub file : HeaderIn (length s)
   -- recordings are counted from 1
   pub first : 1 ≤ n
 

@@ -19,6 +19,7 @@ use Rattle.rules.specs.declared.Heading.{Heading}
 use Rattle.records.specs.Says.{subsAt, ChannelsIn, ChannelsStand}
 use Rattle.header.specs.Letters.{headingOf}
 use Rattle.descriptions.specs.declared.Places.{Places}
+use Rattle.judge.specs.Recorded.{HeaderIn}
 use Rattle.children.specs.Recordings.{ReadAs}
 use Rattle.bodies.specs.Copy.{Pastes}
 use Rattle.bodies.specs.declared.Way.{Way}
@@ -27,11 +28,6 @@ use Rattle.measures.specs.Measures.{MeasureOf, MeasureIn, MeasureBounds, Each, 
 use Rattle.measures.specs.declared.Measure.{Measure}
 use Rattle.measures.specs.declared.Measured.{Measured}
 use Rattle.rewrite.specs.FramesAnew.{BodyMeasured, SignalsFit, SignalsAnew}
-
--- a file of n bytes with room for its header
-pub record Lent (n : ℕ) : Type 0 where
-  pub header : 32 ≤ n
-  pub short : Addressable n
 
 -- a recording from byte p on, with these places, stands in a file of n bytes
 pub record StandsIn (n p : ℕ) (q : Places) : Type 0 where
@@ -94,6 +90,13 @@ pub record RecordingAnew (w : Way) (file : List ℕ) (p i : ℕ) (q : Places) (o
   pub wrote : w .keep ≡ false → (held : Option R.Held) (x : R.Placed) → AcceptedAt (w .from) file p i q held x →
       Pastes out out′ k r (render (w .to) (C.recordingEvents i (x .recording ∷ [])))
 
+-- a number of recordings, and a buffer for its digits
+pub record DigitsFit (d : List ℕ) (count : ℕ) : Type 0 where
+  -- it has two digits or one
+  pub few : count < 100
+  -- the header has four bytes for them
+  pub room : length d ≡ 4
+
 -- what a file header says, and a buffer of its length
 pub record HeaderFits (d : List ℕ) (heading : Heading) (count : ℕ) : Type 0 where
   pub script : heading .script < 256
@@ -102,7 +105,7 @@ pub record HeaderFits (d : List ℕ) (heading : Heading) (count : ℕ) : Type 0 
 
 -- a file with as many recordings as a header may count
 pub record Counts (n count : ℕ) : Type 0 where
-  pub file : Lent n
+  pub file : HeaderIn n
   pub few : count ≤ 64
 
 -- the canonical form of a file with these recordings, and how long it is

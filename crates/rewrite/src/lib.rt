@@ -4,10 +4,10 @@ pub mod recordings;
 
 ghost use mathlib.Core.Path.{_≡_};
 ghost use lib.ListN.{length};
+ghost use Rattle.judge.specs.Recorded.{HeaderIn};
 ghost use Rattle.children.specs.Recordings.{OfFile};
 ghost use Rattle.makers.specs.Makers.{firstMaker};
 ghost use Rattle.makers.specs.Search.{found};
-ghost use Rattle.rewrite.specs.RecordingsAnew.{Lent};
 ghost use Rattle.rewrite.specs.Rewrite.{barrier, Rewrites};
 use header::Lettered;
 use judge::Judged;
@@ -18,7 +18,7 @@ use words::Order;
 
 // The first maker's record, where the order asked for is not the file's.
 fn in_the_way(o: Order, to: Order, file: &[u8], count: u32) -> MakerField
-    requires { ⌜ Lent (length (now file)) ⌝ }
+    requires { ⌜ HeaderIn (length (now file)) ⌝ }
     ensures { λ a. ⌜ OfFile o (now (file .entry)) count (λ rs. found a ≡ barrier o to (firstMaker rs)) ⌝ }
 {
     let made = makers::first_maker(o, file, count);

@@ -1,7 +1,7 @@
 // The file header and the recordings, in canonical form.
 ghost use mathlib.Core.Path.{_≡_};
 ghost use mathlib.Core.List.{List};
-ghost use Prim.Native.Nat.{ℕ, _<_};
+ghost use Prim.Native.Nat.{ℕ};
 ghost use lib.ListN.{length};
 ghost use Rattle.walk.specs.Walk.{render};
 ghost use Rattle.rules.specs.Rules as R;
@@ -10,7 +10,7 @@ ghost use Rattle.header.specs.Letters.{headingOf};
 ghost use Rattle.children.specs.Recordings.{ReadAs};
 ghost use Rattle.measures.specs.Measures.{lengthIn};
 ghost use Rattle.rewrite.specs.RecordingsAnew.{StandsIn, MeasuredAt, ChildFits, ChildAnew, BodyFits, BodyAnew, RecordingFits, RecordingAnew};
-ghost use Rattle.rewrite.specs.RecordingsAnew.{HeaderFits, Counts, lengthAnew, FileFits, FileAnew};
+ghost use Rattle.rewrite.specs.RecordingsAnew.{DigitsFit, HeaderFits, Counts, lengthAnew, FileFits, FileAnew};
 use bodies::Way;
 use bodies::runs::letter;
 use bulk::clear_run;
@@ -67,7 +67,7 @@ fn measured_length(a: Measured) -> usize
 
 // The digits of a number below 100.
 fn digits(count: u32, d: &mut [u8])
-    requires { ⌜ (count < 100) × (length (now d) ≡ 4) ⌝ }
+    requires { ⌜ DigitsFit (now d) count ⌝ }
     ensures { λ _. ⌜ now (d .exit) ≡ C.digits count ⌝ }
 {
     copy_run(b"    ", d);

@@ -24,18 +24,12 @@ use Rattle.rules.specs.declared.Head as At
 use Rattle.rules.proofs.Room.{stays-head}
 use Rattle.records.specs.Says.{headOf}
 use Rattle.records.proofs.Opened.{tell-head, admit-went}
-use Rattle.children.specs.Children.{Said, said, _then_, Known, knownOf, Reads, Inner, is100, is120, is130, is200, is140, isMaker, Chain, Closed, RecordAt, NoRecord, Visits}
-use Rattle.children.specs.declared.Direct.{Direct}
-use Rattle.children.specs.declared.Direct.the-variants as Direct
+use Rattle.children.specs.Children.{Said, said, _then_, Known, knownOf, Reads, Inner, is100, is120, is130, is200, is140, isMaker, Chain, Closed, RecordAt, NoRecord}
 use Rattle.children.proofs.Chained.{body-chain}
 use Rattle.children.proofs.Visiting.{chain-parted, chain-closed}
 use Rattle.rows.specs.Listing.{channelRows, frameRows, heldRows, HasRoom, Wrote}
 use Rattle.rows.proofs.Lists.{silent-padding, items-lists, channels-lists, frames-lists}
 use Rattle.rows.proofs.Written.{wrote-join, wrote-nothing}
-
--- the cursor found no record
-pub unrecorded : {o : Order} {b : ℕ} {s : List ℕ} {p : ℕ} {a : Direct} → a ≡ Direct.Last → Visits o b s p a → NoRecord o b s p
-unrecorded e v = rw e at v
 
 module _ (o : Order) (b : ℕ) (s : List ℕ) (p code : ℕ) where
   pub held-120 : code ≡ 120 → heldRows o b s p code ≡ channelRows o b s p

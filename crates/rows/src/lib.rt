@@ -3,10 +3,10 @@
 ghost use mathlib.Core.Path.{_≡_};
 ghost use mathlib.Core.Bool.{_&&_};
 ghost use mathlib.Core.List.{[], _∷_};
-ghost use Prim.Native.Nat.{_+_, _-_, _*_, _≤_, _<_};
+ghost use Prim.Native.Nat.{_+_, _-_, _*_, _<_};
 ghost use lib.Dec.{leb};
 ghost use lib.ListN.{length};
-ghost use Rattle.words.specs.Sizes.{Addressable};
+ghost use Rattle.judge.specs.Recorded.{HeaderIn};
 ghost use Rattle.rows.specs.Listing.{seriesRows, channelRows, frameRows, heldRows, ChannelsFit, FramesFit, HasRoom};
 ghost use Rattle.rows.specs.Listing.{Wrote, WroteUpTo, WroteIf, Ahead, SeriesAhead, RecordAhead, BodyAhead, RecordingAhead};
 ghost use Rattle.rows.specs.Listing.{BodyListed, RecordingListed, FileListed};
@@ -218,7 +218,7 @@ fn recording_rows(o: Order, file: &[u8], p: usize, out: &mut [i64], k: usize, wr
 
 // The rows of all recordings: how many numbers they take.
 pub fn file_rows(o: Order, file: &[u8], count: u32, out: &mut [i64], write: bool) -> usize
-    requires { ⌜ (32 ≤ length (now file)) × Addressable (length (now file)) ⌝ }
+    requires { ⌜ HeaderIn (length (now file)) ⌝ }
     ensures { λ r. ⌜ FileListed o (now (file .entry)) count write (now (out .entry)) (now (out .exit)) r ⌝ }
 {
     let mut at = FileHeader::LENGTH;

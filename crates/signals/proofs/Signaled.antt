@@ -11,7 +11,7 @@ use lib.ListN.{length}
 use Rattle.words.specs.Numbers.{numberAt}
 use Rattle.words.specs.declared.Order.{Order}
 use Rattle.walk.specs.Walk.{Walk, give, _>>=_, _>>_, require}
-use Rattle.walk.specs.See.{Verdict, stops, goes, gate, see, onward, over, Goes, Yields}
+use Rattle.walk.specs.See.{Verdict, stops, goes, gate, see, onward, Goes, Yields}
 use Rattle.walk.proofs.Seen.{see-bind, see-after, see-check, see-give, then-gate, gate-true, gate-false, stopped, went, stays-goes, yields-bind}
 use Rattle.rules.specs.Rules as R
 use Rattle.rules.specs.declared.Basic.{Basic}

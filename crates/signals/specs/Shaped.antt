@@ -7,13 +7,13 @@ use Prim.Native.Nat.{ℕ, _+_, _-_, _*_, _≤_, _<_}
 use lib.Dec.{leb, ltb, eqb}
 use lib.ListN.{length}
 use Rattle.words.specs.Numbers.{numberAt}
-use Rattle.words.specs.Sizes.{Addressable}
 use Rattle.words.specs.declared.Order.{Order}
 use Rattle.walk.specs.Walk.{Walk, give, _>>=_, _>>_}
 use Rattle.walk.specs.See.{Verdict, gate, see, over}
 use Rattle.rules.specs.Rules as R
 use Rattle.rules.specs.declared.Channels.{Channels}
 use Rattle.rules.specs.declared.Refusal.{Refusal}
+use Rattle.records.specs.Asks.{BodyOf}
 use Rattle.records.specs.Says.{halts, ChannelsIn, ChannelsStand}
 use Rattle.signals.specs.FramesJudged.{framesOf, framed}
 use Rattle.signals.specs.declared.frames.FramesJudged.{FramesJudged}
@@ -89,8 +89,8 @@ pub record Countable (total size : ℕ) : Type 0 where
 -- the body s of the 140 at `at`, of so many frames
 pub record FramesIn (at : ℕ) (s : List ℕ) (total : ℕ) : Type 0 where
   -- its own fields are in it
-  pub fields : 16 ≤ length s
-  pub short : Addressable (at + 16 + length s)
+  pub fields : BodyOf 16 at s
+  -- no recording has more
   pub few : total ≤ 1000000
 
 -- with the channels that hold for it

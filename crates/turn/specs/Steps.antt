@@ -15,6 +15,7 @@ use Rattle.rules.specs.declared.Channels.{Channels}
 use Rattle.rules.specs.declared.Head.{Head}
 use Rattle.records.specs.Says.{headOf, subsAt, ChannelsIn, ChannelsStand}
 use Rattle.descriptions.specs.declared.Places.{Places}
+use Rattle.judge.specs.Recorded.{HeaderIn}
 use Rattle.children.specs.Children.{Said, Known, Reads, Inner}
 use Rattle.bodies.specs.Copy.{copy, widthsIn, Pastes, HoldsFrom}
 use Rattle.bodies.specs.Asks.{AtLeast}
@@ -90,8 +91,7 @@ pub record RecordingFrom (file : List ℕ) (p : ℕ) (q : Places) (out : List �
 -- the file
 pub record FileFrom (file out : List ℕ) : Type 0 where
   -- it has its header
-  pub header : 32 ≤ length file
-  pub short : Addressable (length file)
+  pub headed : HeaderIn (length file)
   -- the buffer has room for it
   pub room : length file ≤ length out
 

@@ -1,7 +1,7 @@
 -- What a word of w bytes means: a signed whole number, or a float of 32 bits.
 -- Assumes nothing.
 use mathlib.Core.Bool.{Bool, true, false}
-use Prim.Native.Nat.{ℕ, _-_, _/_, _^_}
+use Prim.Native.Nat.{ℕ, _+_, _-_, _/_, _^_, _≤_, _<_}
 use lib.Dec.{ltb}
 use lib.IntN.{ℤ, pos, negsuc}
 
@@ -24,3 +24,10 @@ signed w n = pickZ (ltb n (half w)) (pos n) (negsuc (wordCount w - 1 - n))
 unfoldable pub unsigned : ℕ → ℤ → ℕ
 unsigned w (pos n) = n
 unsigned w (negsuc k) = wordCount w - 1 - k
+
+-- n is a word of a width whose negative words begin at `from`
+pub record WordOf (from n : ℕ) : Type 0 where
+  -- no width is larger than four bytes
+  pub fits : from ≤ 2147483648
+  -- half of the words are below `from`
+  pub word : n < from + from

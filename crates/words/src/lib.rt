@@ -4,8 +4,8 @@ ghost use mathlib.Core.List.{[], _∷_};
 ghost use Prim.Native.Nat.{ℕ, _+_, _*_, _≤_, _<_};
 ghost use lib.ListN.{length, getD};
 ghost use Rattle.words.specs.Numbers.{numberAt, bytesIn, ordered};
-ghost use Rattle.words.specs.Joins.{join};
-ghost use Rattle.words.specs.Values.{wordCount, signed};
+ghost use Rattle.words.specs.Joins.{join, Joinable};
+ghost use Rattle.words.specs.Values.{wordCount, signed, WordOf};
 ghost use Rattle.words.specs.Floats.{nanPattern};
 ghost use Rattle.words.specs.Runs.{firstNonzero, Zeros};
 
@@ -25,7 +25,7 @@ pub fn byte(s: &[u8], at: usize) -> u32
 
 // The number of a first byte and of the bytes after it, whose own number is below `place`.
 fn joined(o: Order, place: u32, first: u32, rest: u32) -> u32
-    requires { ⌜ (first < 256) × (rest < place) × (place ≤ 16777216) ⌝ }
+    requires { ⌜ Joinable place first rest ⌝ }
     ensures { λ r. ⌜ (r ≡ join o place first rest) × (r < 256 * place) ⌝ }
 {
     match o {
@@ -110,7 +110,7 @@ pub fn put4(to: Order, n: u32, d: &mut [u8])
 
 // The signed value of a word, at the width whose negative words begin at `half`.
 fn signed_from(half: u32, n: u32) -> i32
-    requires { ⌜ (half ≤ 2147483648) × (n < half + half) ⌝ }
+    requires { ⌜ WordOf half n ⌝ }
     ensures { λ r. ⌜ ((w : ℕ) → wordCount w ≡ half + half → r ≡ signed w n) ⌝ }
 {
     if n < half {

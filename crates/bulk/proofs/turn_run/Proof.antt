@@ -1,10 +1,9 @@
 -- `bulk::turn_run` meets its contract: each arm is the run of its width.
 -- Assumes nothing.
-use mathlib.Core.Path.{_≡_, ap, _∙_}
+use mathlib.Core.Path.{_≡_}
 use mathlib.Core.List.{List}
-use Prim.Native.Nat.{ℕ, _*_}
+use Prim.Native.Nat.{ℕ}
 use native.Mathlib.Omega.{arith}
-use lib.ListN.{length}
 use borrow.Author.Needs.{needs}
 use Rattle.bulk.specs.Runs.{Run}
 use Rattle.bulk.proofs.turn_run.Statement.{statement}
@@ -25,17 +24,17 @@ four : (c : tie.After-turn4-arg) → start-4 c .args .width ≡ 4
 four c = omega (arith, c .before .if2 .left, c .before .before .if1 .left)
 
 -- a run of a width that is known
-at-width : {w v n : ℕ} {s d : List ℕ} → w ≡ v → (length s ≡ n * w) × (length d ≡ n * w) → Run v n s d
-at-width {n = n} e r = record { source = r .0 ∙ ap (λ (x : ℕ). n * x) e; room = r .1 ∙ ap (λ (x : ℕ). n * x) e }
+at-width : {w v n : ℕ} {s d : List ℕ} → w ≡ v → Run w n s d → Run v n s d
+at-width e r = rw e at r
 
 turn2-requires : tie.Need-turn2-requires
-turn2-requires c κs = at-width (c .before .if1 .taken) (start c .pre .1)
+turn2-requires c κs = at-width (c .before .if1 .taken) (start c .pre .run)
 
 turn3-requires : tie.Need-turn3-requires
-turn3-requires c κs = at-width (c .before .if2 .taken) (start-3 c .pre .1)
+turn3-requires c κs = at-width (c .before .if2 .taken) (start-3 c .pre .run)
 
 turn4-requires : tie.Need-turn4-requires
-turn4-requires c κs = at-width (four c) (start-4 c .pre .1)
+turn4-requires c κs = at-width (four c) (start-4 c .pre .run)
 
 returns : tie.Need-returns
 returns c =

@@ -2,8 +2,6 @@
 -- The places: behind the 100 (first), the head that follows it (found), the 120 (cs), the 130 (ps) and the 200 (es). Assumes nothing.
 use mathlib.Core.Path.{refl}
 use denote.Ref.{now}
-use Rattle.records.specs.Says.{NextHead}
-use Rattle.records.specs.declared.Headed.the-variants as Headed
 use Rattle.records.specs.declared.basic.Basiced.the-variants as Basiced
 use Rattle.records.specs.declared.items.Holder.the-variants as Holder
 use Rattle.descriptions.specs.DescriptionsJudged.{ChannelsPart, ItemsPart}

@@ -5,7 +5,7 @@ use mathlib.Core.Path.{sym, _∙_}
 use Prim.Native.Nat.{ℕ, _-_, _≤_}
 use native.Mathlib.Omega.{arith}
 use lib.ListN.{length}
-use Rattle.children.proofs.Visiting.{recorded}
+use Rattle.children.proofs.Visiting.{recorded, unrecorded}
 use Rattle.words.specs.declared.Order.{Order}
 use Rattle.children.specs.Recordings.{OfBody}
 use Rattle.makers.specs.Makers.{firstMaker}
@@ -29,7 +29,7 @@ loop-holds c = record { inside = omega arith; sought = sought-all }
 
 returns : tie.Need-returns Inv-loop μ-loop
 returns c =
-    let v = rw (c .enum-told .given .1) at (c .before .before .record-at .ensures) in
+    let v = unrecorded (c .enum-told .given .1) (c .before .before .record-at .ensures) in
     let w = c .before .before .before .loop .inv in
     λ held h x e n g. sought-none (w .sought held h x e n g) (w .inside) v
 

@@ -2,7 +2,7 @@
 -- y: behind the cursor's step. Assumes nothing.
 use native.Mathlib.Omega.{arith}
 use lib.ListN.{length-take, length-drop}
-use Rattle.children.proofs.Visiting.{recorded}
+use Rattle.children.proofs.Visiting.{recorded, unrecorded}
 use Rattle.children.proofs.Recordings.{recording-none}
 use Rattle.makers.proofs.Recorded.{finds-recording}
 use borrow.Author.Needs.{needs}
@@ -16,7 +16,7 @@ start c = c .before .before .before .before
 returns : tie.Need-returns
 returns c =
     let z = start c in
-    let v = rw (c .enum-told .given .1) at (c .before .before .record-at .ensures) in
+    let v = unrecorded (c .enum-told .given .1) (c .before .before .record-at .ensures) in
     record { on = omega arith; inside = z .pre .low; first = λ held i x e g. recording-none v held i g }
 
 -- the part behind the head, of which the body is handed on

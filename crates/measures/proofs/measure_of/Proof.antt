@@ -105,7 +105,7 @@ returns c =
     record { bounds = tt; reads = tt; told = λ held r x e fills here at g. measure-unread (accepted (a .o) (a .base) s (bytes s (λ i. y .shared-slice-known2 .given i .fits)) r fills held g) (a .at) at (rw (c .enum-told .given .1) at (c .before .before .head-at .ensures .seen)) }
 
 admit-requires : tie.Need-admit-requires
-admit-requires c κs = let f = c .before in record { low = omega (arith, top f .stands); short = omega (arith, top f .stands, start f .pre .short) }
+admit-requires c κs = let f = c .before in record { low = omega (arith, top f .stands); short = omega (arith, top f .stands, start f .pre .part .short) }
 
 returns-2 : tie.Need-returns-2
 returns-2 c =
@@ -114,7 +114,7 @@ returns-2 c =
     record { bounds = tt; reads = tt; told = λ held r x e fills here at g. measure-refused (went f held r x e fills g) _ at (h f) (top f .seen) (top f .stands .0) (rw (c .enum-told2 .given .1) at (n .admit .ensures .seen (o f) (base f) (s f))) }
 
 next-head-requires : tie.Need-next-head-requires
-next-head-requires c κs = record { low = stop (c .before) .1; short = start (to-found (c .before)) .pre .short }
+next-head-requires c κs = record { low = stop (c .before) .1; short = start (to-found (c .before)) .pre .part .short }
 
 returns-3 : tie.Need-returns-3
 returns-3 c =
@@ -194,7 +194,7 @@ add-filled c = omega (arith, passed c .0, to-field (c .before) .before .field2 .
 add-measure-for : tie.Need-add-measure-for
 add-measure-for c =
     let k = to-field (c .before .before) in
-    omega (arith, follows (to-behind k) .stands, start (f k) .pre .short)
+    omega (arith, follows (to-behind k) .stands, start (f k) .pre .part .short)
 
 measure-for-requires : tie.Need-measure-for-requires
 measure-for-requires c κs =
@@ -203,7 +203,7 @@ measure-for-requires c κs =
     record {
       start = omega (arith, top (f k) .stands, stop (y k));
       stop = omega (arith, a .stands);
-      short = omega (arith, a .stands, start (f k) .pre .short);
+      short = omega (arith, a .stands, start (f k) .pre .part .short);
       frame = omega (arith, passed (c .before) .0, k .before .field2 .ensures .1);
     }
 

@@ -7,8 +7,7 @@ use borrow.Author.Needs.{needs}
 use borrow.Author.Tests.{not-true, not-false}
 use Rattle.words.proofs.Words.{bytes}
 use Rattle.records.proofs.Facts.{between-in}
-use Rattle.judge.specs.Judged.{AcceptedAs}
-use Rattle.judge.proofs.Verdicts.{accepted-seen}
+use Rattle.judge.proofs.Accepted.{accepted, accepted-long}
 use Rattle.recordings.proofs.Reach.{asked-refused, asked-outside, asked-found}
 use Rattle.recordings.proofs.recording_asked.Statement.{statement}
 use Rattle.recordings.proofs.recording_asked.Tie as tie
@@ -32,10 +31,6 @@ start c = c .before .before .before .before
 abbrev refused-start : tie.After-of-judged → tie.Start
 refused-start c = c .before .before .before .before .before
 
--- the file is accepted
-accepted : (x : tie.After-judged) → AcceptedAs (now (start x .args .file)) (x .judged .given .0 .0)
-accepted x = rw (x .judged .given .1) at (x .before .before .judge .ensures)
-
 returns : tie.Need-returns
 returns c =
     let e = c .before .enum-told .given .1 in
@@ -46,7 +41,8 @@ within-requires c κs = search needs
 
 returns-2 : tie.Need-returns-2
 returns-2 c =
-    let x = accepted (c .before .before .before) in
+    let k : tie.After-judged = c .before .before .before in
+    let x = accepted (k .judged .given .1) (k .before .before .judge .ensures) in
     asked-outside _ _ x _ (sym (c .before .within .ensures) ∙ not-true (c .before .within .result) (c .if1 .taken))
 
 cast-recordings-to : tie.Need-cast-recordings-to
@@ -56,12 +52,11 @@ cast-recordings-to c =
 
 recordings-to-requires : tie.Need-recordings-to-requires
 recordings-to-requires c κs =
-    let b = c .before .before .before in
-    let x = accepted b in
+    let k : tie.After-judged = c .before .before .before in
+    let x = accepted (k .judged .given .1) (k .before .before .judge .ensures) in
     let l = sym (c .before .within .ensures) ∙ not-false (c .before .within .result) (c .if1 .left) in
     record {
-      header = accepted-seen _ _ x .long;
-      addressable = omega (arith, start b .good);
+      file = record { header = accepted-long _ _ x; short = omega (arith, start k .good) };
       first = between-in 1 _ _ l .0;
     }
 
@@ -78,7 +73,8 @@ returns-3 : tie.Need-returns-3
 returns-3 c =
     let b : tie.After-recordings-to = c .before .before .before in
     let d = b .before .before in
-    let x = accepted (d .before .before) in
+    let k : tie.After-judged = d .before .before in
+    let x = accepted (k .judged .given .1) (k .before .before .judge .ensures) in
     let l = sym (d .within .ensures) ∙ not-false (d .within .result) (b .before .if1 .left) in
     absurd (rw (c .before .enum-told2 .given .1) at (b .recordings-to .ensures _ x refl (between-in 1 _ _ l .1)))
 
@@ -88,7 +84,7 @@ returns-4 c =
     let d = b .before .before in
     let k = d .before .before in
     let j = k .before .before in
-    let x = accepted k in
+    let x = accepted (k .judged .given .1) (k .before .before .judge .ensures) in
     let l = sym (d .within .ensures) ∙ not-false (d .within .result) (b .before .if1 .left) in
     let s = bytes (now (j .before .before .args .file)) (λ i. omega (arith, j .before .shared-slice-known .given i)) in
     asked-found _ _ x s _ refl _ _ (rw (c .before .last .given .1) at (b .recordings-to .ensures _ x refl (between-in 1 _ _ l .1)))

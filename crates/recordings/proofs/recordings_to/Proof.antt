@@ -18,7 +18,7 @@ abbrev μ-loop : tie.MeasureT-loop
 μ-loop o file n step₀ i₀ step i = n - i
 
 recording-again-requires : tie.Need-recording-again-requires Inv-loop μ-loop
-recording-again-requires c κs = record { inside = c .before .pre .header; short = c .before .pre .addressable; held = tt }
+recording-again-requires c κs = record { inside = c .before .pre .file .header; short = c .before .pre .file .short; held = tt }
 
 loop-holds : tie.Need-loop-holds Inv-loop μ-loop
 loop-holds c =
@@ -31,7 +31,7 @@ loop-holds c =
       bounds = k .continues;
       meets = λ h x e l.
           let b = bytes (now (a .file)) (λ j. omega (arith, c .before .shared-slice-known .given j)) in
-          met Before.Nothing (going-start (now (a .file)) h x (a .o) e) (omega (arith, l, p .first)) (p .header) (ok-of _ b h x) (c .recording-again .result) k;
+          met Before.Nothing (going-start (now (a .file)) h x (a .o) e) (omega (arith, l, p .first)) (p .file .header) (ok-of _ b h x) (c .recording-again .result) k;
     }
 
 returns : tie.Need-returns Inv-loop μ-loop
@@ -42,7 +42,7 @@ recording-again-requires-2 c κs =
     let d = c .before in
     let k = d .before .before .before in
     let a = rw (d .step .given .1) at (k .loop .inv .bounds) in
-    record { inside = a .end; short = k .before .before .before .pre .addressable; held = a .channels }
+    record { inside = a .end; short = k .before .before .before .pre .file .short; held = a .channels }
 
 loop-again : tie.Need-loop-again Inv-loop μ-loop
 loop-again c =

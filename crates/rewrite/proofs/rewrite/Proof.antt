@@ -12,12 +12,13 @@ use Rattle.words.proofs.Words.{bytes}
 use Rattle.header.specs.Letters.{lettered}
 use Rattle.header.specs.declared.Lettered.the-variants as Lettered
 use Rattle.judge.specs.Judged.{AcceptedAs}
+use Rattle.judge.specs.Recorded.{HeaderIn}
 use Rattle.children.specs.Recordings.{ReadAs}
-use Rattle.judge.proofs.Accepted.{accepted-long, went}
+use Rattle.judge.proofs.Accepted.{accepted, accepted-long, went}
 use Rattle.makers.specs.Search.{found}
 use Rattle.permit.specs.Permit.{meaning}
 use Rattle.permit.proofs.Settled.{permit-room}
-use Rattle.rewrite.specs.RecordingsAnew.{Lent, Counts, lengthAnew}
+use Rattle.rewrite.specs.RecordingsAnew.{Counts, lengthAnew}
 use Rattle.rewrite.proofs.Answers.{rewrites-refused, few, script-low, rewrites-unnamed, rewrites-stopped, rewrites-room}
 use Rattle.rewrite.proofs.rewrite.Statement.{statement}
 use Rattle.rewrite.proofs.rewrite.Tie as tie
@@ -40,20 +41,20 @@ module _ (c : tie.After-judged) where
   abbrev file : List ℕ
   file = now (start .args .file)
 
-  accepted : AcceptedAs file (c .judged .given .0 .0)
-  accepted = rw (c .judged .given .1) at (c .before .before .judge .ensures)
+  holds : AcceptedAs file (c .judged .given .0 .0)
+  holds = accepted (c .judged .given .1) (c .before .before .judge .ensures)
 
   is-bytes : Bytes file
   is-bytes = bytes file (λ i. known c .shared-slice-known .given i .fits)
 
-  reads : ReadAs (c .judged .given .0 .0 .order) file (c .judged .given .0 .0 .count) (accepted .file .recordings) (length file)
-  reads = went file _ accepted
+  reads : ReadAs (c .judged .given .0 .0 .order) file (c .judged .given .0 .0 .count) (holds .file .recordings) (length file)
+  reads = went file _ holds
 
-  lent : Lent (length file)
-  lent = record { header = accepted-long _ _ accepted; short = search needs }
+  headed : HeaderIn (length file)
+  headed = record { header = accepted-long _ _ holds; short = search needs }
 
   counts : Counts (length file) (c .judged .given .0 .0 .count)
-  counts = record { file = lent; few = few file is-bytes _ accepted }
+  counts = record { file = headed; few = few file is-bytes _ holds }
 
 -- the letter names an order
 names : (c : tie.After-asked) → lettered (start (to-judged c) .args .order) ≡ Lettered.Names (c .asked .given .0 .0)
@@ -64,7 +65,7 @@ module _ (c : tie.After-permit) where
   abbrev judged : tie.After-judged
   judged = to-judged (to-asked c)
 
-  need : c .before .file-length .result ≡ lengthAnew (accepted judged .file .recordings)
+  need : c .before .file-length .result ≡ lengthAnew (holds judged .file .recordings)
   need = c .before .file-length .ensures _ _ (reads judged)
 
 room : (c : tie.After-enum-told3) → c .before .before .before .file-length .result ≤ length (now (start (judged (c .before .before)) .args .out))
@@ -83,10 +84,10 @@ returns-2 c =
     let y = c .before .before in
     let x = y .before .before in
     let a = start x .args in
-    rewrites-unnamed (file x) (is-bytes x) _ (accepted x) (a .order) (now (a .out)) (sym (y .order-of .ensures) ∙ c .enum-told2 .given .1)
+    rewrites-unnamed (file x) (is-bytes x) _ (holds x) (a .order) (now (a .out)) (sym (y .order-of .ensures) ∙ c .enum-told2 .given .1)
 
 in-the-way-requires : tie.Need-in-the-way-requires
-in-the-way-requires c κs = lent (to-judged (c .before))
+in-the-way-requires c κs = headed (to-judged (c .before))
 
 file-length-requires : tie.Need-file-length-requires
 file-length-requires c κs = counts (to-judged (c .before .before))
@@ -96,14 +97,14 @@ returns-3 c =
     let p = c .before .before in
     let x = judged p in
     let a = start x .args in
-    rewrites-stopped (file x) (is-bytes x) _ (accepted x) (a .order) _ (names (to-asked p)) _ (need p) (now (a .out)) (p .before .before .in-the-way .ensures _ _ (reads x))
+    rewrites-stopped (file x) (is-bytes x) _ (holds x) (a .order) _ (names (to-asked p)) _ (need p) (now (a .out)) (p .before .before .in-the-way .ensures _ _ (reads x))
     (p .permit .result) (p .permit .ensures) (ap meaning (c .enum-told4 .given .1))
 
 file-anew-requires : tie.Need-file-anew-requires
 file-anew-requires c κs =
     let p = c .before .before .before in
     let x = judged p in
-    record { counts = counts x; script = script-low (file x) (is-bytes x) _ (accepted x); header = omega (arith, need p, room (c .before)) }
+    record { counts = counts x; script = script-low (file x) (is-bytes x) _ (holds x); header = omega (arith, need p, room (c .before)) }
 
 returns-4 : tie.Need-returns-4
 returns-4 c =
@@ -112,7 +113,7 @@ returns-4 c =
     let p = e .before .before in
     let x = judged p in
     let a = start x .args in
-    rewrites-room (file x) (is-bytes x) _ (accepted x) (a .order) _ (names (to-asked p)) _ (need p) (now (a .out)) (p .before .before .in-the-way .ensures _ _ (reads x))
+    rewrites-room (file x) (is-bytes x) _ (holds x) (a .order) _ (names (to-asked p)) _ (need p) (now (a .out)) (p .before .before .in-the-way .ensures _ _ (reads x))
     (p .permit .result) _ (p .permit .ensures) (ap meaning (e .enum-told3 .given .1)) (w .file-anew .ensures _ _ (reads x) (omega (arith, need p, room e)))
 
 pub rewrite-spec : {M : Type 1} → statement M

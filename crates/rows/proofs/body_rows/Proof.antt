@@ -7,10 +7,10 @@ use Prim.Native.Nat.{ℕ, _+_, _-_, _≤_}
 use native.Mathlib.Omega.{arith}
 use lib.IntN.{ℤ}
 use lib.ListN.{length}
-use Rattle.children.proofs.Visiting.{recorded}
+use Rattle.children.proofs.Visiting.{recorded, unrecorded}
 use Rattle.words.specs.declared.Order.{Order}
 use Rattle.children.specs.Recordings.{OfBody}
-use Rattle.rows.proofs.Body.{unrecorded, Listed, listed-none, listed-all, listed-short, listed-more}
+use Rattle.rows.proofs.Body.{Listed, listed-none, listed-all, listed-short, listed-more}
 use borrow.Author.Needs.{needs}
 use Rattle.rows.proofs.body_rows.Statement.{statement}
 use Rattle.rows.proofs.body_rows.Tie as tie

@@ -3,7 +3,7 @@
 use native.Mathlib.Omega.{arith}
 use lib.ListN.{length-take, length-drop}
 use Rattle.children.proofs.Recordings.{recording-none}
-use Rattle.children.proofs.Visiting.{recorded}
+use Rattle.children.proofs.Visiting.{recorded, unrecorded}
 use Rattle.rows.proofs.Recorded.{wrote-recording}
 use borrow.Author.Needs.{needs}
 use Rattle.rows.proofs.recording_rows.Statement.{statement}
@@ -19,7 +19,7 @@ at-out c = c .before .before .before .before
 returns : tie.Need-returns
 returns c =
     let z = start c in
-    let v = rw (c .enum-told .given .1) at (c .before .before .record-at .ensures) in
+    let v = unrecorded (c .enum-told .given .1) (c .before .before .record-at .ensures) in
     record { on = omega arith; inside = z .pre .inside; reaches = z .pre .low; wrote = λ held i x e g. recording-none v held i g }
 
 sub-put : tie.Need-sub-put

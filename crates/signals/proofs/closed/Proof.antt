@@ -33,7 +33,10 @@ padding-requires : tie.Need-padding-requires
 padding-requires c κs = search needs
 
 returns-3 : tie.Need-returns-3
-returns-3 c = λ o. simp (gates, tests, not-false (c .before .before .pad-ok .result) (c .before .if2 .left), ← c .before .before .pad-ok .ensures, ← c .before .before .before .before .less .ensures, c .before .before .before .if1 .left) (c .padding .ensures o)
+returns-3 c =
+    let y : tie.After-pad-ok = c .before .before in
+    let x : tie.After-less = y .before .before in
+    λ o. simp (gates, tests, not-false (y .pad-ok .result) (c .before .if2 .left), ← y .pad-ok .ensures, ← x .less .ensures, y .before .if1 .left) (c .padding .ensures o)
 
 pub closed-spec : {M : Type 1} → statement M
 closed-spec =

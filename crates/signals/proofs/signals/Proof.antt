@@ -2,13 +2,11 @@
 -- The places: behind the 140 (held), behind the head that follows it (found), behind the delimiter. Assumes nothing.
 use mathlib.Core.Path.{_≡_, sym, _∙_}
 use mathlib.Core.Bool.{true}
-use Prim.Native.Nat.{_+_}
 use native.Mathlib.Omega.{arith}
 use native.Mathlib.Nat.{add-assoc}
 use borrow.Author.Tests.{not-true, not-false}
 use denote.Ref.{now}
 use lib.Dec.{eqb}
-use lib.ListN.{length}
 use Rattle.records.specs.Says.{NextHead}
 use Rattle.records.specs.declared.Headed.the-variants as Headed
 use Rattle.signals.specs.FramesJudged.{FramesAt}

@@ -1,8 +1,7 @@
 -- `table::table` meets its contract: what `judge` says of the file, and what `file_rows` counted and wrote, by the laws of Answers.
 -- x: behind the judge's answer. Assumes nothing.
 use denote.Ref.{now}
-use Rattle.judge.specs.Judged.{AcceptedAs}
-use Rattle.judge.proofs.Accepted.{accepted-long}
+use Rattle.judge.proofs.Accepted.{accepted, accepted-long}
 use Rattle.table.proofs.Answers.{lists-refused, lists-short, lists-rows}
 use borrow.Author.Needs.{needs}
 use Rattle.table.proofs.table.Statement.{statement}
@@ -21,10 +20,6 @@ at-file-rows c = c .before .before .before .before .before
 abbrev at-judged : tie.After-out → tie.After-judged
 at-judged c = c .before .before .before .before
 
--- the file is accepted
-accepted : (x : tie.After-judged) → AcceptedAs (now (start x .args .file)) (x .judged .given .0 .0)
-accepted x = rw (x .judged .given .1) at (x .before .before .judge .ensures)
-
 returns : tie.Need-returns
 returns c =
     let z = refused-start c in
@@ -33,27 +28,27 @@ returns c =
 file-rows-requires : tie.Need-file-rows-requires
 file-rows-requires c κs =
     let x = c .before .before in
-    let j = accepted x in
-    (accepted-long _ _ j, search needs)
+    let j = accepted (x .judged .given .1) (x .before .before .judge .ensures) in
+    record { header = accepted-long _ _ j; short = search needs }
 
 returns-2 : tie.Need-returns-2
 returns-2 c =
     let x = at-judged (c .before) in
     let z = start x in
-    let j = accepted x in
+    let j = accepted (x .judged .given .1) (x .before .before .judge .ensures) in
     lists-short (now (z .args .file)) _ j (now (z .args .out)) _ _ (c .before .before .file-rows .ensures .wrote) (c .if1 .taken)
 
 file-rows-requires-2 : tie.Need-file-rows-requires-2
 file-rows-requires-2 c κs =
     let x = at-judged (c .before .before) in
-    let j = accepted x in
-    (accepted-long _ _ j, search needs)
+    let j = accepted (x .judged .given .1) (x .before .before .judge .ensures) in
+    record { header = accepted-long _ _ j; short = search needs }
 
 returns-3 : tie.Need-returns-3
 returns-3 c =
     let x = at-file-rows c .before .before .before in
     let z = start x in
-    let j = accepted x in
+    let j = accepted (x .judged .given .1) (x .before .before .judge .ensures) in
     lists-rows (now (z .args .file)) _ j (now (z .args .out)) _ _ (at-file-rows c .file-rows .ensures .wrote) _ _ (c .before .before .before .if1 .left) (c .before .file-rows2 .ensures .wrote)
 
 pub table-spec : {M : Type 1} → statement M

@@ -4,8 +4,7 @@ use mathlib.Core.Path.{sym, ap, _∙_}
 use denote.Ref.{now}
 use borrow.Author.Needs.{needs}
 use lib.ListN.{length}
-use Rattle.judge.specs.Judged.{AcceptedAs}
-use Rattle.judge.proofs.Accepted.{accepted-long, went, opens}
+use Rattle.judge.proofs.Accepted.{accepted, accepted-long, went, opens}
 use Rattle.makers.specs.Search.{found}
 use Rattle.permit.specs.Permit.{meaning}
 use Rattle.permit.proofs.Settled.{permit-room}
@@ -34,21 +33,17 @@ returns c =
     let z = refused-start c in
     simp (c .of-judged .ensures, c .before .enum-told .given .1) (turns-refused (now (z .args .file)) (now (z .args .out)) (rw (c .before .enum-told .given .1) at (c .before .before .before .judge .ensures)))
 
--- the file is accepted
-accepted : (x : tie.After-judged) → AcceptedAs (now (start x .args .file)) (x .judged .given .0 .0)
-accepted x = rw (x .judged .given .1) at (x .before .before .judge .ensures)
-
 first-maker-requires : tie.Need-first-maker-requires
 first-maker-requires c κs =
     let x = c .before in
-    let j = accepted x in
-    (accepted-long _ _ j, search needs)
+    let j = accepted (x .judged .given .1) (x .before .before .judge .ensures) in
+    record { header = accepted-long _ _ j; short = search needs }
 
 returns-2 : tie.Need-returns-2
 returns-2 c =
     let x = at-judged c in
     let z = start x in
-    let j = accepted x in
+    let j = accepted (x .judged .given .1) (x .before .before .judge .ensures) in
     let p = c .before .before .permit in
     turns-stopped (now (z .args .file)) _ j (now (z .args .out)) (c .before .before .before .first-maker .ensures _ _ (went (now (z .args .file)) _ j)) (p .result) (p .ensures) (ap meaning (c .enum-told3 .given .1))
 
@@ -56,15 +51,15 @@ file-turned-requires : tie.Need-file-turned-requires
 file-turned-requires c κs =
     let x = at-first-maker c .before .before in
     let z = start x in
-    let j = accepted x in
+    let j = accepted (x .judged .given .1) (x .before .before .judge .ensures) in
     let p = c .before .before .before .permit in
-    record { header = accepted-long _ _ j; short = search needs; room = permit-room (found (at-first-maker c .first-maker .result)) (length (now (z .args .file))) (length (now (z .args .out))) (sym (ap meaning (c .before .enum-told2 .given .1)) ∙ p .ensures) .1 }
+    record { headed = record { header = accepted-long _ _ j; short = search needs }; room = permit-room (found (at-first-maker c .first-maker .result)) (length (now (z .args .file))) (length (now (z .args .out))) (sym (ap meaning (c .before .enum-told2 .given .1)) ∙ p .ensures) .1 }
 
 returns-3 : tie.Need-returns-3
 returns-3 c =
     let x = at-first-maker (c .before .before .before) .before .before in
     let z = start x in
-    let j = accepted x in
+    let j = accepted (x .judged .given .1) (x .before .before .judge .ensures) in
     let p = at-enum-told2 c .before .before .permit in
     turns-room (now (z .args .file)) _ j (now (z .args .out)) (at-first-maker (c .before .before .before) .first-maker .ensures _ _ (went (now (z .args .file)) _ j)) (p .result) _ (p .ensures) (ap meaning (at-enum-told2 c .enum-told2 .given .1))
     (c .before .before .file-turned .ensures _ _ _ (opens (now (z .args .file)) _ j) (went (now (z .args .file)) _ j))

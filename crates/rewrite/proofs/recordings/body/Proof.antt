@@ -7,8 +7,7 @@ use lib.ListN.{length}
 use borrow.Author.Needs.{needs}
 use Rattle.words.proofs.Words.{bytes}
 use Rattle.rules.specs.Rules.{Placed}
-use Rattle.children.proofs.Visiting.{recorded}
-use Rattle.rows.proofs.Body.{unrecorded}
+use Rattle.children.proofs.Visiting.{recorded, unrecorded}
 use Rattle.rewrite.specs.FramesAnew.{BodyMeasured}
 use Rattle.rewrite.proofs.Bodied.{RenewedUpTo, renewed-none, renewed-more, renewed-last}
 use Rattle.rewrite.proofs.recordings.body.Statement.{statement}

@@ -68,7 +68,7 @@ frames-body-requires c κs =
     let z = from-room r in
     let v = admits r .stands in
     record {
-      body = record { fields = simp (length-take, length-drop) (omega arith); short = simp (length-take, length-drop) (omega (arith, z .pre .body .short)); few = z .pre .few };
+      body = record { fields = record { long = simp (length-take, length-drop) (omega arith); short = simp (length-take, length-drop) (omega (arith, z .pre .body .short)) }; few = z .pre .few };
       channels = z .pre .channels;
     }
 

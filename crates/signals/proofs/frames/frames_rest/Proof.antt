@@ -1,6 +1,6 @@
 -- `signals::frames::frames_rest` meets its contract: one law of Answers for each return.
 -- x: behind the frames; t: where they stop; y: behind the padding. Assumes nothing.
-use Prim.Native.Nat.{ℕ, _*_, _-_, _≤_}
+use Prim.Native.Nat.{_*_, _-_, _≤_}
 use native.Mathlib.Omega.{arith}
 use denote.Ref.{now}
 use Rattle.records.specs.declared.Step.the-variants as Step

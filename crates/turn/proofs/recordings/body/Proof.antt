@@ -9,8 +9,7 @@ use Rattle.walk.specs.See.{goes, see}
 use Rattle.rules.specs.Rules.{Held, Head, Placed, span, recordingBody}
 use Rattle.records.specs.Says.{ChannelsStand}
 use Rattle.children.specs.Children.{knownOf}
-use Rattle.children.proofs.Visiting.{recorded}
-use Rattle.rows.proofs.Body.{unrecorded}
+use Rattle.children.proofs.Visiting.{recorded, unrecorded}
 use Rattle.bodies.specs.Copy.{copy}
 use Rattle.turn.proofs.Sent.{SentUpTo, sent-none, sent-more, sent-last}
 use borrow.Author.Needs.{needs}

@@ -58,7 +58,7 @@ header-requires c κs = record { source = length-take-le 32 (near-start (c .befo
 loop-holds : tie.Need-loop-holds Inv-loop μ-loop
 loop-holds c =
     let z = start (c .before) in
-    record { room = omega (arith, c .before .out .given .1, z .pre .room); same = refl; along = along-start (z .pre .header) (sent-first (way (c .before)) _) }
+    record { room = omega (arith, c .before .out .given .1, z .pre .room); same = refl; along = along-start (z .pre .headed .header) (sent-first (way (c .before)) _) }
 
 returns : tie.Need-returns Inv-loop μ-loop
 returns c =
@@ -71,7 +71,7 @@ recording-requires c κs =
     let y = st .before .before in
     let l = y .before .before in
     let x = along-fits (l .loop .inv .along) (y .before .loop-test .taken) _ (y .recording-again .ensures) (st .step .given .1) in
-    record { on = x .start; inside = x .end; short = start (l .before .before) .pre .short; room = omega (arith, l .loop .inv .room, l .loop .inv .same); channels = x .channels }
+    record { on = x .start; inside = x .end; short = start (l .before .before) .pre .headed .short; room = omega (arith, l .loop .inv .room, l .loop .inv .same); channels = x .channels }
 
 loop-again : tie.Need-loop-again Inv-loop μ-loop
 loop-again c =
@@ -93,8 +93,8 @@ returns-2 c =
     let z = start x in
     let s = now (z .args .file) in
     λ f ps e h g. rw (← at-other x .other .ensures)
-    (whole-file (along-end (c .before .loop .inv .along) (c .loop-test .left) ps e g) (now (z .args .out)) _ _ (omega (arith, z .pre .header, z .pre .room)) (header-first (way x) s (length s) _ (z .pre .header) h (x .before .header .ensures)) (x .out .given .1) refl
-    (omega (arith, z .pre .room, sent-length (way x) s (z .args .count) (z .pre .header) g)))
+    (whole-file (along-end (c .before .loop .inv .along) (c .loop-test .left) ps e g) (now (z .args .out)) _ _ (omega (arith, z .pre .headed .header, z .pre .room)) (header-first (way x) s (length s) _ (z .pre .headed .header) h (x .before .header .ensures)) (x .out .given .1) refl
+    (omega (arith, z .pre .room, sent-length (way x) s (z .args .count) (z .pre .headed .header) g)))
 
 pub file-turned-spec : {M : Type 1} → statement M
 file-turned-spec =
