@@ -13,6 +13,8 @@ use crate::kinds::Opened;
 use crate::kinds::of_open;
 use crate::kinds::open;
 use crate::of_test;
+use dates::DateJudged;
+use dates::judge_date;
 use rules::Basic;
 use rules::Channels;
 use rules::Head;
@@ -23,47 +25,6 @@ use words::Order;
 pub enum Basiced {
     Holds(Basic),
     Stop(Refusal),
-}
-
-const MONTHS: [u32; 12] = [31, 28, 31, 30, 31, 30, 31, 31, 30, 31, 30, 31];
-
-fn leap(y: u32) -> bool
-    ensures { λ r. ⌜ r ≡ R.leap y ⌝ }
-{
-    if y % 4 != 0 {
-        return false;
-    }
-    if y % 100 != 0 {
-        return true;
-    }
-    y % 400 == 0
-}
-
-fn days_in(y: u32, m: u32) -> u32
-    ensures { λ r. ⌜ r ≡ R.daysIn y m ⌝ }
-{
-    if m == 2 {
-        if leap(y) {
-            return 29;
-        }
-        return 28;
-    }
-    if m == 0 {
-        return 31;
-    }
-    if 12 < m {
-        return 0;
-    }
-    MONTHS[m as usize - 1]
-}
-
-fn dated(y: u32, high: u32, n: u32) -> bool
-    ensures { λ r. ⌜ r ≡ R.dated y high n ⌝ }
-{
-    if y == 0 {
-        return n == 0;
-    }
-    between(1, high, n)
 }
 
 fn mains_ok(n: u32) -> bool
@@ -100,17 +61,15 @@ fn date_ok(o: Order, s: &[u8], at: usize) -> Tested
     ensures { λ a. ⌜ ((K : Verdict R.Basic) → dateTested o (now (s .entry)) at K ≡ resumed a K) ⌝ }
 {
     let year = field(o, s, Basic::YEAR);
-    if 9999 < year {
-        return Tested::Stop(Refusal(13, at + Basic::YEAR));
-    }
     let month = field(o, s, Basic::MONTH);
-    if !dated(year, 12, month) {
-        return Tested::Stop(Refusal(13, at + Basic::MONTH));
+    let day = field(o, s, Basic::DAY);
+    let judged = judge_date(year, month, day);
+    match judged {
+        DateJudged::Fine => Tested::Fine,
+        DateJudged::WrongYear => Tested::Stop(Refusal(13, at + Basic::YEAR)),
+        DateJudged::WrongMonth => Tested::Stop(Refusal(13, at + Basic::MONTH)),
+        DateJudged::WrongDay => Tested::Stop(Refusal(13, at + Basic::DAY)),
     }
-    if !dated(year, days_in(year, month), field(o, s, Basic::DAY)) {
-        return Tested::Stop(Refusal(13, at + Basic::DAY));
-    }
-    Tested::Fine
 }
 
 fn time_ok(o: Order, s: &[u8], at: usize) -> Tested

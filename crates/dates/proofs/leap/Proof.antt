@@ -1,8 +1,8 @@
--- `records::basic::leap` meets its contract: the three tests of a leap year. Assumes nothing.
+-- `dates::leap` meets its contract: the three tests of a leap year. Assumes nothing.
 use Rattle.walk.proofs.Seen.{tests}
 use Rattle.rules.specs.Rules.{leap}
-use Rattle.records.proofs.basic.leap.Statement.{statement}
-use Rattle.records.proofs.basic.leap.Tie as tie
+use Rattle.dates.proofs.leap.Statement.{statement}
+use Rattle.dates.proofs.leap.Tie as tie
 
 returns : tie.Need-returns
 unfolding leap
