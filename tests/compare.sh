@@ -1,12 +1,13 @@
 #!/usr/bin/env bash
 # Compares the second program with two corpora, and the proved code with both: every file and every question of the
 # project's own (tests/corpus) and, where it is there, of the one beside the checkout (or its archive is the argument),
-# which another program made; then files made afresh, through `listing` and through the library, and a short run of many
-# files at once. SEED and COUNT choose the files made afresh, ROUNDS those that go through the library.
+# which another program made, the one with the requests that have landed; then files made afresh, through `listing` and
+# through the library, and a short run of many files at once. SEED and COUNT choose the files made afresh, ROUNDS those
+# that go through the library.
 set -euo pipefail
 cd "$(dirname "$0")/.."
 own=tests/corpus/files.tar.gz
-beside=${1:-../shared/corpus/files.tar.gz}
+beside=${1:-../shared/corpus/files-2.tar.gz}
 listing=$PWD/target/bin/listing
 seed=${SEED:-$(date +%s)}
 count=${COUNT:-5000}
@@ -19,12 +20,15 @@ trap 'rm -rf "$files"' EXIT
 
 # Everything that a corpus says, for the second program, the library and `listing`.
 compare_corpus() {
-    local folder differ=0 listed=0 f
+    local folder differ=0 listed=0 f asked
     folder=$(mktemp -d -p "$files")
     tar xzf "$1" -C "$folder"
     "$built/second" corpus "$folder/corpus"
-    "$built/ask" "$folder/corpus" <"$folder/corpus/questions.ask" | diff - "$folder/corpus/questions.ans"
-    echo "$(wc -l <"$folder/corpus/questions.ask") lines of $1 through the library, 0 differences"
+    for asked in "$folder/corpus/questions.ask" "$folder/corpus/questions-old.ask"; do
+        [ -e "$asked" ] || continue
+        "$built/ask" "$folder/corpus" <"$asked" | diff - "${asked%.ask}.ans"
+        echo "$(wc -l <"$asked") lines of $1, $(basename "$asked"), through the library, 0 differences"
+    done
     for f in "$folder"/corpus/*.bin; do
         listed=$((listed + 1))
         "$listing" <"$f" | cmp -s - "${f%.bin}.out" || { echo "listing differs: $f"; differ=$((differ + 1)); }

@@ -14,7 +14,7 @@ use Rattle.walk.specs.Plays.{Plays, gives, checks, numbers, reads, skips, lists
 use Rattle.walk.specs.Walk.{Text, Event, numeral, piece, size, Walk, give, _>>=_, _>>_, pick}
 use Rattle.walk.proofs.Laws.{plays-bind, plays-split, plays-give, plays-last, checked, counted, taken, skipped, traced, renewed, size-append, zeros-bytes, zeros-length}
 use Rattle.rules.specs.Canonical.{multiplierFor, most, zeroes, numerals, rowOf, plainHead, recordOf, basicFields, channelFields, channelEvents, channelsHead, channelsWritten, itemEvents, itemsHead, itemsWritten, sampleEvents, frameWritten, frameSize, frameEvents, framesBytes, framesHead, framesWritten, makerEvents}
-use Rattle.rules.specs.Rules.{between, padding, padded, makerCode, zeros, series, limit, Head, head, lengthOf, span, admit, exactly, fixed, Basic, basicBody, basic, Channel, channelBody, channel, channels, Item, item, itemBytes, itemList, items, width, divides, samplesIn, all, sampleBytes, numberList, samples, Frame, frame, Frames, frames, Maker, Next, next, channelsBody, itemsBody, frameBody, framesBody}
+use Rattle.rules.specs.Rules.{between, padding, padded, makerCode, zeros, series, limit, Head, head, lengthOf, span, admit, exactly, fixed, Basic, basicBody, basic, Channel, channelBody, channel, channels, Item, item, itemBytes, itemList, items, width, sampled, samplesIn, all, sampleBytes, numberList, samples, Frame, frame, Frames, frames, Maker, Next, next, channelsBody, itemsBody, frameBody, framesBody}
 use Rattle.rules.proofs.Sized.{sized}
 
 pub and-true : (a b : Bool) → a && b ≡ true → (a ≡ true) × (b ≡ true)
@@ -383,7 +383,7 @@ frame-events-size t cs (f ∷ fs) k i =
 pub record FramesOk (b : Basic) (own : Bool) (cs : List Channel) (t : ℕ) (fs : List Frame) : Type 0 where
   pub held : own || eqb (length cs) (b .channels) ≡ true
   pub seconds : between 1 3600 t ≡ true
-  pub exact : all (divides t) cs ≡ true
+  pub exact : all (sampled t) cs ≡ true
   pub small : frameSize t cs < limit
   pub count : length fs ≡ b .frames
   pub few : length fs < 256 ^ 4

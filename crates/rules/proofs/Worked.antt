@@ -13,7 +13,7 @@ use Rattle.walk.specs.Walk.{Row, Outcome, refused, passed, swap, laid, _>>=_, _
 use Rattle.rules.specs.Rules.{File, zeros, padding, series, between, sameBytes, identifier, version, form, allSpaces, decimal, countOf, fileHeader, lengthOf, head, admit, padded, fixed, leap, monthDays, daysIn, dated, isMains, basicBody, isType, rateOk, channelBody, channelsBody, channels, keywords, isIn, patientCode, eventCode, item, itemBytes, itemList, itemsBody, items, width, samplesOf, all, sampleBytes, numberList, samples, frameBody, frame, framesBody, frames, makerCode, next, part, delimiter, descriptions, signals, recordingBody, recording, recordings, file, orderOf, whole, judge}
 use Rattle.rules.specs.Canonical.{multiplierFor, sizeFor}
 use Rattle.rules.specs.Turned.{turned}
-use Rattle.rules.specs.Worked.{WorkedValues, WorkedRefusals, smallestIn, smallest, with, row, listing}
+use Rattle.rules.specs.Worked.{WorkedValues, WorkedPeriods, WorkedRefusals, smallestIn, smallest, with, withPeriod, row, listing}
 
 -- 24 bits, all set, are -1 in either order
 all-set : (o : Order) → signed 3 (wordIn o (255 ∷ 255 ∷ 255 ∷ [])) ≡ negsuc 0
@@ -38,6 +38,10 @@ worked = record {
   twelve = (refl, refl);
 }
 
+pub worked-periods : WorkedPeriods
+unfolding samplesOf
+worked-periods = record { second = refl; thirty = refl; three = refl; seconds = refl; none = refl }
+
 -- the rows of what is accepted
 abbrev rowsOf : Outcome File → List Row
 rowsOf (refused n p) = []
@@ -53,12 +57,13 @@ pub record Smallest (o : Order) : Type 0 where
   pub accepted : isAccepted (judge (smallestIn o)) ≡ true
   pub listed : rowsOf (judge (smallestIn o)) ≡ listing
 
--- in either order, and turned from one to the other; 29 February 2000 passes; and every refusal number, at its place
+-- in either order, and turned from one to the other; 29 February 2000 passes, and so does a period of 700,000 microseconds, which does not divide T 1; and every refusal number, at its place
 record Files : Type 0 where
   little : Smallest Little
   big : Smallest Big
   turns : turned smallest ≡ smallestIn Big
   leap : isAccepted (judge (with 80 (208 ∷ 7 ∷ 0 ∷ 0 ∷ 2 ∷ 0 ∷ 0 ∷ 0 ∷ 29 ∷ []))) ≡ true
+  period : isAccepted (judge (withPeriod (96 ∷ 174 ∷ 10 ∷ []))) ≡ true
   refusals : WorkedRefusals judge
 
 files : Files
@@ -68,6 +73,7 @@ files = record {
   big = record { bytes = refl; accepted = refl; listed = refl };
   turns = refl;
   leap = refl;
+  period = refl;
   refusals = record { one = refl; two = refl; three = refl; four = refl; five = refl; six = refl; seven = refl; eight = refl; nine = refl; ten = refl; eleven = refl; twelve = refl; thirteen = refl; fourteen = refl; fifteen = refl; sixteen = refl; period = refl; leap = refl };
 }
 
@@ -80,6 +86,9 @@ smallest-turned = files .turns
 
 pub leap-accepted : isAccepted (judge (with 80 (208 ∷ 7 ∷ 0 ∷ 0 ∷ 2 ∷ 0 ∷ 0 ∷ 0 ∷ 29 ∷ []))) ≡ true
 leap-accepted = files .leap
+
+pub period-accepted : isAccepted (judge (withPeriod (96 ∷ 174 ∷ 10 ∷ []))) ≡ true
+period-accepted = files .period
 
 pub worked-refusals : WorkedRefusals judge
 worked-refusals = files .refusals

@@ -466,15 +466,16 @@ items ok room h = do
 unfoldable pub width : ℕ → ℕ
 width format = pick (eqb format 1) 2 (pick (eqb format 2) 3 4)
 
--- does a period divide T seconds exactly; samples of a channel in T seconds
-abbrev pub divides : ℕ → Channel → Bool
-divides t c = eqb (c .rate) 0 || eqb (c .flags % 2) 0 || eqb (t * 1_000_000 % c .rate) 0
-
+-- samples of a channel in T seconds; by a period, as many as fit, rounded down
 unfoldable pub samplesOf : ℕ → ℕ → ℕ → ℕ
 samplesOf t flags rate = pick (eqb rate 0) 0 (pick (eqb (flags % 2) 0) (rate * t) (t * 1_000_000 / rate))
 
 abbrev pub samplesIn : ℕ → Channel → ℕ
 samplesIn t c = samplesOf t (c .flags) (c .rate)
+
+-- rate 0, or at least one sample
+abbrev pub sampled : ℕ → Channel → Bool
+sampled t c = eqb (c .rate) 0 || leb 1 (samplesIn t c)
 
 unfoldable pub all : {A : Type 0} → (A → Bool) → List A → Bool
 all p [] = true
@@ -534,7 +535,7 @@ pub record Frames : Type 0 where
 unfoldable pub framesBody : Basic → List Channel → Head → Walk Frames
 framesBody b cs h = do
   t ← field (between 1 3600)
-  require (all (divides t) cs) 14 fieldBack
+  require (all (sampled t) cs) 14 fieldBack
   let filled = 24 + sampleBytes t cs
   size ← num 4
   require (between filled (filled + 127) size && ltb size limit) 14 fieldBack

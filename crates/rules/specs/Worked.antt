@@ -28,6 +28,15 @@ pub record WorkedValues : Type 0 where
   pub eleven : (multiplierFor 2_147_483_648 ≡ 2) × (sizeFor 2_147_483_648 ≡ 1_073_741_824)
   pub twelve : (multiplierFor 4_294_967_295 ≡ 3) × (sizeFor 4_294_967_295 ≡ 1_431_655_765)
 
+-- periods that do not divide: 3906 microseconds in 1 second and in 30; 3 in 1; and one for which it matters that all T seconds are divided
+pub record WorkedPeriods : Type 0 where
+  pub second : samplesOf 1 1 3_906 ≡ 256
+  pub thirty : samplesOf 30 1 3_906 ≡ 7_680
+  pub three : samplesOf 1 1 3 ≡ 333_333
+  pub seconds : samplesOf 30 1 700_000 ≡ 42
+  -- none where the period is longer than T
+  pub none : samplesOf 1 1 1_000_001 ≡ 0
+
 -- The smallest file with samples, 562 bytes, in an order: one 1 Hz 16-bit channel, no patient items, T 1, one frame
 
 abbrev zeros : ℕ → List ℕ
@@ -72,6 +81,10 @@ listing =
 abbrev pub with : ℕ → List ℕ → List ℕ
 with at bs = take at smallest ++ (bs ++ drop (at + length bs) smallest)
 
+-- its channel has a period, these bytes of microseconds
+abbrev pub withPeriod : List ℕ → List ℕ
+withPeriod period = with 228 ((1 ∷ 0 ∷ 0 ∷ 0 ∷ 4 ∷ 0 ∷ 0 ∷ 0 ∷ 1 ∷ 0 ∷ 0 ∷ 0 ∷ []) ++ period)
+
 pub record WorkedRefusals (judge : List ℕ → Outcome File) : Type 0 where
   pub one : judge (take 31 smallest) ≡ refused 1 0
   pub two : judge (with 7 (70 ∷ [])) ≡ refused 2 0
@@ -89,6 +102,6 @@ pub record WorkedRefusals (judge : List ℕ → Outcome File) : Type 0 where
   pub fourteen : judge (with 192 (2 ∷ [])) ≡ refused 14 192
   pub fifteen : judge (with 32 (177 ∷ 0 ∷ 0 ∷ 0 ∷ 10 ∷ 0 ∷ 0 ∷ 0 ∷ 1 ∷ 0 ∷ 0 ∷ 0 ∷ 3 ∷ []) ++ (5 ∷ [])) ≡ refused 15 562
   pub sixteen : judge (smallest ++ (0 ∷ [])) ≡ refused 16 562
-  -- a period of 3 microseconds does not divide T 1; 29 February 1900
-  pub period : judge (with 228 (1 ∷ 0 ∷ 0 ∷ 0 ∷ 4 ∷ 0 ∷ 0 ∷ 0 ∷ 1 ∷ 0 ∷ 0 ∷ 0 ∷ 3 ∷ [])) ≡ refused 14 504
+  -- a period of 1,000,001 microseconds leaves T 1 without a sample; 29 February 1900
+  pub period : judge (withPeriod (65 ∷ 66 ∷ 15 ∷ [])) ≡ refused 14 504
   pub leap : judge (with 80 (108 ∷ 7 ∷ 0 ∷ 0 ∷ 2 ∷ 0 ∷ 0 ∷ 0 ∷ 29 ∷ [])) ≡ refused 13 88

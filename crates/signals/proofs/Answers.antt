@@ -53,11 +53,11 @@ module _ (o : Order) (file : List ℕ) (cs : Channels) (at : ℕ) (s : List ℕ)
   stops-seconds a = refused (λ ch st v. simp (gates, a))
 
   module _ (a : between 1 3600 t ≡ true) where
-    pub stops-periods : Of (λ ch. R.all (R.divides t) ch ≡ false) → Answers (Shaped.Stop (record { 0 = 14; 1 = at + 16 }))
+    pub stops-periods : Of (λ ch. R.all (R.sampled t) ch ≡ false) → Answers (Shaped.Stop (record { 0 = 14; 1 = at + 16 }))
     unfolding fieldTests
     stops-periods d = refused (λ ch st v. simp (gates, a, d ch st))
 
-    module _ (d : Of (λ ch. R.all (R.divides t) ch ≡ true)) {bytes : ℕ} (is : Of (λ ch. bytes ≡ sampleBytes t ch)) where
+    module _ (d : Of (λ ch. R.all (R.sampled t) ch ≡ true)) {bytes : ℕ} (is : Of (λ ch. bytes ≡ sampleBytes t ch)) where
       pub stops-size : between (24 + bytes) (24 + bytes + 127) size && ltb size limit ≡ false → Answers (Shaped.Stop (record { 0 = 14; 1 = at + 20 }))
       unfolding fieldTests
       stops-size z = refused (λ ch st v. simp (gates, a, d ch st, ← is ch st, z))

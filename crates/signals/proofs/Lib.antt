@@ -1,4 +1,4 @@
-pub mod Divided
+pub mod Sampled
 pub mod FramesBody
 pub mod Answers
 pub mod Signaled

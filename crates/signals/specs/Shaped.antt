@@ -25,7 +25,7 @@ use Rattle.signals.specs.declared.frames.Shaped.the-variants as Shaped
 -- T, the frame length and the count of frames are tested, in a 140 of so many bytes at `at`; then the verdict that follows
 unfoldable pub fieldTests : (at bytes total multiplier : ℕ) → List R.Channel → (t size n : ℕ) → Verdict R.Frames → Verdict R.Frames
 fieldTests at bytes total multiplier ch t size n v =
-    gate (R.between 1 3600 t) (gate (R.all (R.divides t) ch) (gate (R.between (24 + R.sampleBytes t ch) (24 + R.sampleBytes t ch + 127) size && ltb size R.limit) (gate (eqb n total) (gate (leb (32 + n * size) bytes && R.padded multiplier (bytes - (32 + n * size))) v
+    gate (R.between 1 3600 t) (gate (R.all (R.sampled t) ch) (gate (R.between (24 + R.sampleBytes t ch) (24 + R.sampleBytes t ch + 127) size && ltb size R.limit) (gate (eqb n total) (gate (leb (32 + n * size) bytes && R.padded multiplier (bytes - (32 + n * size))) v
     14 (at + 24))
     14 (at + 24))
     14 (at + 20))

@@ -6,6 +6,7 @@ ghost use Prim.Native.Nat.{_+_, _-_, _*_, _≤_};
 ghost use lib.ListN.{length};
 ghost use lib.Dec.{leb, ltb, eqb};
 ghost use Rattle.rules.specs.Rules as R;
+ghost use Rattle.records.specs.Asks.{SecondsOf};
 ghost use Rattle.records.specs.Says.{ChannelsStand};
 ghost use Rattle.signals.specs.FramesJudged.{SignalsIn, FramesAt};
 ghost use Rattle.signals.specs.Shaped.{refusalS, Countable, FieldsAsked, RestAsked, FieldsTested, RestRead, BodyRead};
@@ -50,23 +51,21 @@ fn of_shape(a: Shaped) -> Refusal
     }
 }
 
-// A channel with these flags and this rate has a whole number of samples in t seconds.
-fn divides(t: u32, flags: u32, rate: u32) -> bool
-    ensures { λ r. ⌜ ((c : R.Channel) → c .flags ≡ flags → c .rate ≡ rate → r ≡ R.divides t c) ⌝ }
+// A channel with these flags and this rate has no rate, or at least one sample in t seconds.
+fn sampled(t: u32, flags: u32, rate: u32) -> bool
+    requires { ⌜ t ≤ 3600 ⌝ }
+    ensures { λ r. ⌜ ((c : R.Channel) → c .flags ≡ flags → c .rate ≡ rate → r ≡ R.sampled t c) ⌝ }
 {
     if rate == 0 {
         return true;
     }
-    if flags % 2 == 0 {
-        return true;
-    }
-    t as u64 * Channel::MICROSECONDS % rate as u64 == 0
+    1 <= records::channels::samples_in(t, flags, rate)
 }
 
-// Each of the channels whose records 125 stand at cs has a whole number of samples in t seconds.
-fn all_divide(o: Order, file: &[u8], cs: Channels, t: u32) -> bool
-    requires { ⌜ cs .subs + 256 * cs .count ≤ length (now file) ⌝ }
-    ensures { λ r. ⌜ ((ch : List R.Channel) → ChannelsStand o (now (file .entry)) cs ch → r ≡ R.all (R.divides t) ch) ⌝ }
+// Each of the channels whose records 125 stand at cs has no rate, or at least one sample in t seconds.
+fn all_sampled(o: Order, file: &[u8], cs: Channels, t: u32) -> bool
+    requires { ⌜ SecondsOf (length (now file)) cs t ⌝ }
+    ensures { λ r. ⌜ ((ch : List R.Channel) → ChannelsStand o (now (file .entry)) cs ch → r ≡ R.all (R.sampled t) ch) ⌝ }
 {
     let m = cs.count;
     let mut p = cs.subs;
@@ -74,7 +73,7 @@ fn all_divide(o: Order, file: &[u8], cs: Channels, t: u32) -> bool
     while i < m {
         let flags = number4(o, file, p + Channel::FLAGS);
         let rate = number4(o, file, p + Channel::RATE);
-        if !divides(t, flags, rate) {
+        if !sampled(t, flags, rate) {
             return false;
         }
         p += Channel::LENGTH;
@@ -131,7 +130,7 @@ fn read_shape(
     if !records::between(1, Frames::MOST_SECONDS, t) {
         return Shaped::Stop(Refusal(13, at + Frames::SECONDS));
     }
-    if !all_divide(o, file, cs, t) {
+    if !all_sampled(o, file, cs, t) {
         return Shaped::Stop(Refusal(14, at + Frames::SECONDS));
     }
     let bytes = records::channels::sample_bytes(o, file, cs.subs, cs.count, t);

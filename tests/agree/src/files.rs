@@ -69,14 +69,27 @@ fn share(seed: u64, indices: impl Iterator<Item = u64>, until: Until) -> Compare
         compared.files += 1;
         compared.accepted += u64::from(verdict.is_ok());
         compared.questions += asked.len() as u64;
-        let differences = verdict_differs(&file, &verdict)
+        let differences = differences(&file, &verdict, &asked);
+        let named = differences
             .into_iter()
-            .chain(written_differs(&file))
-            .chain(asked.iter().filter_map(|one| answer_differs(&file, one)));
-        let named = differences.map(|why| format!("file {index} of seed {seed}: {why}"));
+            .map(|why| format!("file {index} of seed {seed}: {why}"));
         compared.differences.extend(named);
     }
     compared
+}
+
+/// Where the library differs from the second program, whose verdict this is: the verdict, what is written, and the
+/// answers to questions.
+pub fn differences(
+    file: &[u8],
+    verdict: &Result<Model, Refusal>,
+    asked: &[Question],
+) -> Vec<String> {
+    verdict_differs(file, verdict)
+        .into_iter()
+        .chain(written_differs(file))
+        .chain(asked.iter().filter_map(|one| answer_differs(file, one)))
+        .collect()
 }
 
 /// The header's values of an accepted file, or the refusal: order letter, script letter and K.

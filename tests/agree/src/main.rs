@@ -3,10 +3,7 @@
 //! every question, turning there and back, and rewriting. So many files, or as many as the time allows (`600s`). Status 1 means a
 //! difference.
 
-mod buffers;
-mod files;
-
-use files::Until;
+use agree::files::{self, Until};
 use std::process::ExitCode;
 use std::time::{Duration, Instant};
 

@@ -440,7 +440,7 @@ fn length(kind: Kind, size: i32, multiplier: i32) -> Option<usize> {
     }
 }
 
-/// Each channel's place in a frame; nothing when a period does not divide.
+/// Each channel's place in a frame; nothing when a period leaves no sample.
 fn slots(channels: &[Channel], seconds: u64) -> Option<Vec<Slot>> {
     let mut offset = frame::SAMPLES as u64;
     let mut slots = Vec::new();

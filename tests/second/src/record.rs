@@ -345,8 +345,10 @@ pub enum Rate {
 }
 
 const MOST_HERTZ: i32 = 1_000_000;
-const MICROSECONDS: u64 = 1_000_000;
-const PERIOD_FLAG: i32 = 1;
+/// Of a second.
+pub const MICROSECONDS: u64 = 1_000_000;
+/// The bit of the flags that makes a rate a period.
+pub const PERIOD_FLAG: i32 = 1;
 
 impl Rate {
     /// The rate of a channel, if its fields pass: 0 needs type 0 (OFF).
@@ -360,14 +362,14 @@ impl Rate {
         }
     }
 
-    /// Samples in a frame of `seconds`; nothing when a period does not divide.
+    /// Samples in a frame of `seconds`. A period's count is the time divided by
+    /// it, rounded down (document 02, request 2); nothing when that leaves none.
     pub fn samples(self, seconds: u64) -> Option<u64> {
         match self {
             Rate::None => Some(0),
             Rate::Hertz(rate) => Some(rate * seconds),
             Rate::Microseconds(period) => {
-                let time = seconds * MICROSECONDS;
-                time.is_multiple_of(period).then_some(time / period)
+                Some(seconds * MICROSECONDS / period).filter(|count| *count > 0)
             }
         }
     }
@@ -389,8 +391,22 @@ mod tests {
     fn worked_values_8_and_9() {
         assert_eq!(Rate::Hertz(200).samples(10), Some(2000));
         assert_eq!(Rate::Microseconds(5000).samples(10), Some(2000));
-        assert_eq!(Rate::Microseconds(3).samples(1), None);
-        assert_eq!(Rate::Microseconds(1_000_001).samples(1), None);
+    }
+
+    #[test]
+    fn a_periods_count_is_rounded_down() {
+        let count = |period, seconds| Rate::Microseconds(period).samples(seconds);
+        assert_eq!(count(3906, 1), Some(256));
+        assert_eq!(count(3906, 30), Some(7680));
+        assert_eq!(count(3, 1), Some(333_333));
+        assert_eq!(count(500_000, 1), Some(2));
+        assert_eq!(count(500_001, 1), Some(1));
+        assert_eq!(count(1_000_000, 1), Some(1));
+        assert_eq!(count(1_000_001, 1), None);
+        assert_eq!(count(1_000_001, 2), Some(1));
+        assert_eq!(count(2_147_483_647, 2147), None);
+        assert_eq!(count(2_147_483_647, 2148), Some(1));
+        assert_eq!(Rate::None.samples(1), Some(0));
     }
 
     #[test]

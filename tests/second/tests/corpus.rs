@@ -2,10 +2,11 @@
 
 use second::bytes::Order;
 use second::corpus;
-use second::header::{RECORDINGS_AT, SCRIPTS};
+use second::header::{self, RECORDINGS_AT, SCRIPTS};
 use second::judge::judge;
-use second::model::{Model, Recording};
-use second::record::{frames, Format, Kind, Rate};
+use second::model::{Channel, Model, Recording};
+use second::record::{self, frames, Format, Kind, Rate, HEAD, MICROSECONDS};
+use second::refusal::{Refusal, DISAGREEMENT};
 use std::collections::BTreeSet;
 use std::fs;
 use std::path::{Path, PathBuf};
@@ -20,6 +21,8 @@ fn archive() -> PathBuf {
 /// The corpus, unpacked into a folder of this name.
 fn unpacked(name: &str) -> PathBuf {
     let folder = Path::new(env!("CARGO_TARGET_TMPDIR")).join(name);
+    // An older corpus may still be there.
+    let _ = fs::remove_dir_all(&folder);
     fs::create_dir_all(&folder).unwrap();
     let tar = Command::new("tar")
         .arg("xzf")
@@ -85,6 +88,7 @@ fn every_refusal_and_every_form_is_there() {
         match judge(&file) {
             Err(refusal) => {
                 shown.insert(format!("refused {}", refusal.number));
+                shown.extend(too_few_seconds(&file, refusal).map(str::to_string));
             }
             Ok(model) => shown.extend(forms(&file, &model)),
         }
@@ -94,8 +98,9 @@ fn every_refusal_and_every_form_is_there() {
     wanted.extend(SCRIPTS.map(|script| format!("script {script}")));
     wanted.extend(Format::ALL.map(|format| format!("{format:?}")));
     let named = "one recording, several recordings, zeros before K, inherited 120, inherited 130, a 200, no 200, \
-        items, an empty 130, maker before 140, maker behind 140, hertz, period, no samples, several frames, \
-        padding of a frame, padding of a 140, padding of a recording, no padding";
+        items, an empty 130, maker before 140, maker behind 140, hertz, a period that divides, \
+        a period that does not divide, 256 Hz, no samples, several frames, padding of a frame, padding of a 140, \
+        padding of a recording, no padding, 14 at seconds, 14 at seconds and an inherited 120";
     wanted.extend(named.split(", ").map(str::to_string));
     for form in wanted {
         assert!(shown.contains(&form), "{form}");
@@ -120,14 +125,48 @@ fn forms(file: &[u8], model: &Model) -> BTreeSet<String> {
         shown.extend(padded(recording).into_iter().map(str::to_string));
         for channel in recording.channels.iter() {
             shown.insert(format!("{:?}", channel.format));
-            shown.insert(match channel.rate {
-                Rate::None => "no samples".to_string(),
-                Rate::Hertz(_) => "hertz".to_string(),
-                Rate::Microseconds(_) => "period".to_string(),
-            });
+            shown.insert(rated(channel, recording.block.seconds).to_string());
         }
     }
     shown
+}
+
+/// What its rate is in a frame of so many seconds.
+fn rated(channel: &Channel, seconds: i32) -> &'static str {
+    match channel.rate {
+        Rate::None => "no samples",
+        Rate::Hertz(_) => "hertz",
+        Rate::Microseconds(3906) => "256 Hz",
+        Rate::Microseconds(period) => match seconds as u64 * MICROSECONDS % period {
+            0 => "a period that divides",
+            _ => "a period that does not divide",
+        },
+    }
+}
+
+/// Whether a refusal is at the seconds of a 140, for a period longer than these, and where its channels stand.
+fn too_few_seconds(file: &[u8], refusal: Refusal) -> Option<&'static str> {
+    if refusal.number != DISAGREEMENT {
+        return None;
+    }
+    let order = Order::from_letter(file[header::ORDER_AT])?;
+    let number = |at: usize| order.i32_at(file, at);
+    let length = |at| record::length(number(at), number(at + record::MULTIPLIER_AT)) as usize;
+    let mut recording = header::LENGTH;
+    while recording + length(recording) <= refusal.at {
+        recording += length(recording);
+    }
+    let (mut part, mut own) = (recording + HEAD, false);
+    while part + length(part) <= refusal.at {
+        own |= Kind::Channels.has_code(number(part + record::CODE_AT));
+        part += length(part);
+    }
+    let signals = Kind::Frames.has_code(number(part + record::CODE_AT));
+    match (signals && refusal.at == part + frames::SECONDS, own) {
+        (false, _) => None,
+        (true, true) => Some("14 at seconds"),
+        (true, false) => Some("14 at seconds and an inherited 120"),
+    }
 }
 
 /// Which records it holds, and where makers' records stand.

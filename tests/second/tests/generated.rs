@@ -5,7 +5,7 @@ use second::generate::{self, Field, Sheet};
 use second::judge::judge;
 use second::model::{Calibration, Channel, Item, Model, Recording, Span};
 use second::questions::sample_at;
-use second::record::Kind;
+use second::record::{Kind, Rate, MICROSECONDS};
 use second::refusal::Refusal;
 use second::rewrite::rewrite;
 use second::table::table;
@@ -53,6 +53,36 @@ fn valid_files_have_the_rows_they_were_written_with() {
             .map(|record| (record.at as i64, record.length as i64))
             .collect();
         assert_eq!(found, written);
+    }
+}
+
+#[test]
+fn periods_of_every_sort_are_frequent_in_valid_files() {
+    let mut times: BTreeMap<&str, u64> = BTreeMap::new();
+    for sheet in valid_files() {
+        let model = judge(&sheet.bytes).expect("a valid file");
+        for recording in &model.recordings {
+            let time = recording.block.seconds as u64 * MICROSECONDS;
+            for (channel, slot) in recording.channels.iter().zip(&recording.block.slots) {
+                if let Rate::Microseconds(period) = channel.rate {
+                    let sort = match time % period {
+                        0 => "divides",
+                        _ if period == 3906 => "256 Hz",
+                        _ => "does not divide",
+                    };
+                    assert_eq!(slot.count, (time - time % period) / period);
+                    *times.entry(sort).or_default() += 1;
+                }
+            }
+        }
+    }
+    for (sort, least) in [
+        ("divides", VALID / 2),
+        ("does not divide", VALID),
+        ("256 Hz", 100),
+    ] {
+        let found = times.get(sort).copied().unwrap_or(0);
+        assert!(found >= least, "{sort}: only {found}");
     }
 }
 
@@ -175,7 +205,11 @@ fn channel_reading(channel: &Channel, text: impl Fn(Span) -> Vec<u8>) -> String 
 fn place_of(sheet: &Sheet, refusal: Refusal) -> String {
     let number = refusal.number;
     if let Some(place) = sheet.place_at(refusal.at) {
-        return at_field(number, place.field);
+        let at = at_field(number, place.field);
+        return match place.field {
+            Field::Seconds if inherits(sheet, place.at) => inherited(at),
+            _ => at,
+        };
     }
     let paddings = sheet.paddings.iter().filter(|padding| padding.length > 0);
     let mut around = paddings.filter(|p| (p.at..p.at + p.length).contains(&refusal.at));
@@ -188,6 +222,17 @@ fn place_of(sheet: &Sheet, refusal: Refusal) -> String {
 
 fn at_field(number: u8, field: Field) -> String {
     format!("{number} at {field:?}")
+}
+
+/// Whether the recording around a position has no 120 before it.
+fn inherits(sheet: &Sheet, at: usize) -> bool {
+    let before = sheet.records.iter().filter(|record| record.at < at);
+    let mut parts = before.rev().take_while(|r| r.kind != Kind::Recording);
+    !parts.any(|record| record.kind == Kind::Channels)
+}
+
+fn inherited(at: String) -> String {
+    format!("{at}, its 120 inherited")
 }
 
 fn in_padding(number: u8, kind: Kind) -> String {
@@ -257,6 +302,7 @@ fn named_places() -> Vec<String> {
         Field::FrameCount,
     ];
     all.extend(disagreements.map(|field| at_field(14, field)));
+    all.push(inherited(at_field(14, Field::Seconds)));
     let padded = [Kind::Recording, Kind::Frames, Kind::Frame];
     all.extend(padded.map(|kind| in_padding(15, kind)));
     all.push(in_padding(10, Kind::Recording));

@@ -109,7 +109,7 @@ fn an_inherited_count_is_tested_at_100() {
 #[test]
 fn an_inherited_period_is_tested_against_each_recordings_seconds() {
     let pen = PENS[0];
-    let parts = |period| {
+    let parts = |period, seconds| {
         let frame = |seconds: i32| {
             let samples = vec![0; (seconds * 1_000_000 / period) as usize * 2];
             pen.frame(1, 24 + samples.len() as i32, 0, &samples)
@@ -120,13 +120,83 @@ fn an_inherited_period_is_tested_against_each_recordings_seconds() {
             pen.items(130, &[]),
             pen.frames(3, 0, &[frame(3)]),
         ];
-        let other = [pen.overview(1, 1), pen.frames(4, 0, &[frame(4)])];
+        let other = [
+            pen.overview(1, 1),
+            pen.frames(seconds, 0, &[frame(seconds)]),
+        ];
         pen.file(&[pen.recording(1, 0, &one), pen.recording(2, 0, &other)])
     };
-    assert!(judge(&parts(500_000)).is_ok());
-    let file = parts(1_500_000);
+    for (period, seconds, count) in [(500_000, 4, 8), (1_500_000, 4, 2), (1_500_000, 2, 1)] {
+        let file = parts(period, seconds);
+        assert_eq!(questions::count(&file, 2, 1, 1), Ok(count));
+    }
+    // Two samples in three seconds, none in one.
+    let file = parts(1_500_000, 1);
     let block = 32 + (16 + 128 + 288 + 24 + 32 + 24 + 4 + 16) + 16 + 128;
     assert_eq!(judge(&file).err(), refused(14, block + 16));
+}
+
+/// One recording of one frame: so many bytes of samples, behind one another.
+fn sampled(pen: Pen, channels: &[[i32; 4]], seconds: i32, bytes: usize) -> Vec<u8> {
+    let frame = pen.frame(1, 24 + bytes as i32, 0, &vec![7; bytes]);
+    let parts = [
+        pen.overview(channels.len() as i32, 1),
+        pen.channels(channels),
+        pen.items(130, &[]),
+        pen.frames(seconds, 0, &[frame]),
+    ];
+    pen.file(&[pen.recording(1, 0, &parts)])
+}
+
+#[test]
+fn a_periods_samples_are_counted_down() {
+    let cases = [
+        (3906, 1, 256),
+        (3906, 30, 7680),
+        (3, 1, 333_333),
+        (7, 2, 285_714),
+        (700_000, 1, 1),
+        (700_000, 7, 10),
+    ];
+    for pen in PENS {
+        for (period, seconds, count) in cases {
+            let channels = [[PERIOD, 1, 1, period]];
+            let file = sampled(pen, &channels, seconds, 2 * count);
+            assert_eq!(questions::count(&file, 1, 1, 1), Ok(count as u64));
+            // One sample more or less is no frame of this file.
+            for other in [count - 1, count + 1] {
+                let file = sampled(pen, &channels, seconds, 2 * other);
+                let expected = if other < count {
+                    refused(14, 488 + 20)
+                } else {
+                    refused(10, 520)
+                };
+                assert_eq!(judge(&file).err(), expected);
+            }
+        }
+    }
+}
+
+#[test]
+fn what_stands_behind_a_period_that_does_not_divide() {
+    let channels = [
+        [PERIOD, 1, 1, 3906],
+        [PERIOD, 0, 3, 0],
+        [PERIOD, 1, 2, 300_000],
+        [HERTZ, 1, 4, 2],
+    ];
+    for pen in PENS {
+        let file = sampled(pen, &channels, 1, 512 + 9 + 8);
+        let frame = 48 + 128 + (32 + 4 * 256) + 24 + 32;
+        for (channel, at, length) in [(1, 24, 512), (3, 536, 9), (4, 545, 8)] {
+            let at = frame + at;
+            assert_eq!(questions::view(&file, 1, 1, channel), Span { at, length });
+        }
+        assert_eq!(questions::count(&file, 1, 1, 2), Ok(0));
+        assert_eq!(rewrite(&file, letter(pen), u64::MAX), Ok(file.clone()));
+        let turned = turn(&file, u64::MAX).expect("room enough");
+        assert_eq!(turn(&turned, u64::MAX), Ok(file));
+    }
 }
 
 #[test]

@@ -283,12 +283,42 @@ fn channel_fields() {
         (&[(rate, 1_000_001)], Some((13, rate))),
         (&[(rate, 1_000_000)], Some((14, FRAMES + 20))),
         (&[(rate, 1_000_000), (flags, 1)], None),
-        (&[(rate, 3), (flags, 1)], Some((14, FRAMES + 16))),
-        (&[(rate, 1_000_001), (flags, -1)], Some((14, FRAMES + 16))),
-        (&[(rate, i32::MAX), (flags, 1)], Some((14, FRAMES + 16))),
         (&[(rate, -1), (flags, 1)], Some((13, rate))),
         // No samples any more: the two bytes are too much without a multiplier.
         (&[(rate, 0), (kind, 0)], Some((10, FRAME))),
+    ]);
+}
+
+#[test]
+fn periods() {
+    let (flags, kind, rate) = (CHANNEL + 20, CHANNEL + 24, CHANNEL + 32);
+    let (seconds, length) = (FRAMES + 16, FRAMES + 20);
+    let period = |period| [(flags, 1), (rate, period)];
+    let with = |value, change: &[(usize, i32)]| [&period(value), change].concat();
+    check(&[
+        // One sample, whether or not the period divides.
+        (&period(1_000_000), None),
+        (&period(999_999), None),
+        (&period(700_000), None),
+        (&period(500_001), None),
+        // More of them than the frame has.
+        (&period(500_000), Some((14, length))),
+        (&period(3906), Some((14, length))),
+        (&period(3), Some((14, length))),
+        // None, also in an OFF channel, and before the frame length is judged.
+        (&period(1_000_001), Some((14, seconds))),
+        (&period(i32::MAX), Some((14, seconds))),
+        (&with(1_000_001, &[(flags, -1)]), Some((14, seconds))),
+        (&with(1_000_001, &[(kind, 0)]), Some((14, seconds))),
+        (&with(1_000_001, &[(length, -1)]), Some((14, seconds))),
+        // After the seconds' own values.
+        (&with(1_000_001, &[(seconds, 0)]), Some((13, seconds))),
+        (&with(1_000_001, &[(seconds, 2)]), None),
+        (&with(i32::MAX, &[(seconds, 2147)]), Some((14, seconds))),
+        (&with(i32::MAX, &[(seconds, 2148)]), None),
+        (&with(i32::MAX, &[(seconds, 3600)]), None),
+        // Rate 0 with type OFF has no samples by either flag.
+        (&with(0, &[(kind, 0)]), Some((10, FRAME))),
     ]);
 }
 

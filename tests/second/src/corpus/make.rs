@@ -17,9 +17,9 @@ use std::path::Path;
 /// Files are at most so long, but for the first that `listing` does not read.
 const MOST_BYTES: usize = 2000;
 
-/// At most a third of the files is accepted, and a twelfth refused with each number, so that the rare ones are there.
+/// At most a third of the files is accepted, and a fifteenth refused with each number, so that the rare ones are there.
 const ACCEPTED_SHARE: u64 = 3;
-const REFUSED_SHARE: u64 = 12;
+const REFUSED_SHARE: u64 = 15;
 
 /// Of the questions drawn for an accepted file so many are kept, in percent; of a refused one all.
 const KEPT_PERCENT: usize = 12;

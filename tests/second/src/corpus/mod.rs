@@ -9,6 +9,9 @@ use std::fs;
 use std::io;
 use std::path::{Path, PathBuf};
 
+/// The names of a corpus' question lines; `count` and `view` may stand apart.
+const QUESTIONS: [&str; 2] = ["questions", "questions-old"];
+
 #[derive(Clone, Debug, Default, PartialEq, Eq)]
 pub struct Comparison {
     pub files: usize,
@@ -22,7 +25,9 @@ pub fn compare(folder: &Path) -> io::Result<Comparison> {
         comparison.files += 1;
         comparison.differences.extend(listing_difference(&out)?);
     }
-    compare_questions(folder, &mut comparison)?;
+    for name in QUESTIONS {
+        compare_questions(folder, name, &mut comparison)?;
+    }
     Ok(comparison)
 }
 
@@ -68,14 +73,14 @@ pub fn describe(name: &str, theirs: &str, own: &str) -> String {
     format!("{name}: no difference")
 }
 
-/// A corpus without question lines is compared by its listings alone.
-fn compare_questions(folder: &Path, comparison: &mut Comparison) -> io::Result<()> {
-    let asked = folder.join("questions.ask");
+/// The question lines of one name, NAME.ask and NAME.ans, where the corpus has them.
+fn compare_questions(folder: &Path, name: &str, comparison: &mut Comparison) -> io::Result<()> {
+    let asked = folder.join(name).with_extension("ask");
     if !asked.exists() {
         return Ok(());
     }
+    let answers = fs::read_to_string(asked.with_extension("ans"))?;
     let asked = fs::read_to_string(asked)?;
-    let answers = fs::read_to_string(folder.join("questions.ans"))?;
     let mut answers = answers.lines();
     let mut desk = Desk::new(folder);
     for line in asked.lines() {

@@ -9,7 +9,7 @@ use crate::header;
 use crate::listing;
 use crate::random::Random;
 use crate::record::{self, frames, items};
-use crate::record::{Format, Kind, HEAD};
+use crate::record::{Format, Kind, HEAD, MICROSECONDS, PERIOD_FLAG};
 
 /// How large and of what sort a file is drawn. Counts are the most of each.
 #[derive(Clone, Copy)]
@@ -71,7 +71,7 @@ impl Shape {
                 ..small
             },
             93..=95 => Shape {
-                samples: 250,
+                samples: 300,
                 recordings: (1, 2),
                 ..small
             },
@@ -306,12 +306,29 @@ fn draw_seconds(random: &mut Random) -> i32 {
 }
 
 fn draw_holding(random: &mut Random, shape: &Shape) -> Holding {
+    if random.chance(5) {
+        return draw_recorder(random);
+    }
     let seconds = draw_seconds(random);
     let count = random.between(1, shape.channels);
     let channels = (0..count)
         .map(|_| draw_channel(random, seconds, shape.samples))
         .collect();
     Holding { channels, seconds }
+}
+
+/// A recorder at 256 Hz that writes its period in whole microseconds.
+fn draw_recorder(random: &mut Random) -> Holding {
+    let channel = ChannelPlan {
+        flags: random.bits() | PERIOD_FLAG,
+        channel_type: random.between(0, 18),
+        format: random.pick(&Format::ALL),
+        rate: 3906,
+    };
+    Holding {
+        channels: vec![channel],
+        seconds: 1,
+    }
 }
 
 /// Other seconds that the inherited channels allow, or the same again.
@@ -342,7 +359,11 @@ fn draw_channel(random: &mut Random, seconds: i32, most: i32) -> ChannelPlan {
     let (rate, period) = draw_rate(random, seconds, most);
     let types = [0, 1, 17, 18, 20];
     ChannelPlan {
-        flags: flags & !1 | i32::from(period),
+        flags: if period {
+            flags | PERIOD_FLAG
+        } else {
+            flags & !PERIOD_FLAG
+        },
         channel_type: if random.chance(50) {
             random.pick(&types)
         } else {
@@ -355,21 +376,33 @@ fn draw_channel(random: &mut Random, seconds: i32, most: i32) -> ChannelPlan {
 
 /// A rate or (true) a period that gives a few samples in a frame.
 fn draw_rate(random: &mut Random, seconds: i32, most: i32) -> (i32, bool) {
-    const TRIES: usize = 6;
-    const MICROSECONDS: i64 = 1_000_000;
-    let time = i64::from(seconds) * MICROSECONDS;
-    for _ in 0..TRIES {
-        if seconds <= most && random.chance(50) {
-            return (random.between(1, most / seconds), false);
-        }
-        let samples = i64::from(random.between(1, most));
-        let period = time / samples;
-        if period * samples == time && period <= i64::from(i32::MAX) {
-            return (period as i32, true);
+    if seconds <= most && random.chance(50) {
+        (random.between(1, most / seconds), false)
+    } else {
+        (draw_period(random, seconds, most), true)
+    }
+}
+
+/// The longest period of so many samples, which may divide the time, the
+/// shortest, any between, or a common one.
+fn draw_period(random: &mut Random, seconds: i32, most: i32) -> i32 {
+    const COMMON: [i32; 5] = [3906, 7812, 300_000, 333_333, 700_000];
+    let time = seconds as u64 * MICROSECONDS;
+    let samples = random.between(1, most) as u64;
+    let longest = (time / samples).min(i32::MAX as u64) as i32;
+    let shortest = (time / (samples + 1) + 1) as i32;
+    match random.below(5) {
+        0 | 1 => longest,
+        // No period at all gives some of the large counts.
+        2 => shortest.min(longest),
+        3 if shortest < longest => random.between(shortest, longest),
+        _ => {
+            let fits = |period: &i32| (1..=most as u64).contains(&(time / *period as u64));
+            let mut common: Vec<i32> = COMMON.into_iter().filter(fits).collect();
+            common.push(longest);
+            random.pick(&common)
         }
     }
-    // Two samples always divide, and half of an hour is within 32 bits.
-    ((time / 2) as i32, true)
 }
 
 fn draw_items(random: &mut Random, shape: &Shape, kind: Kind) -> ItemsPlan {

@@ -189,7 +189,7 @@ impl FramesPlan {
 }
 
 impl ChannelPlan {
-    /// Samples in a frame of `seconds`, if there is a whole number of them.
+    /// Samples in a frame of `seconds`, if its fields allow such a frame.
     pub fn samples(&self, seconds: i32) -> Option<u64> {
         Rate::from_fields(self.flags, self.channel_type, self.rate)?.samples(seconds as u64)
     }

@@ -30,22 +30,22 @@ fields x = x .before .before
 abbrev timed-at : tie.Else2 → tie.Else1
 timed-at x = x .before .before
 
-abbrev divided-at : tie.Else3 → tie.Else2
-divided-at x = x .before .before .before
+abbrev sampled-at : tie.Else3 → tie.Else2
+sampled-at x = x .before .before .before
 
 -- what the tests say
 timed : (x : tie.Else1) → R.between 1 3600 (fields x .before .before .field .result) ≡ true
 timed x = sym (x .before .between .ensures) ∙ not-false (x .before .between .result) (x .if1 .left)
 
-divided : (x : tie.Else2) →
+sampled : (x : tie.Else2) →
     let f = fields (timed-at x) in
     let a = start f .args in
-    (ch : List R.Channel) → ChannelsStand (a .o) (now (a .file)) (a .cs) ch → R.all (R.divides (f .before .before .field .result)) ch ≡ true
-divided x ch st = sym (x .before .all-divide .ensures ch st) ∙ not-false (x .before .all-divide .result) (x .if2 .left)
+    (ch : List R.Channel) → ChannelsStand (a .o) (now (a .file)) (a .cs) ch → R.all (R.sampled (f .before .before .field .result)) ch ≡ true
+sampled x ch st = sym (x .before .all-sampled .ensures ch st) ∙ not-false (x .before .all-sampled .result) (x .if2 .left)
 
 filled : (x : tie.Else3) →
     let bytes = x .before .before .sample-bytes .result in
-    let size = fields (timed-at (divided-at x)) .before .field2 .result in
+    let size = fields (timed-at (sampled-at x)) .before .field2 .result in
     R.between (24 + bytes) (24 + bytes + 127) size && ltb size R.limit ≡ true
 filled x = sym (x .before .size-ok .ensures) ∙ not-false (x .before .size-ok .result) (x .if3 .left)
 
@@ -56,13 +56,16 @@ returns c =
     stops-seconds (a .o) (now (a .file)) (a .cs) (a .at) (now (a .s)) (a .total) (a .multiplier) (f .before .before .field .ensures .0) (f .before .field2 .ensures .0) (f .field3 .ensures .0)
     (sym (c .before .between .ensures) ∙ not-true (c .before .between .result) (c .if1 .taken))
 
+all-sampled-requires : tie.Need-all-sampled-requires
+all-sampled-requires c κs = let h = between-in 1 3600 _ (timed c) in search needs
+
 returns-2 : tie.Need-returns-2
 returns-2 c =
     let x : tie.Else1 = c .before .before in
     let f = fields x in
     let a = start f .args in
     stops-periods (a .o) (now (a .file)) (a .cs) (a .at) (now (a .s)) (a .total) (a .multiplier) (f .before .before .field .ensures .0) (f .before .field2 .ensures .0) (f .field3 .ensures .0) (timed x)
-    (λ ch st. sym (c .before .all-divide .ensures ch st) ∙ not-true (c .before .all-divide .result) (c .if2 .taken))
+    (λ ch st. sym (c .before .all-sampled .ensures ch st) ∙ not-true (c .before .all-sampled .result) (c .if2 .taken))
 
 sample-bytes-requires : tie.Need-sample-bytes-requires
 sample-bytes-requires c κs = let h = between-in 1 3600 _ (timed (timed-at c)) in search needs
@@ -73,18 +76,18 @@ returns-3 c =
     let x = timed-at y in
     let f = fields x in
     let a = start f .args in
-    stops-size (a .o) (now (a .file)) (a .cs) (a .at) (now (a .s)) (a .total) (a .multiplier) (f .before .before .field .ensures .0) (f .before .field2 .ensures .0) (f .field3 .ensures .0) (timed x) (divided y)
+    stops-size (a .o) (now (a .file)) (a .cs) (a .at) (now (a .s)) (a .total) (a .multiplier) (f .before .before .field .ensures .0) (f .before .field2 .ensures .0) (f .field3 .ensures .0) (timed x) (sampled y)
     (λ ch st. c .before .before .sample-bytes .ensures ch (st .count) (st .kept))
     (sym (c .before .size-ok .ensures) ∙ not-true (c .before .size-ok .result) (c .if3 .taken))
 
 returns-4 : tie.Need-returns-4
 returns-4 c =
     let z : tie.Else3 = c .before in
-    let y = divided-at z in
+    let y = sampled-at z in
     let x = timed-at y in
     let f = fields x in
     let a = start f .args in
-    stops-count (a .o) (now (a .file)) (a .cs) (a .at) (now (a .s)) (a .total) (a .multiplier) (f .before .before .field .ensures .0) (f .before .field2 .ensures .0) (f .field3 .ensures .0) (timed x) (divided y)
+    stops-count (a .o) (now (a .file)) (a .cs) (a .at) (now (a .s)) (a .total) (a .multiplier) (f .before .before .field .ensures .0) (f .before .field2 .ensures .0) (f .field3 .ensures .0) (timed x) (sampled y)
     (λ ch st. z .before .before .sample-bytes .ensures ch (st .count) (st .kept)) (filled z) (c .if4 .taken)
 
 room-ok-requires : tie.Need-room-ok-requires
@@ -96,11 +99,11 @@ returns-5 : tie.Need-returns-5
 returns-5 c =
     let w : tie.Else4 = c .before .before in
     let z : tie.Else3 = w .before in
-    let y = divided-at z in
+    let y = sampled-at z in
     let x = timed-at y in
     let f = fields x in
     let a = start f .args in
-    stops-room (a .o) (now (a .file)) (a .cs) (a .at) (now (a .s)) (a .total) (a .multiplier) (f .before .before .field .ensures .0) (f .before .field2 .ensures .0) (f .field3 .ensures .0) (timed x) (divided y)
+    stops-room (a .o) (now (a .file)) (a .cs) (a .at) (now (a .s)) (a .total) (a .multiplier) (f .before .before .field .ensures .0) (f .before .field2 .ensures .0) (f .field3 .ensures .0) (timed x) (sampled y)
     (λ ch st. z .before .before .sample-bytes .ensures ch (st .count) (st .kept)) (filled z) (w .if4 .left)
     (sym (c .before .room-ok .ensures) ∙ not-true (c .before .room-ok .result) (c .if5 .taken))
 
@@ -111,11 +114,11 @@ returns-6 : tie.Need-returns-6
 returns-6 c =
     let w : tie.Else4 = c .before .before in
     let z : tie.Else3 = w .before in
-    let y = divided-at z in
+    let y = sampled-at z in
     let x = timed-at y in
     let f = fields x in
     let a = start f .args in
-    shape-holds (a .o) (now (a .file)) (a .cs) (a .at) (now (a .s)) (a .total) (a .multiplier) (f .before .before .field .ensures .0) (f .before .field2 .ensures .0) (f .field3 .ensures .0) (timed x) (divided y)
+    shape-holds (a .o) (now (a .file)) (a .cs) (a .at) (now (a .s)) (a .total) (a .multiplier) (f .before .before .field .ensures .0) (f .before .field2 .ensures .0) (f .field3 .ensures .0) (timed x) (sampled y)
     (λ ch st. z .before .before .sample-bytes .ensures ch (st .count) (st .kept)) (filled z) (w .if4 .left)
     (sym (c .before .room-ok .ensures) ∙ not-false (c .before .room-ok .result) (c .if5 .left))
 
@@ -130,7 +133,7 @@ read-shape-spec =
     (λ c κs. search needs)
     (λ c. search needs)
     returns
-    (λ c κs. search needs)
+    all-sampled-requires
     (λ c. search needs)
     returns-2
     sample-bytes-requires

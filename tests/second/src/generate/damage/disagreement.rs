@@ -3,16 +3,19 @@
 use super::padding::resize_frames;
 use super::{any_recording, small_plan};
 use crate::generate::draw::{self, Shape, SMALL};
-use crate::generate::plan::{FilePlan, RecordingPlan};
+use crate::generate::plan::{ChannelPlan, FilePlan, RecordingPlan};
 use crate::generate::sheet::{write, Sheet};
 use crate::random::Random;
-use crate::record::{frame, frames, items, Kind};
+use crate::record::{frame, frames, items, Kind, MICROSECONDS, PERIOD_FLAG};
 
 /// Most later recordings have no 120 of their own.
 const INHERITING: Shape = Shape {
     inherits: 80,
     ..SMALL
 };
+
+/// In microseconds, as a period is.
+const SECOND: i32 = MICROSECONDS as i32;
 
 /// The item count and the bytes of the items.
 pub fn items_disagree(random: &mut Random) -> Sheet {
@@ -92,28 +95,82 @@ pub fn frames_disagree(random: &mut Random) -> Sheet {
     write(random, &plan)
 }
 
-/// The seconds of a frame, also of a recording that inherits its channels.
+/// The seconds of a frame, also of a recording that inherits its channels:
+/// fewer than the longest period, or any.
 pub fn seconds_do_not_fit(random: &mut Random) -> Sheet {
     let mut plan = draw::draw_shaped(random, &INHERITING);
-    let recording = any_recording(random, &mut plan);
-    if let Some(block) = recording.frames() {
-        block.seconds = random.between(1, frames::MOST_SECONDS);
+    let index = random.below(plan.recordings.len());
+    let periods = held(&mut plan.recordings[..=index])
+        .iter()
+        .filter(|channel| channel.flags & PERIOD_FLAG != 0)
+        .map(|channel| channel.rate);
+    let too_few = periods.max().map_or(0, |longest| (longest - 1) / SECOND);
+    if let Some(block) = plan.recordings[index].frames() {
+        block.seconds = if too_few > 0 && random.chance(60) {
+            random.between(1, too_few)
+        } else {
+            random.between(1, frames::MOST_SECONDS)
+        };
     }
     write(random, &plan)
 }
 
-/// A channel's period.
-pub fn period_does_not_divide(random: &mut Random) -> Sheet {
-    const PERIODS: [i32; 6] = [3, 7, 1_000_003, 3_600_000, 2_000_000_011, i32::MAX];
+/// A channel's period, about the time of a frame or any: one sample, none, or
+/// other ones than the frames have. An OFF channel is no exception.
+pub fn another_period(random: &mut Random) -> Sheet {
+    const PERIODS: [i32; 8] = [
+        3,
+        7,
+        3906,
+        700_000,
+        1_000_003,
+        3_600_000,
+        2_000_000_011,
+        i32::MAX,
+    ];
     let mut plan = draw::draw_shaped(random, &INHERITING);
-    let recording = any_recording(random, &mut plan);
-    if let Some(list) = recording.channels() {
-        let index = random.below(list.channels.len());
-        let channel = &mut list.channels[index];
-        channel.flags |= 1;
-        channel.rate = random.pick(&PERIODS);
+    let index = random.below(plan.recordings.len());
+    let seconds = plan.recordings[index]
+        .frames()
+        .map_or(1, |block| block.seconds);
+    let channels = held(&mut plan.recordings[..=index]);
+    let any_channel = random.below(channels.len());
+    let channel = &mut channels[any_channel];
+    channel.flags |= PERIOD_FLAG;
+    channel.rate = if random.chance(50) {
+        seconds
+            .saturating_mul(SECOND)
+            .saturating_add(random.between(-1, 2))
+    } else {
+        random.pick(&PERIODS)
+    };
+    if random.chance(30) {
+        channel.channel_type = 0;
     }
     write(random, &plan)
+}
+
+/// One channel's samples rounded up, in frames that have the room.
+pub fn a_sample_too_many(random: &mut Random) -> Sheet {
+    let mut plan = small_plan(random);
+    let recording = any_recording(random, &mut plan);
+    if let Some(block) = recording.frames() {
+        let index = random.below(block.samples.len());
+        block.samples[index].1 += 1;
+        resize_frames(block, block.frame_content());
+    }
+    recording.settle();
+    write(random, &plan)
+}
+
+/// The channels that hold for the last of the recordings.
+fn held(recordings: &mut [RecordingPlan]) -> &mut [ChannelPlan] {
+    let mut lists = recordings
+        .iter_mut()
+        .rev()
+        .filter_map(RecordingPlan::channels);
+    let nearest = lists.next().expect("the first recording has its own 120");
+    &mut nearest.channels
 }
 
 fn settle_all(plan: &mut FilePlan) {

@@ -1,4 +1,4 @@
--- `signals::frames::all_divide` meets its contract. The loop's invariant: the channels up to i are tested, and stand before byte p.
+-- `signals::frames::all_sampled` meets its contract. The loop's invariant: the channels up to i are tested, and stand before byte p.
 -- The measure is how many are left. x: behind the two fields. Assumes nothing.
 use mathlib.Core.Path.{_≡_, refl, sym, _∙_}
 use mathlib.Core.List.{List}
@@ -11,14 +11,14 @@ use Rattle.words.specs.declared.Order.{Order}
 use Rattle.rules.specs.Rules as R
 use Rattle.rules.specs.declared.Channels.{Channels}
 use Rattle.records.specs.Says.{ChannelsStand}
-use Rattle.signals.proofs.Divided.{Divided, divided-none, divided-stop, divided-more}
-use Rattle.signals.proofs.frames.all_divide.Statement.{statement}
-use Rattle.signals.proofs.frames.all_divide.Tie as tie
+use Rattle.signals.proofs.Sampled.{Sampled, sampled-none, sampled-stop, sampled-more}
+use Rattle.signals.proofs.frames.all_sampled.Statement.{statement}
+use Rattle.signals.proofs.frames.all_sampled.Tie as tie
 
 record Going (o : Order) (file : List ℕ) (cs : Channels) (t p i : ℕ) : Type 0 where
   few : i ≤ cs .count
   place : p ≡ cs .subs + 256 * i
-  left : (ch : List R.Channel) → ChannelsStand o file cs ch → Divided o file p t (cs .count - i) ch
+  left : (ch : List R.Channel) → ChannelsStand o file cs ch → Sampled o file p t (cs .count - i) ch
 
 abbrev Inv-loop : tie.InvT-loop
 Inv-loop o file t m p₀ i₀ p i = Going o file (record { subs = p₀; count = m }) t p i
@@ -34,32 +34,32 @@ looping x = x .before .before
 
 returns : tie.Need-returns Inv-loop μ-loop
 returns c =
-    let x : tie.After-divides Inv-loop μ-loop = c .before in
+    let x : tie.After-sampled Inv-loop μ-loop = c .before in
     let w = looping (x .before .before) in
-    λ ch st. divided-stop (w .loop .inv .left ch st)
-    (λ d f r. x .divides .ensures d (f ∙ sym (x .before .before .number4 .ensures .0)) (r ∙ sym (x .before .number42 .ensures .0)))
+    λ ch st. sampled-stop (w .loop .inv .left ch st)
+    (λ d f r. x .sampled .ensures d (f ∙ sym (x .before .before .number4 .ensures .0)) (r ∙ sym (x .before .number42 .ensures .0)))
     (omega arith)
-    (not-true (x .divides .result) (c .if1 .taken))
+    (not-true (x .sampled .result) (c .if1 .taken))
 
 loop-again : tie.Need-loop-again Inv-loop μ-loop
 loop-again c =
-    let x : tie.After-divides Inv-loop μ-loop = c .before in
+    let x : tie.After-sampled Inv-loop μ-loop = c .before in
     let w = looping (x .before .before) in
     record {
       few = omega arith;
       place = omega (arith, w .loop .inv .place);
-      left = λ ch st. divided-more (w .loop .inv .left ch st)
-          (λ d f r. x .divides .ensures d (f ∙ sym (x .before .before .number4 .ensures .0)) (r ∙ sym (x .before .number42 .ensures .0)))
+      left = λ ch st. sampled-more (w .loop .inv .left ch st)
+          (λ d f r. x .sampled .ensures d (f ∙ sym (x .before .before .number4 .ensures .0)) (r ∙ sym (x .before .number42 .ensures .0)))
           _
           (omega arith)
-          (not-false (x .divides .result) (c .if1 .left));
+          (not-false (x .sampled .result) (c .if1 .left));
     }
 
 returns-2 : tie.Need-returns-2 Inv-loop μ-loop
-returns-2 c = let l = c .loop-test .left in λ ch st. divided-none (c .before .loop .inv .left ch st) (omega arith)
+returns-2 c = let l = c .loop-test .left in λ ch st. sampled-none (c .before .loop .inv .left ch st) (omega arith)
 
-pub all-divide-spec : {M : Type 1} → statement M
-all-divide-spec =
+pub all-sampled-spec : {M : Type 1} → statement M
+all-sampled-spec =
     tie.close
     (tie.spec
     Inv-loop

@@ -1,0 +1,4 @@
+//! The comparison of the proved library with the second program, file by file, for the program `agree` and for tests.
+
+mod buffers;
+pub mod files;
