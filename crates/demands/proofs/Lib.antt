@@ -5,3 +5,4 @@ pub mod Samples
 pub mod Telling
 pub mod Demands
 pub mod Floats
+pub mod Periods
