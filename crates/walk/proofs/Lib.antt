@@ -1,3 +1,4 @@
+pub mod Apart
 pub mod Laid
 pub mod Laws
 pub mod Seen

@@ -1,7 +1,7 @@
 -- What a walk comes to over a part of the file, for code that reads by position: no events, and no test of room.
 -- `seen` says when that is what `run` gives; `stays` is the room, shown once for each walk.
 -- Assumes nothing.
-use mathlib.Core.Path.{_≡_, refl, ap, _∙_}
+use mathlib.Core.Path.{_≡_, refl, sym, ap, _∙_}
 use mathlib.Core.Bool.{Bool, true, false, _&&_}
 use mathlib.Core.List.{List, [], _∷_}
 use Prim.Native.Nat.{ℕ, zero, suc, _+_, _-_, _≤_}
@@ -15,6 +15,7 @@ use Rattle.words.specs.Numbers.{wordIn, bytesAt, numberAt}
 use Rattle.words.specs.declared.Order.{Order}
 use Rattle.walk.specs.See.{Verdict, stops, goes, verdict, gate, see, Goes, over, ends, Stays, Holds, Yields, onward, numbered}
 use Rattle.walk.specs.Walk.{Kind, laid, Event, numeral, piece, blank, row, size, Walk, give, refuse, check, number, read, skip, list, Outcome, refused, passed, _>>_, logged, run, _>>=_, require}
+use Rattle.walk.proofs.Apart.{false-true, stops-goes}
 use Rattle.walk.proofs.Laid.{length-laid}
 use Rattle.walk.proofs.Laws.{run-read, run-number, size-cons}
 
@@ -31,11 +32,11 @@ module _ {A B : Type 0} where
 pub stopped : {A B : Type 0} (f : A → B) (v : Verdict A) {n p : ℕ} → over f v ≡ stops n p → v ≡ stops n p
 unfolding over
 stopped f (stops n p) h = cc
-stopped f (goes a e) h = absurd (let z : _≡_ {A = ℕ} 0 1 = cc in omega arith)
+stopped f (goes a e) h = stops-goes (sym h)
 
 pub went : {A B : Type 0} (f : A → B) (v : Verdict A) {b : B} {x : ℕ} → over f v ≡ goes b x → Goes v (λ a e. (f a ≡ b) × (e ≡ x))
 unfolding over
-went f (stops n p) h = absurd (let z : _≡_ {A = ℕ} 0 1 = cc in omega arith)
+went f (stops n p) h = stops-goes h
 went f (goes a e) h = record { value = a; end = e; is = refl; kept = (cc, cc) }
 
 pub gate-true : {A : Type 0} (v : Verdict A) (n p : ℕ) → gate true v n p ≡ v
@@ -172,9 +173,6 @@ part-bytes s a m k n h = rw (take-drop-take k m n (drop a s) h, drop-drop k a s)
 pub length-bytesAt : (o : Order) (b : ℕ) (s : List ℕ) (k : Kind) (n at : ℕ) → at + n ≤ b + length s → b ≤ at → length (laid o k (take n (drop (at - b) s))) ≡ n
 length-bytesAt o b s k n at h g = length-laid o k (take n (drop (at - b) s)) ∙ length-take-le n (drop (at - b) s) (rw length-drop (omega arith))
 
-false-true : false ≡ true → ⊥
-false-true h = let z : _≡_ {A = ℕ} 0 1 = cc in omega arith
-
 -- both parts of a test
 pub and-left : (x y : Bool) → x && y ≡ true → x ≡ true
 and-left true y h = refl
@@ -182,7 +180,7 @@ and-left false y h = h
 
 pub and-right : (x y : Bool) → x && y ≡ true → y ≡ true
 and-right true y h = h
-and-right false y h = absurd (false-true h)
+and-right false y h = false-true h
 
 -- what is said under a test that passes, and what follows from it
 pub passes : (c : Bool) {X : Type 0} → when c X → X
@@ -227,7 +225,7 @@ module _ {A : Type 0} where
     -- and what holds of a refusal
     pub stays-stops : (w : Walk A) (at : ℕ) (Q : A → ℕ → Type 0) {n p : ℕ} → b ≤ at → at ≤ L → Stays L at w Q → see o b s at w ≡ stops n p → (1 ≤ n) × (n ≤ 16) × (p ≤ L)
     unfolding see gate bytesAt
-    stays-stops (give x) at Q g l h e = absurd (let z : _≡_ {A = ℕ} 0 1 = cc in omega arith)
+    stays-stops (give x) at Q g l h e = stops-goes (sym e)
     stays-stops (refuse m q) at Q g l h e = stopped-at m (at - q) L _ h (omega arith) e
     stays-stops (check true m q w) at Q g l h e = stays-stops w at Q g l (passes (numbered m) h refl) e
     stays-stops (check false m q w) at Q g l h e = stopped-at m (at - q) L _ h (omega arith) e
@@ -375,5 +373,5 @@ module _ {A B : Type 0} (o : Order) (b : ℕ) (s : List ℕ) where
 -- a step whose answer does not matter for what follows: only where it ends
 pub then-skip : {A B : Type 0} (v : Verdict A) (k : A → ℕ → Verdict B) (e : ℕ) (r : Verdict (Unit {0})) → ends v ≡ goes tt e → ((a : A) → ends (k a e) ≡ r) → ends (onward v k) ≡ r
 unfolding over
-then-skip (stops n p) k e r h g = absurd (let z : _≡_ {A = ℕ} 0 1 = cc in omega arith)
+then-skip (stops n p) k e r h g = stops-goes h
 then-skip (goes a x) k e r h g = let i : x ≡ e = cc in rw i (g a)

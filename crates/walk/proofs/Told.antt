@@ -12,6 +12,7 @@ use Rattle.words.specs.declared.Order.{Order}
 use Rattle.walk.specs.See.{goes, gate, see, Stays, numbered}
 use Rattle.walk.specs.Tell.{tell}
 use Rattle.walk.specs.Walk.{laid, Row, Walk, give, refuse, check, number, read, skip, list, _>>_, _>>=_}
+use Rattle.walk.proofs.Apart.{stops-goes}
 use Rattle.walk.proofs.Seen.{passes, part-bytes, length-bytesAt}
 
 module _ {A B : Type 0} where
@@ -22,9 +23,9 @@ module _ {A B : Type 0} where
       let i : x ≡ a = cc in
       let j : at ≡ e = cc in
       rw (i, j)
-  tell-bind o b s at (refuse n p) k h = absurd (let z : _≡_ {A = ℕ} 0 1 = cc in omega arith)
+  tell-bind o b s at (refuse n p) k h = stops-goes h
   tell-bind o b s at (check true n p w) k h = tell-bind o b s at w k h
-  tell-bind o b s at (check false n p w) k h = absurd (let z : _≡_ {A = ℕ} 0 1 = cc in omega arith)
+  tell-bind o b s at (check false n p w) k h = stops-goes h
   tell-bind o b s at (number n f) k h = tell-bind o b s (at + n) (f (numberAt o n s (at - b))) k h
   tell-bind o b s at (read κ n f) k h = tell-bind o b s (at + n) (f (laid o κ (bytesAt n s (at - b)))) k h
   tell-bind o b s at (skip n w) k h = tell-bind o b s (at + n) w k h

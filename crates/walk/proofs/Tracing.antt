@@ -15,6 +15,7 @@ use Rattle.walk.specs.See.{goes, gate, see, verdict, Stays, numbered}
 use Rattle.walk.specs.Tell.{tell}
 use Rattle.walk.specs.Trace.{trace, written}
 use Rattle.walk.specs.Walk.{Kind, laid, Event, numeral, piece, blank, row, rows, Row, render, cleared, size, Walk, give, refuse, check, number, read, skip, list, Outcome, refused, passed, _>>_, logged, run, _>>=_}
+use Rattle.walk.proofs.Apart.{stops-goes, refused-passed}
 use Rattle.walk.proofs.Laws.{run-read, run-number, length-render, size-cleared}
 use Rattle.walk.proofs.Seen.{passes, part-bytes, length-bytesAt, seen}
 
@@ -26,9 +27,9 @@ module _ {A B : Type 0} where
       let i : x ≡ a = cc in
       let j : at ≡ e = cc in
       rw (i, j)
-  trace-bind o b s at (refuse n p) k h = absurd (let z : _≡_ {A = ℕ} 0 1 = cc in omega arith)
+  trace-bind o b s at (refuse n p) k h = stops-goes h
   trace-bind o b s at (check true n p w) k h = trace-bind o b s at w k h
-  trace-bind o b s at (check false n p w) k h = absurd (let z : _≡_ {A = ℕ} 0 1 = cc in omega arith)
+  trace-bind o b s at (check false n p w) k h = stops-goes h
   trace-bind o b s at (number n f) k h = ap (λ (t : List Event). numeral n (numberAt o n s (at - b)) ∷ t) (trace-bind o b s (at + n) (f (numberAt o n s (at - b))) k h)
   trace-bind o b s at (read κ n f) k h = ap (λ (t : List Event). piece κ (laid o κ (bytesAt n s (at - b))) ∷ t) (trace-bind o b s (at + n) (f (laid o κ (bytesAt n s (at - b)))) k h)
   trace-bind o b s at (skip n w) k h = ap (λ (t : List Event). blank (bytesAt n s (at - b)) ∷ t) (trace-bind o b s (at + n) w k h)
@@ -57,7 +58,7 @@ module _ {A : Type 0} where
     trace-part (give x) at Q g h v = refl
     trace-part (refuse n p) at Q g h v = refl
     trace-part (check true n p w) at Q g h v = trace-part w at Q g (passes (numbered n) h refl) v
-    trace-part (check false n p w) at Q g h v = absurd (let z : _≡_ {A = ℕ} 0 1 = cc in omega arith)
+    trace-part (check false n p w) at Q g h v = stops-goes v
     trace-part (number n f) at Q g h v =
         let d : a + (at - c) ≡ at - b = omega arith in
         rw (part-bytes s a m (at - c) n (omega (arith, h .0)), d) (ap (λ (t : List Event). numeral n (numberAt o n s (at - b)) ∷ t) (trace-part (f (numberAt o n s (at - b))) (at + n) Q (omega arith) (h .1 _) v))
@@ -80,7 +81,7 @@ module _ {A : Type 0} where
   -- a run that passed, behind one event
   pub by-logged : {X : Type 0} (v : Event) (y : Outcome A) {x : A} {r : List ℕ} {t : List Event} → logged (v ∷ []) y ≡ passed x r t → ((u : List Event) → y ≡ passed x r u → t ≡ v ∷ u → X) → X
   unfolding logged
-  by-logged v (refused n p) h k = absurd (let z : _≡_ {A = ℕ} 0 1 = cc in omega arith)
+  by-logged v (refused n p) h k = refused-passed h
   by-logged v (passed x r u) h k = k u (cc) (cc)
 
   module _ (o : Order) (b : ℕ) (s : List ℕ) (L : ℕ) (fit : L ≤ b + length s) where
@@ -88,9 +89,9 @@ module _ {A : Type 0} where
     pub traces : (w : Walk A) (at : ℕ) (Q : A → ℕ → Type 0) {x : A} {r : List ℕ} {t : List Event} → b ≤ at → Stays L at w Q → run o at (drop (at - b) s) w ≡ passed x r t → t ≡ trace o b s at w
     unfolding trace run numberAt bytesAt
     traces (give a) at Q {x} {r} {t} g h q = let i : t ≡ [] = cc in i
-    traces (refuse n p) at Q g h q = absurd (let z : _≡_ {A = ℕ} 0 1 = cc in omega arith)
+    traces (refuse n p) at Q g h q = refused-passed q
     traces (check true n p w) at Q g h q = traces w at Q g (passes (numbered n) h refl) q
-    traces (check false n p w) at Q g h q = absurd (let z : _≡_ {A = ℕ} 0 1 = cc in omega arith)
+    traces (check false n p w) at Q g h q = refused-passed q
     traces (number n f) at Q g h q =
         let l : n ≤ length (drop (at - b) s) = rw length-drop (omega (arith, h .0)) in
         let d : at - b + n ≡ at + n - b = omega arith in
@@ -113,9 +114,9 @@ module _ {A : Type 0} where
     rows-trace : (w : Walk A) (at : ℕ) (Q : A → ℕ → Type 0) {x : A} {e : ℕ} → b ≤ at → Stays L at w Q → see o b s at w ≡ goes x e → rows at (trace o b s at w) ≡ tell o b s at w
     unfolding trace tell see gate rows bytesAt numberAt
     rows-trace (give a) at Q g h q = refl
-    rows-trace (refuse n p) at Q g h q = absurd (let z : _≡_ {A = ℕ} 0 1 = cc in omega arith)
+    rows-trace (refuse n p) at Q g h q = stops-goes q
     rows-trace (check true n p w) at Q g h q = rows-trace w at Q g (passes (numbered n) h refl) q
-    rows-trace (check false n p w) at Q g h q = absurd (let z : _≡_ {A = ℕ} 0 1 = cc in omega arith)
+    rows-trace (check false n p w) at Q g h q = stops-goes q
     rows-trace (number n f) at Q g h q = rows-trace (f (numberAt o n s (at - b))) (at + n) Q (omega arith) (h .1 _) q
     rows-trace (read k n f) at Q g h q = let e = length-bytesAt o b s k n at (omega (arith, h .0)) g in rw (rows, e) (rows-trace (f (laid o k (bytesAt n s (at - b)))) (at + n) Q (omega arith) (h .1 _ e) q)
     rows-trace (skip n w) at Q g h q =
@@ -131,9 +132,9 @@ module _ {A : Type 0} where
     pub size-trace : (w : Walk A) (at : ℕ) (Q : A → ℕ → Type 0) {x : A} {e : ℕ} → b ≤ at → Stays L at w Q → see o b s at w ≡ goes x e → at + size (trace o b s at w) ≡ e
     unfolding trace see gate size bytesAt numberAt
     size-trace (give a) at Q {x} {e} g h q = let j : at ≡ e = cc in omega arith
-    size-trace (refuse n p) at Q g h q = absurd (let z : _≡_ {A = ℕ} 0 1 = cc in omega arith)
+    size-trace (refuse n p) at Q g h q = stops-goes q
     size-trace (check true n p w) at Q g h q = size-trace w at Q g (passes (numbered n) h refl) q
-    size-trace (check false n p w) at Q g h q = absurd (let z : _≡_ {A = ℕ} 0 1 = cc in omega arith)
+    size-trace (check false n p w) at Q g h q = stops-goes q
     size-trace (number n f) at Q g h q = let i = size-trace (f (numberAt o n s (at - b))) (at + n) Q (omega arith) (h .1 _) q in omega (arith, i)
     size-trace (read k n f) at Q g h q =
         let e = length-bytesAt o b s k n at (omega (arith, h .0)) g in

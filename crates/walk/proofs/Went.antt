@@ -4,10 +4,10 @@ use mathlib.Core.Path.{_≡_, refl, sym, _∙_}
 use mathlib.Core.Bool.{Bool, true, false}
 use mathlib.Core.List.{List}
 use Prim.Native.Nat.{ℕ}
-use native.Mathlib.Omega.{arith}
 use Rattle.words.specs.declared.Order.{Order}
 use Rattle.walk.specs.See.{Verdict, stops, goes, gate, see, onward, Goes}
 use Rattle.walk.specs.Walk.{Walk, _>>=_, _>>_}
+use Rattle.walk.proofs.Apart.{stops-goes}
 use Rattle.walk.proofs.Seen.{see-bind}
 
 -- one verdict: the same answer, at the same place
@@ -18,11 +18,11 @@ goes-same h = (cc, cc)
 pub gate-went : {A : Type 0} (c : Bool) (v : Verdict A) (n p : ℕ) {a : A} {e : ℕ} → gate c v n p ≡ goes a e → (c ≡ true) × (v ≡ goes a e)
 unfolding gate
 gate-went true v n p h = (refl, h)
-gate-went false v n p h = absurd (let z : _≡_ {A = ℕ} 0 1 = cc in omega arith)
+gate-went false v n p h = stops-goes h
 
 -- one verdict after the other: the first went on
 pub onward-went : {A B : Type 0} (v : Verdict A) (k : A → ℕ → Verdict B) {x : B} {e : ℕ} → onward v k ≡ goes x e → Goes v (λ a m. k a m ≡ goes x e)
-onward-went (stops n p) k h = absurd (let z : _≡_ {A = ℕ} 0 1 = cc in omega arith)
+onward-went (stops n p) k h = stops-goes h
 onward-went (goes a m) k h = record { value = a; end = m; is = refl; kept = h }
 
 -- and one walk after the other
