@@ -10,6 +10,7 @@ use native.Mathlib.Decide.{ℕ-discrete}
 use lib.Dec.{T, leb, eqb, eqb→eq, leb→le}
 use lib.ListN.{getD}
 use Rattle.walk.specs.Walk.{pick}
+use Rattle.walk.proofs.Apart.{false-true}
 use Rattle.rules.specs.Rules.{monthDays, between, dated}
 
 -- 31 and 30 by turns, anew every seven months
@@ -49,7 +50,7 @@ months m l d =
 -- a month that passed its test is at most 12
 both : (a b : Bool) → (a && b) ≡ true → T b
 both true b e = subst T (sym e) tt
-both false b e = absurd (subst T (sym e) tt)
+both false b e = false-true e
 
 pub dated-most : (y high n : ℕ) → dated y high n ≡ true → n ≤ high
 unfolding dated between

@@ -14,6 +14,7 @@ use lib.ListN.{length, getD, take, drop}
 use Rattle.words.specs.Numbers.{Bytes}
 use Rattle.walk.specs.Plays.{Plays}
 use Rattle.walk.specs.Walk.{Event, numeral, piece, blank, row, Row, rows, size, render, run, Walk, passed, give, refuse, _>>=_, _>>_, number}
+use Rattle.walk.proofs.Apart.{false-true}
 use Rattle.walk.proofs.Laws.{by-parts, by-split, by-check, checked, taken, plays-gave, traced}
 use Rattle.rules.specs.Rules.{between, padding, padded, makerCode, zeros, delimiter, basicBody, Head, head, span, admit, Basic, basic, Channel, channel, channels, Item, item, itemBytes, items, patientCode, eventCode, Frame, frame, frames, numberList, width, samplesIn, sampleBytes, FileHeader, Next, next, Part, part, Held, heldChannels, heldPatient, Placed, recording, recordings, File, fileHeader, file, orderOf, judge, signals}
 use Rattle.rules.specs.Places.{bytesBefore}
@@ -91,7 +92,7 @@ module _ {A : Type 0} (body : ℕ → Head → Walk A) (code fuel : ℕ) (held :
       absent (some a) {t} {x = x₁} p =
           let y = plays-gave p in (
             ap (λ (z : ℕ). z + x₁ .next .room) (gave-nothing p) ∙ zero-add (x₁ .next .room) ∙ ap (λ (x : Part A). x .next .room) y,
-            λ o. let z : _≡_ {A = ℕ} 0 1 = cc (ap (λ (x : Part A). x .own) y) in omega arith,
+            λ o. false-true (sym (ap (λ (x : Part A). x .own) y) ∙ o),
           )
 
   pub record PartAt (t : List Event) (x : Part A) : Type 0 where

@@ -3,7 +3,7 @@
 use mathlib.Core.Path.{_≡_, refl, sym, ap, _∙_}
 use mathlib.Core.Bool.{Bool, true, false}
 use mathlib.Core.List.{List, [], _∷_}
-use mathlib.Core.Option.{Option, none, some}
+use mathlib.Core.Option.{Option, some}
 use Prim.Native.Nat.{ℕ, _+_, _*_, _-_, _/_, _%_, _≤_, _<_}
 use native.Mathlib.Omega.{arith}
 use lib.Dec.{leb, ltb, eqb}
@@ -11,6 +11,7 @@ use borrow.Author.Tests.{leb-true, ltb-true, ltb-false, eqb-true}
 use lib.ListN.{length, getD, replicate}
 use Rattle.walk.specs.Plays.{Plays}
 use Rattle.walk.specs.Walk.{Letter, Text, Event, piece, _>>=_, _>>_}
+use Rattle.walk.proofs.Apart.{false-true}
 use Rattle.walk.proofs.Laws.{traced}
 use Rattle.rules.specs.Canonical.{digits}
 use Rattle.rules.specs.Rules.{between, sameBytes, identifier, version, form, allSpaces, isDigit, decimal, countOf, countFits, countIs, Heading, FileHeader, fileHeader}
@@ -33,8 +34,8 @@ pub record HeaderChosen (t : List Event) (f : FileHeader) : Type 0 where
 same-is : (a b : List ℕ) → sameBytes a b ≡ true → a ≡ b
 unfolding sameBytes
 same-is [] [] h = refl
-same-is [] (y ∷ b) h = absurd (let z : _≡_ {A = ℕ} 0 1 = cc in omega arith)
-same-is (x ∷ a) [] h = absurd (let z : _≡_ {A = ℕ} 0 1 = cc in omega arith)
+same-is [] (y ∷ b) h = false-true h
+same-is (x ∷ a) [] h = false-true h
 same-is (x ∷ a) (y ∷ b) h = let k = and-true (eqb x y) (sameBytes a b) h in λ i. eqb-true x y (k .0) i ∷ same-is a b (k .1) i
 
 one-is : (a : List ℕ) → length a ≡ 1 → a ≡ getD a 0 0 ∷ []
@@ -75,9 +76,6 @@ header-chosen n p =
 
 -- The digits
 
-no-count : countFits none ≡ true → ⊥
-no-count h = let z : _≡_ {A = ℕ} 0 1 = cc in omega arith
-
 digit-is : (b : ℕ) → isDigit b ≡ true → (48 ≤ b) × (b ≤ 57)
 unfolding between
 digit-is b h = let k = and-true (leb 48 b) (leb b 57) h in (leb-true 48 b (k .0), leb-true b 57 (k .1))
@@ -89,7 +87,7 @@ begins b bs h = go (isDigit b) refl
   where
     go : (x : Bool) → isDigit b ≡ x → (48 ≤ b) × (b ≤ 57) × (countOf (b ∷ bs) ≡ decimal (10 * 0 + (b - 48)) bs)
     go true e = let k = digit-is b e in (k .0, k .1, rw (countOf, e, decimal, e))
-    go false e = absurd (no-count (rw (countOf, e) at h))
+    go false e = false-true (rw (countOf, e) at h)
 
 -- and goes on with another, or there are only spaces
 goes-on : {P : Type 0} (v b : ℕ) (bs : List ℕ) → countFits (decimal v (b ∷ bs)) ≡ true →
@@ -100,7 +98,7 @@ goes-on {P} v b bs h f g = go (isDigit b) (allSpaces (b ∷ bs)) refl refl
     go : (x y : Bool) → isDigit b ≡ x → allSpaces (b ∷ bs) ≡ y → P
     go true y e d = let k = digit-is b e in f (k .0) (k .1) (rw (decimal, e))
     go false true e d = g d (rw (decimal, e, d))
-    go false false e d = absurd (no-count (rw (decimal, e, d) at h))
+    go false false e d = false-true (rw (decimal, e, d) at h)
 
 fits-low : (v : ℕ) → countFits (some v) ≡ true → v ≤ 64
 unfolding between

@@ -7,6 +7,7 @@ use mathlib.Core.Option.{Option, none, some}
 use Prim.Native.Nat.{ℕ, zero, suc, _≤_, _<_}
 use native.Mathlib.Omega.{arith}
 use lib.ListN.{length, getD}
+use Rattle.walk.proofs.Apart.{false-true, none-some}
 use Rattle.rules.specs.Rules.{Maker, Recording, Held, heldChannels, heldPatient, patientCode}
 use Rattle.rules.specs.Places.{holder}
 use Rattle.rules.proofs.Renew.{ChannelsOk, ItemsOk}
@@ -18,9 +19,6 @@ after r = some (record { channels = r .channels; patient = r .patient })
 
 some-one : {A : Type 0} (a b : A) → _≡_ {A = Option A} (some a) (some b) → a ≡ b
 some-one a b e = cc
-
-none-some : {A : Type 0} (a : A) → _≡_ {A = Option A} none (some a) → ⊥
-none-some a e = let z : _≡_ {A = ℕ} 0 1 = cc in omega arith
 
 -- what holds for recording k is what its holder has of its own
 pub record Holds {A : Type 0} (own : Recording → Bool) (value : Recording → A) (d : Recording) (k : ℕ) (rs : List Recording) : Type 0 where
@@ -36,7 +34,7 @@ module _ {A : Type 0} (own : Recording → Bool) (value : Recording → A) (held
     where
       go : (x : Bool) → own r ≡ x → own r ≡ true
       go true e = e
-      go false e = absurd (none-some (value r) (sym first ∙ taken none r (k .0) e))
+      go false e = none-some (sym first ∙ taken none r (k .0) e)
 
   as-before : (x : Option Held) (rs : List Recording) → RecordingsOk x rs → (k : ℕ) → suc k < length rs → own (getD rs (suc k) d) ≡ false → value (getD rs (suc k) d) ≡ value (getD rs k d)
   as-before x [] g k l e = absurd (omega arith)
@@ -61,7 +59,7 @@ module _ {A : Type 0} (own : Recording → Bool) (value : Recording → A) (held
   holds (suc k) rs g l = holds-more k rs g l (holds k rs g (omega arith)) (own (getD rs (suc k) d)) refl
 
 absent : {A : Type 0} (P : A → Type 0) (h : Option A) (own : Bool) (a : A) (ms : List Maker) → PartOk P h own a ms → own ≡ false → h ≡ some a
-absent P h true a ms k e = absurd (let z : _≡_ {A = ℕ} 0 1 = cc in omega arith)
+absent P h true a ms k e = false-true (sym e)
 absent P h false a ms k e = k .0
 
 -- the channels that hold for a recording, and the patient items

@@ -8,6 +8,7 @@ use native.Mathlib.Omega.{arith}
 use lib.ListN.{length}
 use Rattle.walk.specs.See.{Verdict, stops, goes, verdict, see, Stays}
 use Rattle.walk.specs.Walk.{Event, Outcome, refused, passed, run}
+use Rattle.walk.proofs.Apart.{refused-passed}
 use Rattle.walk.proofs.Laws.{Spent, spent}
 use Rattle.walk.proofs.Seen.{seen, stays-stops}
 use Rattle.rules.specs.Rules.{File, file, orderOf, whole, judge}
@@ -25,7 +26,7 @@ judge-seen s = seen (orderOf s) 0 s (length s) (omega arith) (file (length s)) 0
 whole-refused : {X : Type 0} (n : ℕ) (x : Outcome File) {m p : ℕ} → whole n x ≡ refused m p → (verdict 0 x ≡ stops m p → X) → (m ≡ 16 → p ≤ n → X) → X
 unfolding whole
 whole-refused n (refused i q) h walks left = walks cc
-whole-refused n (passed v [] t) h walks left = absurd (let z : _≡_ {A = ℕ} 0 1 = cc in omega arith)
+whole-refused n (passed v [] t) h walks left = refused-passed (sym h)
 whole-refused n (passed v (b ∷ r) t) {m} {p} h walks left =
     let i : n - suc (length r) ≡ p = cc in
     left (cc) (omega arith)

@@ -12,6 +12,7 @@ use lib.ListN.{length, replicate}
 use Rattle.words.specs.Numbers.{Bytes}
 use Rattle.walk.specs.Plays.{Plays, gives, checks, numbers, reads, skips, lists}
 use Rattle.walk.specs.Walk.{Text, Event, numeral, piece, size, Walk, give, _>>=_, _>>_, pick}
+use Rattle.walk.proofs.Apart.{false-true}
 use Rattle.walk.proofs.Laws.{plays-bind, plays-split, plays-give, plays-last, checked, counted, taken, skipped, traced, renewed, size-append, zeros-bytes, zeros-length}
 use Rattle.rules.specs.Canonical.{multiplierFor, most, zeroes, numerals, rowOf, plainHead, recordOf, basicFields, channelFields, channelEvents, channelsHead, channelsWritten, itemEvents, itemsHead, itemsWritten, sampleEvents, frameWritten, frameSize, frameEvents, framesBytes, framesHead, framesWritten, makerEvents}
 use Rattle.rules.specs.Rules.{between, padding, padded, makerCode, zeros, series, limit, Head, head, lengthOf, span, admit, exactly, fixed, Basic, basicBody, basic, Channel, channelBody, channel, channels, Item, item, itemBytes, itemList, items, width, sampled, samplesIn, all, sampleBytes, numberList, samples, Frame, frame, Frames, frames, Maker, Next, next, channelsBody, itemsBody, frameBody, framesBody}
@@ -19,7 +20,7 @@ use Rattle.rules.proofs.Sized.{sized}
 
 pub and-true : (a b : Bool) → a && b ≡ true → (a ≡ true) × (b ≡ true)
 and-true true b h = (refl, h)
-and-true false b h = absurd (let z : _≡_ {A = ℕ} 0 1 = cc in omega arith)
+and-true false b h = false-true h
 
 pub and-both : (a b : Bool) → a ≡ true → b ≡ true → a && b ≡ true
 and-both true b g h = h
@@ -470,10 +471,10 @@ frames-plays b own cs t fs k back room r =
 
 pub if-true : {A : Type 0} (c : Bool) (x y : Walk A) {t : List Event} {a : A} → c ≡ true → Plays t x a → Plays t (elim c [ true ↦ x | false ↦ y ]) a
 if-true true x y h p = p
-if-true false x y h p = absurd (let z : _≡_ {A = ℕ} 0 1 = cc in omega arith)
+if-true false x y h p = false-true h
 
 pub if-false : {A : Type 0} (c : Bool) (x y : Walk A) {t : List Event} {a : A} → c ≡ false → Plays t y a → Plays t (elim c [ true ↦ x | false ↦ y ]) a
-if-false true x y h p = absurd (let z : _≡_ {A = ℕ} 0 1 = cc in omega arith)
+if-false true x y h p = false-true (sym h)
 if-false false x y h p = p
 
 pub if-case : {A P : Type 0} (c : Bool) (x y : Walk A) {t : List Event} {a : A} → Plays t (elim c [ true ↦ x | false ↦ y ]) a → (c ≡ true → Plays t x a → P) → (c ≡ false → Plays t y a → P) → P
@@ -482,10 +483,10 @@ if-case false x y p f g = g refl p
 
 pub pick-true : {A : Type 0} (c : Bool) (x y : Walk A) {t : List Event} {a : A} → c ≡ true → Plays t x a → Plays t (pick c x y) a
 pick-true true x y h p = p
-pick-true false x y h p = absurd (let z : _≡_ {A = ℕ} 0 1 = cc in omega arith)
+pick-true false x y h p = false-true h
 
 pub pick-false : {A : Type 0} (c : Bool) (x y : Walk A) {t : List Event} {a : A} → c ≡ false → Plays t y a → Plays t (pick c x y) a
-pick-false true x y h p = absurd (let z : _≡_ {A = ℕ} 0 1 = cc in omega arith)
+pick-false true x y h p = false-true (sym h)
 pick-false false x y h p = p
 
 pub pick-case : {A P : Type 0} (c : Bool) (x y : Walk A) {t : List Event} {a : A} → Plays t (pick c x y) a → (c ≡ true → Plays t x a → P) → (c ≡ false → Plays t y a → P) → P

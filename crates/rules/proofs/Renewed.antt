@@ -12,6 +12,7 @@ use borrow.Author.Tests.{leb-true, le-leb, lt-ltb}
 use lib.ListN.{length}
 use Rattle.walk.specs.Plays.{Plays, gives, checks, lists}
 use Rattle.walk.specs.Walk.{Event, row, size, Walk, give, refuse, _>>=_, _>>_}
+use Rattle.walk.proofs.Apart.{false-true}
 use Rattle.walk.proofs.Laws.{plays-bind, plays-split, plays-give, traced, size-append, by-split, by-check, by-read, plays-gave}
 use Rattle.rules.specs.Canonical.{zeroes, numerals, rowOf, plainHead, recordOf, basicFields, channelsHead, channelsWritten, itemsHead, itemsWritten, frameSize, framesBytes, framesHead, framesWritten, makerEvents, optional, delimiterHead, delimiterEvents, content}
 use Rattle.rules.specs.Rules.{between, padding, padded, makerCode, zeros, Head, head, lengthOf, span, admit, padOk, Basic, basicBody, basic, Channel, channels, Item, items, patientCode, eventCode, frames, Maker, Next, next, Part, part, Recording, heldChannels, heldPatient, contentLimit, delimiter, Layout, Placed, recording, frame, signals, between, padding, padded, makerCode, zeros, Head, head, lengthOf, span, admit, padOk, Basic, basicBody, basic, Channel, channels, Item, items, patientCode, eventCode, frames, Maker, Held as Inherited, Next, next, Part, part, Recording, heldChannels, heldPatient, contentLimit, delimiter, Layout, Placed, recording}
@@ -243,7 +244,7 @@ pick-is Q false h k f q = q
 
 part-own : {A : Type 0} (P : A → Type 0) (held : Option A) (own : Bool) (a : A) (ms : List Maker) → own ≡ true → PartOk P held own a ms → P a
 part-own P held true a ms e g = g .0
-part-own P held false a ms e g = absurd (let z : _≡_ {A = ℕ} 0 1 = cc in omega arith)
+part-own P held false a ms e g = false-true e
 
 record Plain (h : Head) : Type 0 where
   ok : HeadOk h

@@ -13,6 +13,7 @@ use Rattle.words.specs.declared.Order.the-variants.{Little, Big}
 use Rattle.words.proofs.Words.{bytes-ordered, bytes-bytesOf}
 use Rattle.walk.specs.Plays.{Plays, gives, checks, numbers, reads, skips, lists}
 use Rattle.walk.specs.Walk.{swap, laid, Letter, Text, Event, piece, Walk, Outcome, refused, passed, _>>=_, _>>_, run, render, size}
+use Rattle.walk.proofs.Apart.{refused-passed}
 use Rattle.walk.proofs.Laid.{bytes-laid, length-laid}
 use Rattle.walk.proofs.Laws.{Read, read-of, complete, length-render, facts}
 use Rattle.rules.specs.Rules.{File, fileHeader, file, orderOf, whole, judge}
@@ -66,13 +67,13 @@ pub record Whole (n : ℕ) (x : Outcome File) (v : File) (r : List ℕ) (t : Lis
 -- what is accepted is what the walk gives, and nothing is left
 pub whole-passed : (n : ℕ) (x : Outcome File) {v : File} {r : List ℕ} {t : List Event} → whole n x ≡ passed v r t → Whole n x v r t
 unfolding whole
-whole-passed n (refused m p) h = absurd (let z : _≡_ {A = ℕ} 0 1 = cc in omega arith)
+whole-passed n (refused m p) h = refused-passed h
 whole-passed n (passed a [] u) {v} {r} {t} h =
     let e : a ≡ v = cc in
     let f : u ≡ t = cc in
     let g : [] ≡ r = cc in
     record { is = rw (e, f); left = sym g }
-whole-passed n (passed a (b ∷ q) u) h = absurd (let z : _≡_ {A = ℕ} 0 1 = cc in omega arith)
+whole-passed n (passed a (b ∷ q) u) h = refused-passed h
 
 -- what a file is, once it is accepted
 module _ (s : List ℕ) (b : Bytes s) {v : File} {r : List ℕ} {t : List Event} (h : judge s ≡ passed v r t) where

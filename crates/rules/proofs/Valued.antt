@@ -11,6 +11,7 @@ use borrow.Author.Tests.{leb-true}
 use Rattle.words.proofs.Values.{unsigned-signed}
 use Rattle.walk.specs.Plays.{Plays}
 use Rattle.walk.specs.Walk.{Event, _>>=_, _>>_, size}
+use Rattle.walk.proofs.Apart.{none-some}
 use Rattle.walk.proofs.Laws.{traced}
 use Rattle.rules.specs.Canonical.{content}
 use Rattle.rules.specs.Reading.{valueOf, basicReading, channelReading, itemReading, samplesReading, frameReading, makerReading, recordingReading, readingOf}
@@ -91,11 +92,11 @@ Good none = Unit {0}
 Good (some h) = All ChannelOk (h .channels) × All (ItemOk patientCode) (h .patient)
 
 good-channels : (held : Option Held) → Good held → (cs : List Channel) → heldChannels held ≡ some cs → All ChannelOk cs
-good-channels none g cs e = absurd (let z : _≡_ {A = ℕ} 0 1 = cc in omega arith)
+good-channels none g cs e = none-some e
 good-channels (some h) g cs e = let z : h .channels ≡ cs = cc in rw (← z) (g .0)
 
 good-patient : (held : Option Held) → Good held → (is : List Item) → heldPatient held ≡ some is → All (ItemOk patientCode) is
-good-patient none g is e = absurd (let z : _≡_ {A = ℕ} 0 1 = cc in omega arith)
+good-patient none g is e = none-some e
 good-patient (some h) g is e = let z : h .patient ≡ is = cc in rw (← z) (g .1)
 
 good-events : (is : List Item) → _≡_ {A = Option (List Item)} (some []) (some is) → All (ItemOk eventCode) is
