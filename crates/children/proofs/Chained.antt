@@ -14,10 +14,11 @@ use Rattle.words.specs.declared.Order.{Order}
 use Rattle.walk.specs.Walk.{Walk, give, refuse, _>>=_, _>>_, require, pick, text}
 use Rattle.walk.specs.See.{goes, see}
 use Rattle.walk.proofs.Seen.{and-left, stays-goes, stays-then, stays-weaken}
+use Rattle.walk.proofs.Apart.{stops-goes}
 use Rattle.walk.proofs.Went.{goes-same, went-first, by-went, by-then}
 use Rattle.rules.specs.Rules.{Head, Basic, Channel, Next, Part, Held, Frames, Placed, Descriptions, head, admit, span, coded, fixed, basic, basicBody, next, more as maker, part, channels, items, patientCode, eventCode, frames, makerCode, delimiter, padding, heldChannels, heldPatient, descriptions, signals, countBack, recordingBody}
 use Rattle.rules.proofs.Room.{Rests, stays-head, stays-admit, stays-basicBody, stays-basic, stays-channelsRest, stays-itemsRest, stays-framesRest, stays-delimiter}
-use Rattle.records.proofs.Opened.{halted, require-went}
+use Rattle.records.proofs.Opened.{require-went}
 use Rattle.children.specs.Children.{Said, said, _then_, Known, knownOf, basicRest, makerRest, Reads, Heads, heading, Inner, is100, is120, is130, is200, is140, isMaker, Links, more, last, Chain, Closed}
 use Rattle.children.proofs.Saying.{nothing, then-assoc, then-nothing, nothing-then, said-bind, said-then, said-give, said-gave, said-require, by-said}
 
@@ -157,7 +158,7 @@ module _ (o : Order) (b : ℕ) (s : List ℕ) (kn : Known) where
 
   next-zero : {X : Type 0} (at room : ℕ) {n : Next} {e : ℕ} → see o b s at (next zero room) ≡ goes n e → X
   unfolding next see
-  next-zero at room g = halted refl g
+  next-zero at room g = stops-goes g
 
   next-more : (f : ℕ) → Leading (next f) → Leading (next (suc f))
   unfolding next
@@ -201,7 +202,7 @@ module _ (o : Order) (b : ℕ) (s : List ℕ) (kn : Known) where
 
     lacked-leads : (held : Option A) {x : Part A} {e : ℕ} → see o b s (b + (p + 16)) (lacked held) ≡ goes x e → Passes (said o b s (b + (p + 16)) (lacked held)) x e
     unfolding see
-    lacked-leads none g = halted refl g
+    lacked-leads none g = stops-goes g
     lacked-leads (some a) {x} g =
         let y = goes-same g in
         let i : record { makers = []; head = n .head; room = n .room } ≡ x .next = ap (λ (t : Part A). t .next) (y .0) in

@@ -14,6 +14,7 @@ use Rattle.words.specs.declared.Order.{Order}
 use Rattle.walk.specs.Walk.{Walk, give, _>>=_}
 use Rattle.walk.specs.See.{stops, goes, see}
 use Rattle.walk.specs.Tell.{tell}
+use Rattle.walk.proofs.Apart.{stops-goes}
 use Rattle.walk.proofs.Seen.{stays-goes, see-part, body-length}
 use Rattle.walk.proofs.Went.{goes-same}
 use Rattle.walk.proofs.Told.{tell-part}
@@ -21,7 +22,7 @@ use Rattle.rules.specs.declared.Head as At
 use Rattle.rules.specs.Rules.{Head, span, Held, Placed, recordingBody, recording, recordings}
 use Rattle.rules.proofs.Room.{stays-recordingBody}
 use Rattle.records.specs.Says.{headOf}
-use Rattle.records.proofs.Opened.{Opened, opened, admit-passed, halted}
+use Rattle.records.proofs.Opened.{Opened, opened, admit-passed}
 use Rattle.judge.specs.Recorded.{leaves}
 use Rattle.judge.proofs.Led.{Led, led}
 use Rattle.children.specs.Children.{Said, said, _then_, Heads, AdmitsAny, RecordAt, NoRecord}
@@ -148,7 +149,7 @@ module _ {o : Order} {s : List ℕ} {count : ℕ} {ps : List Placed} where
       passed-led = led o s p (count - (i + 1)) (v .held) (i + 1) fit (rw one at (v .on))
 
       pub passed-stop : {X : Type 0} {n q : ℕ} → see o 0 s p (recording (v .held) (length s - p) (i + 1)) ≡ stops n q → X
-      passed-stop g = halted g (passed-led .is)
+      passed-stop g = stops-goes (sym g ∙ passed-led .is)
 
       -- y: how it was found
       next-led : (y : Led o s p (count - (i + 1)) (v .held) (i + 1) (v .left) (v .end)) {x : Placed} {q : ℕ} → y .one ≡ x → y .mid ≡ q → Onward v x q

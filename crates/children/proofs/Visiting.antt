@@ -11,12 +11,12 @@ use lib.ListN.{length}
 use Rattle.words.specs.declared.Order.{Order}
 use Rattle.walk.specs.Walk.{Walk, _>>=_, _>>_, require, text}
 use Rattle.walk.specs.See.{stops, goes, see}
+use Rattle.walk.proofs.Apart.{stops-goes}
 use Rattle.walk.proofs.Seen.{and-left, and-right, gate-true}
 use Rattle.walk.proofs.Went.{goes-same, gate-went}
 use Rattle.rules.specs.declared.Head as At
 use Rattle.rules.specs.Rules.{Head, head, admit, span, limit, basicBody, channels, channelsBody, items, itemsBody, patientCode, eventCode, frames, framesBody, makerCode, delimiter}
 use Rattle.records.specs.Says.{headOf}
-use Rattle.records.proofs.Opened.{halted}
 use Rattle.children.specs.Children.{Said, _then_, Known, Heads, Inner, is100, is120, is130, is200, is140, isMaker, Links, more, last, Parted, Chain, Closed, RecordAt, NoRecord, Visits}
 use Rattle.children.specs.declared.Direct.{Direct}
 use Rattle.children.specs.declared.Direct.the-variants as Direct
@@ -98,11 +98,11 @@ module _ (o : Order) (b : ℕ) (s : List ℕ) where
 -- the cursor's answers at byte p, by what the code found there: no head, the delimiter's, one that is not admitted
 module _ {o : Order} {b : ℕ} {s : List ℕ} {p : ℕ} where
   pub none-headless : {m q : ℕ} → see o b s (b + p) (head (length s - p)) ≡ stops m q → NoRecord o b s p
-  none-headless z = record { none = λ h k _ _. halted z k }
+  none-headless z = record { none = λ h k _ _. stops-goes (sym z ∙ k) }
 
   module _ {h : Head} (found : Heads o b s p h) where
     pub none-delimiter : h .code ≡ 0 → NoRecord o b s p
     none-delimiter z = record { none = λ h₁ k n _. n (ap (λ (x : Head). x .code) (goes-same (sym k ∙ found) .0) ∙ z) }
 
     pub none-refused : {m q : ℕ} → see o b s (b + (p + 16)) (admit (length s - p) 128 (leb 16) (λ _. true) h) ≡ stops m q → NoRecord o b s p
-    none-refused z = record { none = λ h₁ k _ a. halted z (rw (goes-same (sym k ∙ found) .0) at a) }
+    none-refused z = record { none = λ h₁ k _ a. stops-goes (sym z ∙ (rw (goes-same (sym k ∙ found) .0) at a)) }

@@ -12,8 +12,9 @@ use lib.ListN.{length, take, drop, length-drop}
 use lib.Seq.{length-take-le}
 use Rattle.words.specs.Numbers.{numberAt}
 use Rattle.words.specs.declared.Order.{Order}
-use Rattle.walk.specs.Walk.{pick, give, _>>=_, _>>_}
-use Rattle.walk.specs.See.{Verdict, stops, goes, see, Goes, onward}
+use Rattle.walk.specs.Walk.{pick, give, _>>_}
+use Rattle.walk.specs.See.{Verdict, goes, see, Goes, onward}
+use Rattle.walk.proofs.Apart.{stops-goes}
 use Rattle.walk.proofs.Seen.{walks, gates, see-part, body-length, see-bind, see-give, stays-goes, yields}
 use Rattle.walk.proofs.Went.{goes-same, went-first, onward-went}
 use Rattle.rules.specs.Rules as R
@@ -28,7 +29,7 @@ use Rattle.rules.proofs.Room.{stays-recordingBody}
 use Rattle.records.specs.Says.{halts, headOf, subsAt, ChannelsIn, opened, OpenAt}
 use Rattle.records.specs.declared.kinds.Opened.the-variants as Opened
 use Rattle.records.proofs.Bodies.{body-opened}
-use Rattle.records.proofs.Opened.{halted, require-went, admit-went, admit-passed}
+use Rattle.records.proofs.Opened.{require-went, admit-went, admit-passed}
 use Rattle.descriptions.specs.DescriptionsJudged.{HeldWithin, placeOf, channelsIn, patientIn, heldAt, Keeps, DescribedBounds, described, DescriptionsOf}
 use Rattle.descriptions.specs.declared.Before.{Before}
 use Rattle.descriptions.specs.declared.Places.{Places}
@@ -267,7 +268,7 @@ module _ (o : Order) (file : List ℕ) (p i : ℕ) (held : Option R.Held) {x : R
   any = opened-any o file p (length file - p) i (begun .is)
 
   not-stopped : {r : Refusal} → OpenAt o 0 file p Kind.Any (Opened.Stop r) → ⊥
-  not-stopped a = halted (rw zero-add at (a .seen)) any
+  not-stopped a = stops-goes (sym (rw zero-add at (a .seen)) ∙ any)
 
   as-recording : {h : Head} {q : ℕ} → OpenAt o 0 file p Kind.Any (Opened.On h q) → OpenAt o 0 file p (Kind.Recording i) (Opened.On h q)
   as-recording {h} {q} a =

@@ -13,6 +13,7 @@ use borrow.Author.Tests.{eqb-true, eqb-false}
 use Rattle.words.specs.declared.Order.{Order}
 use Rattle.walk.specs.See.{Verdict, stops, goes, see, ends, Goes, Holds}
 use Rattle.walk.specs.Walk.{Event, Walk, Outcome, refused, passed}
+use Rattle.walk.proofs.Apart.{refused-passed}
 use Rattle.walk.proofs.Seen.{walks, see-give, stopped, went, yields, stays-holds, stays-goes}
 use Rattle.walk.proofs.Went.{went-first}
 use Rattle.rules.specs.Rules.{FileHeader, Placed, File, fileHeader, recordings, file, orderOf, judge}
@@ -82,13 +83,10 @@ accepted-unique s h k x y =
     let l : h .count ≡ k .count = cc in
     λ n. record { order = i n; heading = record { script = j n .script }; count = l n }
 
-refused-not-accepted : (s : List ℕ) (h : Declared.FileHeader) {m p : ℕ} → AcceptedAs s h → judge s ≡ refused m p → ⊥
-refused-not-accepted s h x e = let z : _≡_ {A = ℕ} 0 1 = cc in omega arith
-
 pub judge-unique : (s : List ℕ) (a b : Judged) → JudgedAs s a → JudgedAs s b → a ≡ b
 judge-unique s (Judged.Accepted h) (Judged.Accepted k) x y = ap Judged.Accepted (accepted-unique s h k x y)
-judge-unique s (Judged.Accepted h) (Judged.Refused r) x y = absurd (refused-not-accepted s h x y)
-judge-unique s (Judged.Refused r) (Judged.Accepted k) x y = absurd (refused-not-accepted s k y x)
+judge-unique s (Judged.Accepted h) (Judged.Refused r) x y = refused-passed (sym y ∙ x .judged)
+judge-unique s (Judged.Refused r) (Judged.Accepted k) x y = refused-passed (sym x ∙ y .judged)
 judge-unique s (Judged.Refused r) (Judged.Refused u) x y =
     let i : r .0 ≡ u .0 = cc in
     let j : r .1 ≡ u .1 = cc in
@@ -103,7 +101,7 @@ judge-accepted s a {v} {t} x e = judge-unique s a (Judged.Accepted (record { ord
 
 -- what the walk comes to over a file that is accepted
 went-whole : (n : ℕ) (x : Outcome File) {v : File} {t : List Event} → x ≡ passed v [] t → (y : Verdict File) → Told n x y → Holds (λ _ e. e ≤ n) y → y ≡ goes v n
-went-whole n x h (stops m p) told b = absurd (let z : _≡_ {A = ℕ} 0 1 = cc in omega arith)
+went-whole n x h (stops m p) told b = refused-passed (sym told ∙ h)
 went-whole n x {v} {t} h (goes w e) told b = go (eqb e n) refl
   where
     go : (c : Bool) → eqb e n ≡ c → goes w e ≡ goes v n
@@ -113,8 +111,7 @@ went-whole n x {v} {t} h (goes w e) told b = go (eqb e n) refl
         let l : w ≡ v = cc in
         rw (l, j)
     go false i =
-        let k : x ≡ refused 16 e = told .1 (let j : e ≡ n → ⊥ = eqb-false e n i in omega arith) in
-        absurd (let z : _≡_ {A = ℕ} 0 1 = cc in omega arith)
+        refused-passed (sym (told .1 (let j : e ≡ n → ⊥ = eqb-false e n i in omega arith)) ∙ h)
 
 pub judge-went : (s : List ℕ) {v : File} {t : List Event} → judge s ≡ passed v [] t → see (orderOf s) 0 s 0 (file (length s)) ≡ goes v (length s)
 judge-went s h = went-whole (length s) (judge s) h (see (orderOf s) 0 s 0 (file (length s))) (judge-told s) (stays-holds (orderOf s) 0 s (length s) (omega arith) (file (length s)) 0 _ (omega arith) (rw zero-add at (stays-file (length s) 0)))

@@ -11,6 +11,7 @@ use lib.ListN.{length, getD, drop, drop-of-length-le}
 use lib.Seq.{drop-cons}
 use borrow.Author.Tests.{leb-true, le-leb, eq-eqb, ne-eqb}
 use lib.Dec.{leb, eqb}
+use Rattle.walk.proofs.Apart.{false-true}
 use Rattle.walk.proofs.Seen.{and-left, and-right}
 use Rattle.rules.specs.Rules.{between, lengthOf, isIn, sameBytes}
 
@@ -29,8 +30,7 @@ module _ (a b c d : ℕ) (r : Bool) (is : r ≡ leb a b && leb c d) where
   pub both-false : r ≡ false → a ≤ b → c ≤ d → ⊥
   both-false h i j =
       let t : leb a b && leb c d ≡ true = rw (le-leb a b i, le-leb c d j) in
-      let z : _≡_ {A = ℕ} 0 1 = cc in
-      omega arith
+      false-true (sym h ∙ (is ∙ t))
 
 pub length-none : (size m : ℕ) → m ≡ 0 → size ≡ lengthOf size m
 unfolding lengthOf

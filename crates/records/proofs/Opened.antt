@@ -11,20 +11,17 @@ use Rattle.words.specs.declared.Order.{Order}
 use Rattle.walk.specs.See.{Verdict, stops, goes, gate, see}
 use Rattle.walk.specs.Tell.{tell}
 use Rattle.walk.specs.Walk.{pick, Row, Walk, _>>=_, _>>_, require}
+use Rattle.walk.proofs.Apart.{stops-goes}
 use Rattle.walk.proofs.Seen.{and-left, and-right, gate-true}
 use Rattle.walk.proofs.Went.{gate-went, went-first, goes-same}
 use Rattle.walk.proofs.Told.{tell-bind, tell-then}
 use Rattle.rules.specs.Rules.{Head, head, admit, span, limit, coded}
 
--- what stopped did not go on
-pub halted : {A X : Type 0} {v : Verdict A} {n p e : ℕ} {a : A} → v ≡ stops n p → v ≡ goes a e → X
-halted h g = absurd (let z : _≡_ {A = ℕ} 0 1 = cc in omega arith)
-
 -- what is listed behind a test that passed
 through : {A : Type 0} (c : Bool) (v : Verdict A) (n p : ℕ) (x y : List Row) {a : A} {e : ℕ} → gate c v n p ≡ goes a e → (v ≡ goes a e → x ≡ y) → pick c x [] ≡ y
 unfolding gate
 through true v n p x y h k = k h
-through false v n p x y h k = halted refl h
+through false v n p x y h k = stops-goes h
 
 module _ (o : Order) (b : ℕ) (s : List ℕ) where
   -- a head lists nothing
@@ -136,4 +133,4 @@ opened {A} o b s at room code most fits serial body g =
 pub not-admitted : {A : Type 0} (o : Order) (b : ℕ) (s : List ℕ) (at room most : ℕ) (fits serial : ℕ → Bool) (h : Head) (v : Walk A) {m q : ℕ} {a : A} {e : ℕ} →
     see o b s at (admit room most fits serial h) ≡ stops m q → see o b s at (admit room most fits serial h >> v) ≡ goes a e → ⊥
 not-admitted o b s at room most fits serial h v k g =
-    halted k (admit-went o b s at room most fits serial h v g .admits)
+    stops-goes (sym k ∙ admit-went o b s at room most fits serial h v g .admits)
