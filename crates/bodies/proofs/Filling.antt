@@ -18,6 +18,7 @@ use Rattle.words.proofs.Runs.{pasted-pasted, part-pasted, take-pasted, length-p
 use Rattle.walk.specs.See.{goes, see, Goes}
 use Rattle.walk.specs.Trace.{trace, written}
 use Rattle.walk.specs.Walk.{Event, numeral, blank, Walk, give, num, text, _>>=_, _>>_, reserve, pick}
+use Rattle.walk.proofs.Apart.{zero-one}
 use Rattle.walk.proofs.Seen.{stays-goes, yields, and-left, and-right}
 use Rattle.walk.proofs.Went.{gate-went, went-first, goes-same}
 use Rattle.walk.proofs.Tracing.{trace-bind, trace-give, written-none}
@@ -173,8 +174,8 @@ sample-wide format = go (eqb format 1) (eqb format 2)
 one-width : (u v : ℕ) → Widths.One u ≡ Widths.One v → u ≡ v
 one-width u v h = cc
 
-several-not : (v : ℕ) → Widths.One v ≡ Widths.Several → ⊥
-several-not v h = let z : _≡_ {A = ℕ} 0 1 = cc in omega arith
+one-several : {X : Type 0} {v : ℕ} → Widths.One v ≡ Widths.Several → X
+one-several h = zero-one (cc)
 
 -- the samples of the channel whose 125 stands at byte q of the file, as the code reads it
 module _ (w : Way) (file : List ℕ) (q t : ℕ) (flags format rate wide n : ℕ) (at20 : flags ≡ numberAt (w .from) 4 file (q + 20)) (at28 : format ≡ numberAt (w .from) 4 file (q + 28)) (at32 : rate ≡ numberAt (w .from) 4 file (q + 32))
@@ -327,7 +328,7 @@ module _ (o : Order) (file : List ℕ) where
   -- what the answer says
   pub widths-told : (v q n : ℕ) → Widths.One v ≡ widthsIn o file q n → (2 ≤ v) × (v ≤ 4) × (allWide o file q n v ≡ true)
   unfolding widthsIn
-  widths-told v q zero h = absurd (let z : _≡_ {A = ℕ} 0 1 = cc in omega arith)
+  widths-told v q zero h = one-several h
   widths-told v q (suc n) h = go (allWide o file q (suc n) (width (numberAt o 4 file (q + 28)))) refl
     where
       go : (x : Bool) → allWide o file q (suc n) (width (numberAt o 4 file (q + 28))) ≡ x → (2 ≤ v) × (v ≤ 4) × (allWide o file q (suc n) v ≡ true)
@@ -335,7 +336,7 @@ module _ (o : Order) (file : List ℕ) where
           let wide = sample-wide (numberAt o 4 file (q + 28)) in
           let i : v ≡ width (numberAt o 4 file (q + 28)) = one-width v _ (h ∙ rw (widthsIn, e)) in
           rw i (wide .0, wide .1, e)
-      go false e = absurd (several-not v (h ∙ rw (widthsIn, e)))
+      go false e = one-several (h ∙ rw (widthsIn, e))
 
 -- a run that the code wrote from byte 8 on, to the end
 pub run-copied : (w : Way) (s d : List ℕ) (v n k : ℕ) (ys : List ℕ) → 2 ≤ v → n ≡ (length s - 8) / v → k ≡ n * v → 8 ≤ length s → ((x : ℕ) → ys ≡ copy w x (take k (drop 8 s)) x (numberList v n)) →

@@ -4,13 +4,14 @@ use mathlib.Core.Path.{_≡_, refl, sym, ap, _∙_}
 use mathlib.Core.Bool.{true, false}
 use mathlib.Core.List.{List, []}
 use mathlib.Core.Option.{Option, none, some}
-use Prim.Native.Nat.{ℕ, _+_, _-_, _≤_, _<_}
+use Prim.Native.Nat.{ℕ, _+_, _-_, _≤_}
 use native.Mathlib.Omega.{arith}
 use lib.Dec.{eqb}
 use lib.ListN.{length}
 use Rattle.words.specs.declared.Order.{Order}
 use Rattle.walk.specs.Walk.{Walk, give, refuse, _>>=_}
 use Rattle.walk.specs.See.{Verdict, stops, goes, see, Goes, over, ends}
+use Rattle.walk.proofs.Apart.{zero-one, stops-goes}
 use Rattle.walk.proofs.Seen.{see-bind, see-give, see-refuse, went, stopped, stays-goes}
 use Rattle.rules.specs.Rules as R
 use Rattle.rules.specs.Rules.{part}
@@ -24,10 +25,14 @@ use Rattle.descriptions.specs.declared.Held.the-variants as Held
 use Rattle.descriptions.specs.declared.Parted.{Parted}
 use Rattle.descriptions.specs.declared.Parted.the-variants as Parted
 
+-- a place that is held is not nothing
+pub at-nothing : {X : Type 0} {at : ℕ} → Held.At at ≡ Held.Nothing → X
+at-nothing h = zero-one (cc)
+
 -- a walk of which the code keeps only the place
 ended : {A : Type 0} (v : Verdict A) {x : ℕ} → ends v ≡ goes tt x → Goes v (λ _ e. e ≡ x)
 unfolding over
-ended (stops n p) h = absurd (let z : _≡_ {A = ℕ} 0 1 = cc in omega arith)
+ended (stops n p) h = stops-goes h
 ended (goes a e) h = record { value = a; end = e; is = refl; kept = cc }
 
 -- a walk that stops, or goes on, before another

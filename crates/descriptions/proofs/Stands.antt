@@ -13,6 +13,7 @@ use Rattle.words.specs.declared.Order.{Order}
 use Rattle.words.specs.Numbers.{wordIn, bytesAt, numberAt}
 use Rattle.walk.specs.Walk.{laid, Walk, give, refuse, check, number, read, skip, list, pick, _>>=_, _>>_}
 use Rattle.walk.specs.See.{goes, see, Yields}
+use Rattle.walk.proofs.Apart.{none-some}
 use Rattle.walk.proofs.Seen.{yields, yields-bind, part-bytes}
 use Rattle.rules.specs.Rules as R
 use Rattle.rules.specs.Rules.{fixed, head, admit, basicBody, channels, channelsBody, channel, series}
@@ -100,7 +101,7 @@ module _ (o : Order) (base n : ℕ) (s file : List ℕ) (is : s ≡ take n (drop
 module _ (o : Order) (base : ℕ) (s : List ℕ) (p m : ℕ) where
   pub stand : (file : List ℕ) (before : Before) (held : Option R.Held) (own : Bool) (at : ℕ) (cs : List R.Channel) → s ≡ take (length s) (drop base file) → HeldAs o file before held → PartValue (Owned o s p m) (R.heldChannels held) own cs → at ≡ pick own (base + p) (heldAt (channelsIn before)) → ChannelsStand o file (subsAt at (pick own m (countIn before))) cs
   stand file before held true at cs is h v e = rw e (stand-part o base (length s) s file is p m cs (v .room .inside) (v .stand))
-  stand file Before.Nothing none false at cs is h v e = absurd (let z : _≡_ {A = ℕ} 0 1 = cc in omega arith)
+  stand file Before.Nothing none false at cs is h v e = none-some v
   stand file Before.Nothing (some x) false at cs is h v e = absurd h
   stand file (Before.These q) none false at cs is h v e = absurd h
   stand file (Before.These q) (some x) false at cs is h v e =
@@ -109,6 +110,6 @@ module _ (o : Order) (base : ℕ) (s : List ℕ) (p m : ℕ) where
 
   pub room : (before : Before) (hv : Option (List R.Channel)) (own : Bool) (at : ℕ) (cs : List R.Channel) → HeldIs (channelsIn before) hv → PartValue (Owned o s p m) hv own cs → at ≡ pick own (base + p) (heldAt (channelsIn before)) → (L : ℕ) → base + length s ≤ L → HeldWithin L before → ChannelsIn L (subsAt at (pick own m (countIn before)))
   room before hv true at cs i v e L l w = record { inside = omega (arith, v .room .inside); few = v .room .few }
-  room Before.Nothing none false at cs i v e L l w = absurd (let z : _≡_ {A = ℕ} 0 1 = cc in omega arith)
+  room Before.Nothing none false at cs i v e L l w = none-some v
   room Before.Nothing (some x) false at cs i v e L l w = absurd i
   room (Before.These q) hv false at cs i v e L l w = rw e w

@@ -17,8 +17,9 @@ use Rattle.words.specs.declared.Order.{Order}
 use Rattle.words.specs.declared.Order.the-variants.{Little, Big}
 use Rattle.walk.specs.See.{Verdict, gate, see, stops, goes}
 use Rattle.walk.specs.Walk.{pick, swap, laid, Letter, _>>=_, _>>_}
+use Rattle.walk.proofs.Apart.{zero-one}
 use Rattle.walk.proofs.Laid.{laid-text}
-use Rattle.rules.specs.Rules.{between, sameBytes, identifier, version, form, allSpaces, isDigit, decimal, countOf, countFits, countIs, isScript, FileHeader, fileHeader, orderOf}
+use Rattle.rules.specs.Rules.{between, allSpaces, isDigit, decimal, countOf, countFits, countIs, isScript, FileHeader, fileHeader, orderOf}
 use Rattle.header.specs.Letters.{lettered}
 use Rattle.header.specs.Opened.{names, nameTests}
 use Rattle.header.specs.declared.Lettered.{Lettered}
@@ -105,6 +106,10 @@ letter-names s = go (eqb (getD s 16 0) 76) (eqb (getD s 16 0) 66) refl refl
     go true false e f = rw (orderOf, f, byte-at, lettered, e)
     go false false e f = rw (orderOf, f, byte-at, lettered, e)
 
+-- a letter that names nothing names no order
+nothing-names : {X : Type 0} {o : Order} → Lettered.Nothing ≡ Lettered.Names o → X
+nothing-names h = zero-one (cc)
+
 pub letter-order : (s : List ℕ) (o : Order) → lettered (getD s 16 0) ≡ Lettered.Names o → orderOf s ≡ o
 unfolding orderOf lettered
 letter-order s o h = go (eqb (getD s 16 0) 76) (eqb (getD s 16 0) 66) refl refl
@@ -112,7 +117,7 @@ letter-order s o h = go (eqb (getD s 16 0) 76) (eqb (getD s 16 0) 66) refl refl
     go : (x y : Bool) → eqb (getD s 16 0) 76 ≡ x → eqb (getD s 16 0) 66 ≡ y → orderOf s ≡ o
     go true y e f = let l : Lettered.Names Little ≡ Lettered.Names o = rw (lettered, e) at h in rw (orderOf, eqb-true (getD s 16 0) 76 e) (cc)
     go false true e f = let l : Lettered.Names Big ≡ Lettered.Names o = rw (lettered, e, f) at h in rw (orderOf, f) (cc)
-    go false false e f = let l : Lettered.Nothing ≡ Lettered.Names o = rw (lettered, e, f) at h in absurd (let z : _≡_ {A = ℕ} 0 1 = cc in omega arith)
+    go false false e f = nothing-names (rw (lettered, e, f) at h)
 
 -- the walk of the file header: its tests, one after the other, each with those behind it
 module _ (s : List ℕ) where

@@ -11,7 +11,7 @@ use lib.ListN.{length, drop, length-drop}
 use lib.Seq.{length-take-le, drop-drop}
 use Rattle.words.specs.Numbers.{bytesAt, numberAt}
 use Rattle.words.specs.declared.Order.{Order}
-use Rattle.walk.specs.See.{Verdict, stops, goes, gate, see}
+use Rattle.walk.specs.See.{Verdict, goes, gate, see}
 use Rattle.walk.specs.Trace.{trace}
 use Rattle.walk.specs.Walk.{laid, Text, Event, numeral, cleared, Walk, give, refuse, check, number, read, skip, list, _>>=_, _>>_}
 use Rattle.walk.proofs.Seen.{stays-goes, yields, length-bytesAt, and-left, and-right}
@@ -27,10 +27,6 @@ use Rattle.measures.specs.Measures.{FrameIn}
 -- the events of a walk over a part, with every byte that is not judged zero
 abbrev pub bare : {A : Type 0} → Order → ℕ → List ℕ → ℕ → Walk A → List Event
 bare o b s at w = cleared (trace o b s at w)
-
--- a walk that goes on does not stop
-pub goes-stops : {A : Type 0} {a : A} {e n p : ℕ} → goes a e ≡ stops n p → ⊥
-goes-stops h = let z : _≡_ {A = ℕ} 0 1 = cc in omega arith
 
 module _ {A B : Type 0} (o : Order) (b : ℕ) (s : List ℕ) (at : ℕ) where
   -- one walk after the other, where the first goes on

@@ -14,13 +14,14 @@ use Rattle.words.specs.declared.Order.{Order}
 use Rattle.walk.specs.See.{goes, see}
 use Rattle.walk.specs.Trace.{trace}
 use Rattle.walk.specs.Walk.{Text, Event, piece, cleared, Walk, give, refuse, pick, text, _>>=_, _>>_}
+use Rattle.walk.proofs.Apart.{stops-goes}
 use Rattle.walk.proofs.Seen.{stays-goes}
 use Rattle.walk.proofs.Went.{went-first, by-went, goes-same}
 use Rattle.rules.specs.Canonical.{numerals, rowOf, plainHead, recordOf, basicFields, channelsHead, channelsWritten, itemsHead, itemsWritten, framesHead, framesWritten, makerEvents, optional, delimiterEvents, content}
 use Rattle.rules.specs.Rules.{Head, head, span, admit, basic, channels, items, patientCode, eventCode, Frame, makerCode, Maker, Next, more, next, Part, part, Held, heldChannels, heldPatient, Descriptions, descriptions}
 use Rattle.rules.proofs.Room.{Rests, stays-basic, stays-channelsRest, stays-itemsRest}
 use Rattle.records.proofs.Opened.{admit-went, head-went}
-use Rattle.measures.proofs.Canonic.{bare, goes-stops, bare-bind, both, head-bare, admit-bare, basic-bare, Rest, channels-bare, items-bare}
+use Rattle.measures.proofs.Canonic.{bare, bare-bind, both, head-bare, admit-bare, basic-bare, Rest, channels-bare, items-bare}
 
 -- the head of the record that follows stands 16 bytes before e, and its room ends at L
 pub record Stands (o : Order) (b : ℕ) (s : List ℕ) (L : ℕ) (n : Next) (e : ℕ) : Type 0 where
@@ -88,7 +89,7 @@ module _ (o : Order) (b : ℕ) (s : List ℕ) where
 
   pub next-bare : (fuel : ℕ) → Follow fuel
   unfolding next see
-  next-bare zero room L at n e g l h = absurd (goes-stops (sym h))
+  next-bare zero room L at n e g l h = stops-goes h
   next-bare (suc fuel) room L at n e g l h =
       let k : Head → Walk Next = λ x. pick (makerCode (x .code)) (maker fuel room x) (other fuel room x) in
       let x = went-first o b s at (head room) k h in
@@ -124,7 +125,7 @@ module _ (o : Order) (b : ℕ) (s : List ℕ) where
 
       part-absent : (held : Option A) → see o b s at (absent held) ≡ goes x e → Passed at (absent held) n x L e
       unfolding optional see trace cleared
-      part-absent none q = absurd (goes-stops (sym q))
+      part-absent none q = stops-goes q
       part-absent (some a) q =
           let i = goes-same q in
           rw (← i .0, ← i .1) (refl, record { low = stands .low; head = stands .head; place = stands .place })

@@ -16,6 +16,7 @@ use Rattle.walk.specs.Walk.{Event, size, Walk, _>>=_, _>>_, Outcome, refused, p
 use Rattle.walk.specs.Plays.{Plays}
 use Rattle.walk.specs.See.{goes, see, Stays}
 use Rattle.walk.specs.Trace.{trace}
+use Rattle.walk.proofs.Apart.{stops-goes}
 use Rattle.walk.proofs.Laws.{read-of, size-append, size-cleared}
 use Rattle.walk.proofs.Seen.{seen, see-bind, stays-goes, stays-bind, body-length}
 use Rattle.walk.proofs.Tracing.{size-trace}
@@ -28,7 +29,6 @@ use Rattle.rules.proofs.Sized.{sized}
 use Rattle.records.proofs.Opened.{require-went}
 use Rattle.children.proofs.Recordings.{Within}
 use Rattle.measures.specs.Measures.{mostServed}
-use Rattle.measures.proofs.Canonic.{goes-stops}
 use Rattle.measures.proofs.Chained.{Stands, tablesEvents, tables-bare, content-tables}
 
 -- a walk that went on over bytes: what holds of its answer, and that it accepts the events that it read
@@ -41,7 +41,7 @@ heard : {A : Type 0} (o : Order) (b : ℕ) (s : List ℕ) (L : ℕ) → L ≤ b 
 heard {A} o b s L fit bytes w at Q {a} {e} g h k = go (run o at (drop (at - b) s) w) refl
   where
     go : (y : Outcome A) → run o at (drop (at - b) s) w ≡ y → Heard w Q a e
-    go (refused n p) i = absurd (goes-stops (sym (rw i at (seen o b s L fit w at Q g h) ∙ k)))
+    go (refused n p) i = stops-goes (rw i at (seen o b s L fit w at Q g h) ∙ k)
     go (passed x r t) i =
         let v = rw i at (seen o b s L fit w at Q g h) ∙ k in
         record { holds = stays-goes o b s L fit w at Q g h k; events = t; plays = rw (← goes-same v .0) (read-of w o at (drop (at - b) s) (bytes-drop (at - b) s bytes) i .plays) }

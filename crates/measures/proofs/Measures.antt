@@ -14,6 +14,7 @@ use Rattle.words.specs.declared.Order.{Order}
 use Rattle.walk.specs.Walk as W
 use Rattle.walk.specs.Walk.{Walk, _>>_, require}
 use Rattle.walk.specs.See.{stops, goes, see, over}
+use Rattle.walk.proofs.Apart.{stops-goes}
 use Rattle.walk.proofs.Seen.{over-goes, see-body, body-length, yields}
 use Rattle.walk.proofs.Went.{goes-same}
 use Rattle.rules.specs.Rules as R
@@ -31,7 +32,6 @@ use Rattle.measures.specs.declared.Sized.{Sized}
 use Rattle.measures.specs.declared.Measure.{Measure}
 use Rattle.measures.specs.declared.Measured.{Measured}
 use Rattle.measures.specs.declared.Measured.the-variants as Measured
-use Rattle.measures.proofs.Canonic.{goes-stops}
 use Rattle.measures.proofs.Lengths.{Accepted}
 
 -- sizes
@@ -135,7 +135,7 @@ module _ {o : Order} {base : ℕ} {s : List ℕ} {x : R.Placed} (v : Accepted o 
 
   -- its head is read
   pub measure-unread : {n p : ℕ} → see o base s (base + at) (R.head (length s - at)) ≡ stops n p → ⊥
-  measure-unread g = goes-stops (sym stands ∙ g)
+  measure-unread g = stops-goes (sym g ∙ stands)
 
   -- h: the code's head
   module _ (h : At.Head) (found : see o base s (base + at) (R.head (length s - at)) ≡ goes (headOf h) (base + (h .at + 16))) (here : h .at ≡ at) where
@@ -160,7 +160,7 @@ module _ {o : Order} {base : ℕ} {s : List ℕ} {x : R.Placed} (v : Accepted o 
       enough = omega (arith, v .enough, v .place, ap (λ (t : R.Head). R.span t) same-head)
 
       pub measure-alone : {n p : ℕ} → ((fuel : ℕ) → length s < q + fuel → over headroom (see o base s (base + q) (R.next fuel (length s - q))) ≡ stops n p) → ⊥
-      measure-alone g = goes-stops (sym behind ∙ g (v .fuel) enough)
+      measure-alone g = stops-goes (sym (g (v .fuel) enough) ∙ behind)
 
       module _ (inside : q ≤ length s) (least : 32 ≤ R.span (headOf h)) where
         abbrev body : List ℕ
