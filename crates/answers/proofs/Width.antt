@@ -1,7 +1,7 @@
 -- The 32 bits of a float, and of a whole number.
 -- Assumes nothing.
 use mathlib.Core.Path.{_≡_, refl, sym, ap, _∙_}
-use mathlib.Core.Bool.{Bool, true, false, true≢false, not, cond}
+use mathlib.Core.Bool.{Bool, true, false, not, cond}
 use Prim.Native.Nat.{ℕ, zero, suc, _-_, _≤_}
 use native.Mathlib.Omega.{arith}
 use borrow.Author.Tests.{le-leb, le-ltb}
@@ -15,6 +15,7 @@ use mir.Val.{Fits, SFits, toZ, ofZ}
 use mir.Facts.{toZ-ofZ}
 use Rattle.words.specs.Floats.{bitsOf}
 use Rattle.words.specs.Values.{unsigned}
+use Rattle.walk.proofs.Apart.{false-true}
 
 -- A float
 
@@ -25,7 +26,7 @@ nan-bits v e = rw (differs-from-itself v (rw e tt))
 
 pub no-nan : (v : Float) → ne v v ≡ false → T (not (isNan v))
 unfolding isNan
-no-nan nan e = absurd (true≢false (sym nan-differs ∙ e))
+no-nan nan e = false-true (sym e ∙ nan-differs)
 no-nan (inf s) e = tt
 no-nan (fin s m d) e = tt
 
@@ -47,7 +48,7 @@ pub record Plain (z : ℤ) : Type 0 where
 plainly : (z : ℤ) → held z ≡ z → SFits w32 z → leZ (pos 0) z ≡ true → Plain z
 unfolding unsigned
 plainly (pos n) e f t = record { test = rw e tt; fits = rw e (record { fits = omega (arith, f .sfits) }); word = rw e }
-plainly (negsuc k) e f t = absurd (true≢false (sym t))
+plainly (negsuc k) e f t = false-true t
 
 pub plain : (z : ℤ) → SFits w32 z → leZ (pos 0) (held z) ≡ true → Plain z
 plain z f t = plainly z (toZ-ofZ f) f (rw (toZ-ofZ f) at t)
@@ -66,7 +67,7 @@ above (suc k) = ap (λ (b : Bool). cond b (negsuc (1 - suc (suc (suc k)))) (pos 
 
 underly : (z : ℤ) → held z ≡ z → SFits w32 z → leZ (pos 0) z ≡ false → Under z
 unfolding unsigned
-underly (pos n) e f t = absurd (true≢false (sym (le-leb 0 n (omega arith)) ∙ t))
+underly (pos n) e f t = false-true (sym t ∙ le-leb 0 n (omega arith))
 underly (negsuc k) e f t =
     let b : below (negsuc k) ≡ pos k = ap (λ (y : ℤ). negsuc 0 -ℤ y) e ∙ above k in
     let s : SFits w32 (below (negsuc k)) = rw b (record { sfits = f .sfits }) in

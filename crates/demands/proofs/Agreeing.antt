@@ -4,7 +4,7 @@ use mathlib.Core.Path.{_≡_, refl, ap, _∙_}
 use mathlib.Core.List.{List, [], _∷_, map}
 use Prim.Native.Nat.{ℕ, zero, suc}
 use Rattle.recordings.specs.Answers.{Answer, value, _>>=_, indexed, numbered}
-use Rattle.recordings.proofs.Chosen.{no-value}
+use Rattle.recordings.proofs.Chosen.{refusal-value}
 use Rattle.demands.specs.Demands.{Agree, values, refusals}
 
 module _ {A B : Type 0} {T : A → B → Type 0} where
@@ -20,11 +20,11 @@ module _ {A B : Type 0} {T : A → B → Type 0} where
   -- what is known where the first, or the second, is a value
   pub agree-first : {x : Answer A} {y : Answer B} → Agree T x y → {a : A} → x ≡ value a → (b : B) × (y ≡ value b) × T a b
   agree-first (values {a = c} {b} t) {a} e = let i : c ≡ a = cc in (b, refl, rw (← i) t)
-  agree-first refusals e = absurd (no-value e)
+  agree-first refusals e = refusal-value e
 
   pub agree-second : {x : Answer A} {y : Answer B} → Agree T x y → {b : B} → y ≡ value b → (a : A) × (x ≡ value a) × T a b
   agree-second (values {a} {b = c} t) {b} e = let i : c ≡ b = cc in (a, refl, rw (← i) t)
-  agree-second refusals e = absurd (no-value e)
+  agree-second refusals e = refusal-value e
 
 -- of equal values the answers are equal
 pub agree-equal : {A : Type 0} {x y : Answer A} → Agree (λ (a b : A). b ≡ a) x y → y ≡ x

@@ -11,6 +11,7 @@ use lib.ListN.{length}
 use Rattle.words.specs.Numbers.{Bytes}
 use Rattle.walk.specs.Plays.{Plays, gives, checks, numbers, reads, skips, lists}
 use Rattle.walk.specs.Walk.{pick, Event, numeral, piece, blank, row, size, rows, Walk, give, refuse, check, number, read, skip, list, _>>=_, _>>_, passed}
+use Rattle.walk.proofs.Apart.{none-some}
 use Rattle.walk.proofs.Told.{Silent}
 use Rattle.rules.specs.Rules.{series, fileHeader, Head, head, span, admit, Rule, codedBy, admitBy, fixed, Basic, basicBody, basic, basicRule, Channel, channelBody, channel, channelRule, channelsBody, channels, patientCode, eventCode, itemsBody, items, sampleBytes, frameRule, frameBody, frame, framesBody, frames, makerCode, Next, next, Part, part, Held, heldChannels, heldPatient, delimiter, padding, Descriptions, descriptions, signals, recordingRule, recordingBody, recording, recordings, File, file, judge}
 use Rattle.rules.proofs.Turn.{accepted, tiled}
@@ -185,7 +186,7 @@ backs (lists p) h = (h .0, backs p (h .1))
 -- the first maker's row among them, in a file of n bytes
 inside : (t : List Event) → Backs t → (at n : ℕ) → at + size t ≤ n → 4 ≤ n → (p : ℕ) → firstMaker (rows at t) ≡ some p → p ≤ n
 unfolding rows size firstMaker
-inside [] h at n l m p e = absurd (let z : _≡_ {A = ℕ} 0 1 = cc in omega arith)
+inside [] h at n l m p e = none-some e
 inside (numeral w v ∷ t) h at n l m p e = inside t h (at + w) n (omega arith) m p e
 inside (piece k bs ∷ t) h at n l m p e = inside t h (at + length bs) n (omega arith) m p e
 inside (blank bs ∷ t) h at n l m p e = inside t h (at + length bs) n (omega arith) m p e

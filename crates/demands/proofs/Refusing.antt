@@ -15,6 +15,7 @@ use lib.Seq.{drop-at}
 use Rattle.words.specs.Numbers.{Bytes}
 use Rattle.words.proofs.Runs.{length-pasted, drop-pasted}
 use Rattle.walk.specs.Walk.{pick, Row, Event, Outcome, refused, passed, rows}
+use Rattle.walk.proofs.Apart.{none-some}
 use Rattle.rules.specs.Canonical.{rewritten}
 use Rattle.rules.specs.Reading.{frameReading}
 use Rattle.rules.specs.Rules as R
@@ -30,6 +31,7 @@ use Rattle.rows.proofs.Written.{length-flat, length-written}
 use Rattle.table.specs.Table as Table
 use Rattle.table.specs.declared.Listed.{Listed}
 use Rattle.table.specs.declared.Listed.the-variants as Listed
+use Rattle.table.proofs.Answers.{rows-refusal}
 use Rattle.recordings.specs.Answers.{Answer, value, refusal, _>>=_, indexed, numbered}
 use Rattle.recordings.specs.Recordings.{judged, recordingOf}
 use Rattle.recordings.proofs.Chosen.{in-between}
@@ -42,20 +44,13 @@ use Rattle.permit.specs.Permit as Permit
 use Rattle.permit.specs.Permit.{permitted, Writes}
 use Rattle.permit.specs.declared.Written.{Written}
 use Rattle.permit.specs.declared.Written.the-variants as Written
-use Rattle.permit.proofs.Settled.{permit-room}
+use Rattle.permit.proofs.Settled.{bytes-refusal, permit-room}
 use Rattle.turn.specs.Turn as Turn
 use Rattle.turn.specs.Turn.{Turns}
 use Rattle.rewrite.specs.Rewrite as Rewrite
 use Rattle.rewrite.specs.Rewrite.{barrier, rewrittenIn, Rewrites}
 use Rattle.demands.specs.Demands.{ofFile, ofTable, ofTurn, ofRewrite, ofQuestion, Refuses, Answered, KeepsRest, listedRows, refusalOf}
 use Rattle.demands.proofs.Makers.{maker-inside}
-
--- an answer is no refusal
-no-rows : {X : Type 0} {n m p : ℕ} → Table.rows n ≡ Table.refusal m p → X
-no-rows h = absurd (let z : _≡_ {A = ℕ} 0 1 = cc in omega arith)
-
-no-bytes : {X : Type 0} {n m p : ℕ} → Permit.bytes n ≡ Permit.refusal m p → X
-no-bytes h = absurd (let z : _≡_ {A = ℕ} 0 1 = cc in omega arith)
 
 -- The numbers 17, 18 and 19, of a call that has them
 
@@ -89,7 +84,7 @@ module _ (s : List ℕ) where
   table-refuses room r h = go (R.judge s) refl h
     where
       room-for : (rs : List Row) (b : Bool) → Table.refusal (r .0) (r .1) ≡ pick b (Table.rows (length rs)) (Table.refusal 17 (4 * length rs)) → Refuses ofTable (length s) (4 * length rs) r
-      room-for rs true h = no-rows (sym h)
+      room-for rs true h = rows-refusal (sym h)
       room-for rs false h = short ofTable (length s) (4 * length rs) r (or-right (ofFile 17) refl) (cc) (cc)
 
       go : (x : Outcome R.File) → R.judge s ≡ x → Table.refusal (r .0) (r .1) ≡ Table.answered x room → Refuses ofTable (length s) (4 * length (listedRows x)) r
@@ -103,7 +98,7 @@ module _ (s : List ℕ) where
     permit-refuses none inside h = go (leb need room) h
       where
         go : (b : Bool) → Permit.refusal (r .0) (r .1) ≡ pick b (Permit.bytes need) (Permit.refusal 17 need) → Refuses numbers (length s) need r
-        go true h = no-bytes (sym h)
+        go true h = bytes-refusal (sym h)
         go false h = short numbers (length s) need r has17 (cc) (cc)
 
   module _ (b : Bytes s) where
@@ -119,7 +114,7 @@ module _ (s : List ℕ) where
         go (passed v l t) e h = permit-refuses ofTurn (or-right (ofFile 17) refl) (or-right (ofFile 18) refl) (length s) room r (firstMaker (rows 0 t)) (first-inside e) h
 
     barrier-some : (c : Bool) (made : Option ℕ) {p : ℕ} → pick c none made ≡ some p → made ≡ some p
-    barrier-some true made h = absurd (let z : _≡_ {A = ℕ} 0 1 = cc in omega arith)
+    barrier-some true made h = none-some h
     barrier-some false made h = h
 
     pub rewrite-refuses : (order room : ℕ) (r : Refusal) → Permit.refusal (r .0) (r .1) ≡ Rewrite.answerOf s order room → Refuses ofRewrite (length s) (length (rewrittenIn (lettered order) s)) r
@@ -205,7 +200,7 @@ written-beyond out rs = rw zero-add (drop-at (flat rs) (drop (4 * length rs) out
 
 -- a refusal that left it
 unwritten : (out out′ : List ℤ) (a : Listed) {n p : ℕ} → Table.meaning a ≡ Table.refusal n p → out′ ≡ out → KeepsRest Listed.Refused Listed.Rows 4 out out′ a
-unwritten out out′ a h e = record { refused = λ _ _. e; fits = λ m i. no-rows (sym (ap Table.meaning i) ∙ h); beyond = λ m i. no-rows (sym (ap Table.meaning i) ∙ h); long = ap length e }
+unwritten out out′ a h e = record { refused = λ _ _. e; fits = λ m i. rows-refusal (sym (ap Table.meaning i) ∙ h); beyond = λ m i. rows-refusal (sym (ap Table.meaning i) ∙ h); long = ap length e }
 
 table-kept : (s : List ℕ) (out out′ : List ℤ) (a : Listed) (x : Outcome R.File) → Table.meaning a ≡ Table.answered x (length out) → out′ ≡ Table.holding x out → KeepsRest Listed.Refused Listed.Rows 4 out out′ a
 table-kept s out out′ a (refused n p) h e = unwritten out out′ a h e
@@ -216,7 +211,7 @@ table-kept s out out′ a (passed v l t) h e = go (leb (4 * length (rows 0 t)) (
     go true r h e =
         let room : 4 * length (rows 0 t) ≤ length out = leb-true _ _ r in
         record {
-          refused = λ u i. no-rows (sym h ∙ ap Table.meaning i);
+          refused = λ u i. rows-refusal (sym h ∙ ap Table.meaning i);
           fits = λ m i. let z : m ≡ length (rows 0 t) = cc (ap Table.meaning i) in omega arith;
           beyond = λ m i. let z : m ≡ length (rows 0 t) = cc (ap Table.meaning i) in rw (e, z) (written-beyond out (rows 0 t));
           long = ap length e ∙ length-written true out 0 (rows 0 t) (λ _. omega arith);
@@ -231,7 +226,7 @@ writes-keep : (x : Permit.Answer) (xs out out′ : List ℕ) (a : Written) → (
 writes-keep (Permit.bytes n) xs out out′ a room w =
     let l = room n refl in
     record {
-      refused = λ u i. no-bytes (sym (w .answer) ∙ ap Permit.meaning i);
+      refused = λ u i. bytes-refusal (sym (w .answer) ∙ ap Permit.meaning i);
       fits = λ m i. let z : m ≡ n = cc (ap Permit.meaning i, w .answer) in omega (arith, l .1);
       beyond = λ m i.
           let z : m ≡ n = cc (ap Permit.meaning i, w .answer) in
@@ -241,8 +236,8 @@ writes-keep (Permit.bytes n) xs out out′ a room w =
     }
 writes-keep (Permit.refusal n p) xs out out′ a room w = record {
   refused = λ _ _. w .buffer;
-  fits = λ m i. no-bytes (sym (ap Permit.meaning i) ∙ w .answer);
-  beyond = λ m i. no-bytes (sym (ap Permit.meaning i) ∙ w .answer);
+  fits = λ m i. bytes-refusal (sym (ap Permit.meaning i) ∙ w .answer);
+  beyond = λ m i. bytes-refusal (sym (ap Permit.meaning i) ∙ w .answer);
   long = ap length (w .buffer);
 }
 
@@ -250,13 +245,13 @@ pub turn-keeps : (s : List ℕ) → Bytes s → (out out′ : List ℕ) (a : Wri
 turn-keeps s b out out′ a w = writes-keep (Turn.answerOf s (length out)) (turned s) out out′ a (go (R.judge s) refl) w
   where
     go : (x : Outcome R.File) → R.judge s ≡ x → (n : ℕ) → Permit.bytes n ≡ Turn.answered x (length s) (length out) → (length (turned s) ≡ n) × (n ≤ length out)
-    go (refused m p) e n h = no-bytes h
+    go (refused m p) e n h = bytes-refusal h
     go (passed v l t) e n h = let y = permit-room (firstMaker (rows 0 t)) (length s) (length out) h in (turn-length s b e ∙ sym (y .0), omega (arith, y .0, y .1))
 
 pub rewrite-keeps : (s : List ℕ) (order : ℕ) (out out′ : List ℕ) (a : Written) → Rewrites s order out out′ a → KeepsRest Written.Refused Written.Bytes 1 out out′ a
 rewrite-keeps s order out out′ a w = writes-keep (Rewrite.answerOf s order (length out)) (rewrittenIn (lettered order) s) out out′ a (go (R.judge s) (lettered order)) w
   where
     go : (x : Outcome R.File) (l : Lettered) (n : ℕ) → Permit.bytes n ≡ Rewrite.answered x l s (length out) → (length (rewrittenIn l s) ≡ n) × (n ≤ length out)
-    go (refused m p) l n h = no-bytes h
-    go (passed v y t) Lettered.Nothing n h = no-bytes h
+    go (refused m p) l n h = bytes-refusal h
+    go (passed v y t) Lettered.Nothing n h = bytes-refusal h
     go (passed v y t) (Lettered.Names to) n h = let y = permit-room (barrier (R.orderOf s) to (firstMaker (rows 0 t))) (length (rewritten to s)) (length out) h in (sym (y .0), omega (arith, y .0, y .1))

@@ -24,7 +24,7 @@ use Rattle.rules.proofs.Asked.{samples-at}
 use Rattle.rules.proofs.Places.{Found, found-at}
 use Rattle.recordings.specs.Answers.{Answer, value, refusal, outside, _>>=_, indexed, numbered}
 use Rattle.recordings.specs.Recordings.{Chosen, recordingOf, startOf}
-use Rattle.recordings.proofs.Chosen.{no-value, numbered-one}
+use Rattle.recordings.proofs.Chosen.{refusal-value, numbered-one}
 use Rattle.recordings.proofs.Standing.{found-ends}
 use Rattle.samples.specs.Frames.{ChosenFrame, frameOf, Samples, samplesOf}
 use Rattle.questions.specs.Questions.{countOf, partOf, viewOf}
@@ -85,14 +85,14 @@ outside-indexed [] i {n} {p} h =
     let e : 19 ≡ n = cc in
     let f : 0 ≡ p = cc in
     λ j. refusal (e j) (f j)
-outside-indexed (a ∷ l) zero h = absurd (no-value (sym h))
+outside-indexed (a ∷ l) zero h = refusal-value (sym h)
 outside-indexed (a ∷ l) (suc i) h = outside-indexed l i h
 
 none-indexed : (cs : List R.Channel) (ss : List (List ℕ)) (i : ℕ) {n p : ℕ} → indexed cs i ≡ refusal n p → indexed (samplesReading cs ss) i ≡ refusal n p
 unfolding indexed samplesReading
 none-indexed [] ss i h = outside-indexed {A = R.Channel} [] i h
 none-indexed (c ∷ cs) [] i h = outside-indexed (c ∷ cs) i h
-none-indexed (c ∷ cs) (s ∷ ss) zero h = absurd (no-value (sym h))
+none-indexed (c ∷ cs) (s ∷ ss) zero h = refusal-value (sym h)
 none-indexed (c ∷ cs) (s ∷ ss) (suc i) h = none-indexed cs ss i h
 
 none-numbered : (cs : List R.Channel) (ss : List (List ℕ)) (k : ℕ) {n p : ℕ} → numbered cs k ≡ refusal n p → numbered (samplesReading cs ss) k ≡ refusal n p
@@ -104,8 +104,8 @@ none-numbered cs ss (suc i) h = none-indexed cs ss i h
 values-indexed : (cs : List R.Channel) (ss : List (List ℕ)) (i : ℕ) {c : R.Channel} {vs : List Value} → indexed cs i ≡ value c → indexed (samplesReading cs ss) i ≡ value vs →
     vs ≡ map (valueOf (c .format) (width (c .format))) (getD ss i [])
 unfolding indexed samplesReading
-values-indexed [] ss i h k = absurd (no-value h)
-values-indexed (d ∷ cs) [] i h k = absurd (no-value k)
+values-indexed [] ss i h k = refusal-value h
+values-indexed (d ∷ cs) [] i h k = refusal-value k
 values-indexed (d ∷ cs) (s ∷ ss) zero {c} {vs} h k =
     let e : d ≡ c = cc in
     let f : map (valueOf (d .format) (width (d .format))) s ≡ vs = cc in
@@ -115,7 +115,7 @@ values-indexed (d ∷ cs) (s ∷ ss) (suc i) h k = values-indexed cs ss i h k
 values-numbered : (cs : List R.Channel) (ss : List (List ℕ)) (n : ℕ) {c : R.Channel} {vs : List Value} → numbered cs n ≡ value c → numbered (samplesReading cs ss) n ≡ value vs →
     vs ≡ map (valueOf (c .format) (width (c .format))) (getD ss (n - 1) [])
 unfolding numbered
-values-numbered cs ss zero h k = absurd (no-value h)
+values-numbered cs ss zero h k = refusal-value h
 values-numbered cs ss (suc i) h k = let e : suc i - 1 ≡ i = omega arith in rw e (values-indexed cs ss i h k)
 
 -- What was asked for, in an accepted file
@@ -279,7 +279,7 @@ module _ (s : List ℕ) (i j k : ℕ) where
     where
       go : (x : Answer Samples) → refusal n p ≡ x >>= (λ y. value (length (y .values))) → partOf x ≡ textAt 0 0
       go (refusal m q) e = refl
-      go (value x) e = absurd (no-value e)
+      go (value x) e = refusal-value e
 
   pub view-none : value 0 ≡ countOf s i j k → viewOf s i j k ≡ textAt 0 0
   view-none h = go (samplesOf s i j k) h

@@ -13,13 +13,15 @@ use lib.ListN.{length, take, drop}
 use Rattle.words.specs.Runs.{pasted}
 use Rattle.words.proofs.Runs.{take-pasted, drop-pasted}
 use Rattle.walk.specs.Walk.{pick}
+use Rattle.walk.proofs.Apart.{zero-one}
 use Rattle.walk.proofs.Unique.{one}
 use Rattle.permit.specs.Permit.{Answer, bytes, refusal, meaning, permitted, Writes}
 use Rattle.permit.specs.declared.Written.{Written}
 use Rattle.permit.specs.declared.Written.the-variants as Written
 
-apart : {n m p : ℕ} → bytes n ≡ refusal m p → ⊥
-apart h = let z : _≡_ {A = ℕ} 0 1 = cc in omega arith
+-- an answer is no refusal
+pub bytes-refusal : {X : Type 0} {n m p : ℕ} → bytes n ≡ refusal m p → X
+bytes-refusal h = zero-one (cc)
 
 -- an answer of the code, from what it means
 abbrev again : Answer → Written
@@ -36,12 +38,12 @@ writes-unique x xs out out₁ out₂ a b u v = (one meaning again back (u .answe
 
 -- leave to write: the bytes needed, and room for them
 pub permit-room : (made : Option ℕ) (n room : ℕ) {k : ℕ} → bytes k ≡ permitted made n room → (k ≡ n) × (n ≤ room)
-permit-room (some p) n room h = absurd (apart h)
+permit-room (some p) n room h = bytes-refusal h
 permit-room none n room h = on (leb n room) refl h
   where
     on : {k : ℕ} (b : Bool) → leb n room ≡ b → bytes k ≡ pick b (bytes n) (refusal 17 n) → (k ≡ n) × (n ≤ room)
     on true e h = (cc, leb-true n room e)
-    on false e h = absurd (apart h)
+    on false e h = bytes-refusal h
 
 -- no maker's record in the way, and room: the bytes needed
 pub permit-bytes : (n room : ℕ) → n ≤ room → permitted none n room ≡ bytes n

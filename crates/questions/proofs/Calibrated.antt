@@ -1,12 +1,13 @@
 -- Four calibration words: whether one is a NaN's pattern, and that each keeps its 32 bits, whatever the four are answered as.
 -- Assumes nothing.
-use mathlib.Core.Path.{_≡_, refl}
-use mathlib.Core.Bool.{Bool, true, false, true≢false, _||_}
+use mathlib.Core.Path.{_≡_, refl, sym}
+use mathlib.Core.Bool.{Bool, true, false, _||_}
 use Prim.Native.Nat.{ℕ, _^_, _<_}
 use lib.Dec.{eqb}
 use Rattle.words.specs.Floats.{nanPattern, floatOf}
 use Rattle.words.proofs.Floats.{bitsOf-floatOf}
 use Rattle.words.proofs.Values.{unsigned-signed}
+use Rattle.walk.proofs.Apart.{false-true}
 use Rattle.questions.specs.Values.{someNan, floatsOf, calibrationOf, Words, wordsOf}
 use Rattle.questions.specs.declared.channels.Calibration.{Calibration}
 use Rattle.questions.specs.declared.channels.Calibration.the-variants as Calibration
@@ -23,7 +24,7 @@ or-left true b e = e
 or-left false b e = refl
 
 or-right : (a b : Bool) → a || b ≡ false → b ≡ false
-or-right true b e = absurd (true≢false e)
+or-right true b e = false-true (sym e)
 or-right false b e = e
 
 module _ (a b c d : ℕ) where

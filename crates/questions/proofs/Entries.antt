@@ -1,7 +1,7 @@
 -- The items of a 130 or a 200 that a walk passed: how many there are, where each stands, and what its bytes say.
 -- Assumes nothing.
 use mathlib.Core.Path.{_≡_, refl, sym, ap, _∙_}
-use mathlib.Core.Bool.{Bool, true, false, false≢true}
+use mathlib.Core.Bool.{Bool, true, false}
 use mathlib.Core.List.{List, [], _∷_}
 use Prim.Native.Nat.{ℕ, zero, suc, _+_, _-_, _≤_, _<_}
 use native.Mathlib.Nat.{add-zero, add-assoc}
@@ -14,6 +14,7 @@ use Rattle.words.specs.Values.{signed}
 use Rattle.words.specs.declared.Order.{Order}
 use Rattle.walk.specs.Walk.{Text, laid, Walk, give, refuse, check, number, read, skip, list, _>>=_, _>>_}
 use Rattle.walk.specs.See.{goes, gate, see, Yields}
+use Rattle.walk.proofs.Apart.{false-true}
 use Rattle.walk.proofs.Laid.{laid-text}
 use Rattle.walk.proofs.Seen.{and-left, yields, yields-bind, places, length-bytesAt}
 use Rattle.rules.specs.Rules.{between, Head, span, admit, Item, item, itemSize, itemBytes, itemList, itemsBody, items}
@@ -29,7 +30,7 @@ unfolding see gate
 yields-self o b s (give x) at = refl
 yields-self o b s (refuse n p) at = tt
 yields-self o b s (check true n p w) at = λ e. yields-self o b s w at
-yields-self o b s (check false n p w) at = λ e. absurd (false≢true e)
+yields-self o b s (check false n p w) at = false-true
 yields-self o b s (number n f) at = yields-self o b s (f (numberAt o n s (at - b))) (at + n)
 yields-self o b s (read k n f) at = yields-self o b s (f (laid o k (bytesAt n s (at - b)))) (at + n)
 yields-self o b s (skip n w) at = yields-self o b s w (at + n)

@@ -19,10 +19,11 @@ use Rattle.records.specs.declared.items.Holder.the-variants as Holder
 use Rattle.descriptions.specs.declared.Held.{Held}
 use Rattle.descriptions.specs.declared.Held.the-variants as Held
 use Rattle.descriptions.specs.declared.Places.{Places}
+use Rattle.descriptions.proofs.Parts.{at-nothing}
 use Rattle.recordings.specs.Answers.{Answer, value, refusal, outside, numbered, indexed}
 use Rattle.recordings.specs.Recordings.{Chosen, recordingOf, startOf, heldAt, at130}
 use Rattle.recordings.specs.Found.{FoundIn}
-use Rattle.recordings.proofs.Chosen.{no-value, One, ChosenIn, chosen-in}
+use Rattle.recordings.proofs.Chosen.{refusal-value, One, ChosenIn, chosen-in}
 use Rattle.recordings.proofs.Standing.{found-seen, found-ends}
 use Rattle.questions.specs.Questions.{itemsOf, itemsAt, itemIn, itemOf}
 use Rattle.questions.specs.Holding.{eventsIn, holdingOf}
@@ -75,10 +76,6 @@ unfolding numbered indexed
 numbered-none zero = refl
 numbered-none (suc j) = refl
 
--- a place that is held is not nothing
-no-place : {at : ℕ} → Held.At at ≡ Held.Nothing → ⊥
-no-place h = let z : _≡_ {A = ℕ} 0 1 = cc in omega arith
-
 -- a recording that was found, by the rules' value alone
 module _ (s : List ℕ) (b : Bytes s) (i : ℕ) (r : Chosen) (is : recordingOf s i ≡ value r) where
   abbrev chosen : ChosenIn s i r
@@ -105,7 +102,7 @@ module _ (s : List ℕ) (b : Bytes s) (i : ℕ) (r : Chosen) (is : recordingOf s
       go : (b : Bool) → r .this .recording .ownEvents ≡ b → numbered (pick b (r .this .recording .events) []) j ≡ value x →
           ItemAt (R.orderOf s) s (startOf r + r .this .layout .at200 + (24 + R.itemBytes (take (j - 1) (pick b (r .this .recording .events) [])))) x
       go true own nth = item-seen (events-held own) j nth
-      go false own nth = absurd (no-value (sym (numbered-none j) ∙ nth))
+      go false own nth = refusal-value (sym (numbered-none j) ∙ nth)
 
 -- a recording that the code found
 module _ {s : List ℕ} {i : ℕ} {o : Order} {q : Places} {r : Chosen} (f : FoundIn s i o q r) where
@@ -117,15 +114,15 @@ module _ {s : List ℕ} {i : ℕ} {o : Order} {q : Places} {r : Chosen} (f : Fou
       go : (b : Bool) → r .this .recording .ownEvents ≡ b → eventsIn b (pick b (startOf r + r .this .layout .at200) 0) ≡ Held.At at →
           ItemsSeen o s at (pick b (r .this .recording .events) []) × (at ≡ startOf r + r .this .layout .at200)
       go true own g = let e : at ≡ startOf r + r .this .layout .at200 = cc in (rw (e, f .order) (events-held s (f .bytes) i r (f .is) own), e)
-      go false own g = absurd (no-place (sym g))
+      go false own g = at-nothing (sym g)
 
   -- where it holds none, there are none
   holds-nothing : (k : Holder) → holdingOf k q ≡ Held.Nothing → itemsOf k r ≡ []
-  holds-nothing Holder.Patient h = absurd (no-place h)
+  holds-nothing Holder.Patient h = at-nothing h
   holds-nothing Holder.Event h = go (r .this .recording .ownEvents) (sym (ap (holdingOf Holder.Event) (f .same)) ∙ h)
     where
       go : (b : Bool) → eventsIn b (pick b (startOf r + r .this .layout .at200) 0) ≡ Held.Nothing → pick b (r .this .recording .events) [] ≡ []
-      go true g = absurd (no-place g)
+      go true g = at-nothing g
       go false g = refl
 
   pub asked-nothing : (k : Holder) (j : ℕ) → holdingOf k q ≡ Held.Nothing → refusal 19 0 ≡ itemOf k s i j

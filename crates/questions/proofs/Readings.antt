@@ -19,7 +19,7 @@ use Rattle.records.specs.declared.items.Holder.the-variants as Holder
 use Rattle.records.proofs.Facts.{between-in}
 use Rattle.recordings.specs.Answers.{Answer, value, refusal, _>>=_, indexed, numbered}
 use Rattle.recordings.specs.Recordings.{Chosen, recordingOf}
-use Rattle.recordings.proofs.Chosen.{no-value, numbered-out, chosen-in}
+use Rattle.recordings.proofs.Chosen.{refusal-value, numbered-out, chosen-in}
 use Rattle.samples.specs.Frames.{ChosenFrame, frameOf, timeOf, Samples, samplesOf}
 use Rattle.samples.proofs.Framing.{numbered-some, frameAt, this-one, frame-of}
 use Rattle.samples.proofs.Readings.{samples-many}
@@ -53,7 +53,7 @@ pub record Has {A B : Type 0} (P : A → B → Type 0) (x : A) (b : Answer B) : 
 
 pub alike-value : {A B : Type 0} {P : A → B → Type 0} {a : Answer A} {b : Answer B} {x : A} → Alike P a b → a ≡ value x → Has P x b
 alike-value {x} (values {a = z} {b = y} h) e = let d : z ≡ x = cc in record { given = y; is = refl; like = rw d at h }
-alike-value refusals e = absurd (no-value e)
+alike-value refusals e = refusal-value e
 
 pub alike-self : {A : Type 0} (a : Answer A) → Alike (λ x y. y ≡ x) a a
 alike-self (value x) = values refl

@@ -1,7 +1,7 @@
 -- One of a list, by its number: the element inside the range, and 19 outside. And what is known of a recording that was asked for and found.
 -- Assumes nothing.
 use mathlib.Core.Path.{_≡_, refl, sym, ap, _∙_}
-use mathlib.Core.Bool.{Bool, true, false, true≢false}
+use mathlib.Core.Bool.{Bool, true, false}
 use mathlib.Core.List.{List, [], _∷_}
 use Prim.Native.Nat.{ℕ, zero, suc, _-_, _≤_, _<_}
 use native.Mathlib.Omega.{arith}
@@ -10,6 +10,7 @@ use lib.Dec.{leb}
 use lib.ListN.{length, getD}
 use Rattle.words.specs.Numbers.{Bytes}
 use Rattle.walk.specs.Walk.{Event, Outcome, refused, passed}
+use Rattle.walk.proofs.Apart.{zero-one, false-true}
 use Rattle.rules.specs.Rules as R
 use Rattle.rules.proofs.Turn.{nothing-left}
 use Rattle.records.proofs.Facts.{between-in}
@@ -23,8 +24,8 @@ in-between low high n l m = rw (R.between, le-leb low n l, le-leb n high m)
 
 module _ {A : Type 0} where
   -- a refusal is no value
-  pub no-value : {n p : ℕ} {a : A} → _≡_ {A = Answer A} (refusal n p) (value a) → ⊥
-  no-value h = let z : _≡_ {A = ℕ} 0 1 = cc in omega arith
+  pub refusal-value : {X : Type 0} {n p : ℕ} {a : A} → _≡_ {A = Answer A} (refusal n p) (value a) → X
+  refusal-value h = zero-one (cc)
 
   value-one : (a b : A) → _≡_ {A = Answer A} (value a) (value b) → a ≡ b
   value-one a b e = cc
@@ -57,7 +58,7 @@ module _ {A : Type 0} where
     where
       go : (x : Bool) → leb (length l) i ≡ x → indexed l i ≡ outside
       go true e = indexed-out l i (leb-true (length l) i e)
-      go false e = let f = leb-false (length l) i e in absurd (true≢false (sym (in-between 1 (length l) (suc i) (omega arith) (omega arith)) ∙ h))
+      go false e = let f = leb-false (length l) i e in false-true (sym h ∙ in-between 1 (length l) (suc i) (omega arith) (omega arith))
 
   -- an element that was found: it stands inside the list, whatever would stand outside
   pub record One (l : List A) (i : ℕ) (a : A) : Type 0 where
@@ -66,19 +67,19 @@ module _ {A : Type 0} where
 
   pub indexed-one : (l : List A) (i : ℕ) {a : A} → indexed l i ≡ value a → One l i a
   unfolding indexed
-  indexed-one [] i h = absurd (no-value h)
+  indexed-one [] i h = refusal-value h
   indexed-one (x ∷ l) zero {a} h = record { inside = omega arith; is = λ d. value-one x a h }
   indexed-one (x ∷ l) (suc i) h = let o = indexed-one l i h in record { inside = omega (arith, o .inside); is = o .is }
 
   pub numbered-one : (l : List A) (n : ℕ) {a : A} → numbered l n ≡ value a → (1 ≤ n) × One l (n - 1) a
   unfolding numbered
-  numbered-one l zero h = absurd (no-value h)
+  numbered-one l zero h = refusal-value h
   numbered-one l (suc i) h = let e : suc i - 1 ≡ i = omega arith in (omega arith, rw e (indexed-one l i h))
 
 -- an answer by what it was answered before
 pub answered : {A B : Type 0} (x : Answer A) (k : A → Answer B) {b : B} → x >>= k ≡ value b → (a : A) × (x ≡ value a) × (k a ≡ value b)
 answered (value a) k h = (a, refl, h)
-answered (refusal n p) k h = absurd (no-value h)
+answered (refusal n p) k h = refusal-value h
 
 -- the file of a recording that was found, and its place among the file's recordings
 pub record ChosenIn (s : List ℕ) (i : ℕ) (r : Chosen) : Type 0 where
@@ -94,7 +95,7 @@ pub chosen-in : (s : List ℕ) → Bytes s → (i : ℕ) (r : Chosen) → record
 chosen-in s b i r h = go (R.judge s) refl h
   where
     go : (x : Outcome R.File) → R.judge s ≡ x → judged x i ≡ value r → ChosenIn s i r
-    go (refused n p) e k = absurd (no-value k)
+    go (refused n p) e k = refusal-value k
     go (passed v u t) e k =
         let a = answered (numbered (v .recordings) i) (λ x. value (record { all = v .recordings; index = i - 1; this = x })) k in
         let c : record { all = v .recordings; index = i - 1; this = a .0 } ≡ r = value-one _ _ (a .2) in

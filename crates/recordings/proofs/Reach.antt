@@ -1,7 +1,7 @@
 -- The recordings of an accepted file, one after the other, up to the one asked for: where each stands, and which 120 and 130 hold for it.
 -- Assumes nothing.
 use mathlib.Core.Path.{_≡_, refl, sym, ap, _∙_}
-use mathlib.Core.Bool.{Bool, true, false, true≢false}
+use mathlib.Core.Bool.{Bool, true, false}
 use mathlib.Core.List.{List, [], _∷_, _++_, append-assoc}
 use mathlib.Core.Option.{Option, none}
 use Prim.Native.Nat.{ℕ, zero, suc, _+_, _-_, _≤_, _<_}
@@ -13,6 +13,7 @@ use Rattle.words.specs.Numbers.{Bytes}
 use Rattle.words.specs.declared.Order.{Order}
 use Rattle.walk.specs.See.{goes, see}
 use Rattle.walk.specs.Walk.{pick, refused}
+use Rattle.walk.proofs.Apart.{false-true}
 use Rattle.rules.specs.Rules as R
 use Rattle.rules.specs.Places.{bytesBefore, holder}
 use Rattle.rules.specs.declared.FileHeader.{FileHeader}
@@ -102,7 +103,7 @@ module _ (own : R.Recording → Bool) where
         go : (c : Bool) → own (x .recording) ≡ c → (k : ℕ) → One ps k x → (k ≡ 0 → own (x .recording) ≡ true) → ((j : ℕ) (y : R.Placed) → k ≡ suc j → One ps j y → before ≡ heldAt own place (chosen ps j y)) →
             pick c (32 + bytesBefore k ps + place (x .layout)) before ≡ heldAt own place (chosen ps k x)
         go true e k o first later = sym (held-own k x o e)
-        go false e zero o first later = absurd (true≢false (sym (first refl) ∙ e))
+        go false e zero o first later = false-true (sym e ∙ first refl)
         go false e (suc j) o first later =
             let q : One ps j (getD ps j x) = record { inside = omega (arith, o .inside); is = λ d. getD-any d x ps j (omega (arith, o .inside)) } in
             later j (getD ps j x) refl q ∙ sym (held-before j x (getD ps j x) o q e)

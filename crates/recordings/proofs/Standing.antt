@@ -14,6 +14,7 @@ use Rattle.words.specs.Numbers.{Bytes, bytesAt, numberAt}
 use Rattle.words.specs.declared.Order.{Order}
 use Rattle.walk.specs.See.{goes, gate, see}
 use Rattle.walk.specs.Walk.{laid, Event, numeral, piece, blank, row, size, render, Walk, give, refuse, check, number, read, skip, list, Outcome, refused, passed, run}
+use Rattle.walk.proofs.Apart.{refused-passed}
 use Rattle.walk.proofs.Laid.{length-laid}
 use Rattle.walk.proofs.Laws.{size-cons, size-append}
 use Rattle.walk.proofs.Tracing.{by-logged}
@@ -23,14 +24,10 @@ use Rattle.rules.proofs.Places.{Found}
 use Rattle.rules.proofs.Turn.{tiled}
 
 module _ {A : Type 0} where
-  -- what was refused did not pass
-  no-pass : {n p : ℕ} {a : A} {r : List ℕ} {t : List Event} → _≡_ {A = Outcome A} (refused n p) (passed a r t) → ⊥
-  no-pass h = let z : _≡_ {A = ℕ} 0 1 = cc in omega arith
-
   -- a step that passed had room
   roomy : {X : Type 0} (c : Bool) (y : Outcome A) {a : A} {r : List ℕ} {t : List Event} → _≡_ {A = Outcome A} (elim c [ true ↦ y | false ↦ refused 0 0 ]) (passed a r t) → (c ≡ true → y ≡ passed a r t → X) → X
   roomy true y h k = k refl h
-  roomy false y h k = absurd (no-pass h)
+  roomy false y h k = refused-passed h
 
   -- behind an event of n bytes
   behind : (o : Order) (b : ℕ) (s : List ℕ) (at n : ℕ) (w : Walk A) (v : Event) (u : List Event) {a : A} {t : List Event} → t ≡ v ∷ u → size (v ∷ []) ≡ n → see o b s (at + n) w ≡ goes a (at + n + size u) → see o b s (at + n) w ≡ goes a (at + size t)
@@ -43,9 +40,9 @@ module _ {A : Type 0} where
         let i : x ≡ a = cc in
         let j : t ≡ [] = cc in
         rw (i, j, add-zero)
-    run-seen (refuse n p) at g q = absurd (no-pass q)
+    run-seen (refuse n p) at g q = refused-passed q
     run-seen (check true n p w) at g q = run-seen w at g q
-    run-seen (check false n p w) at g q = absurd (no-pass q)
+    run-seen (check false n p w) at g q = refused-passed q
     run-seen (number n f) at g q =
         let d : at - b + n ≡ at + n - b = omega arith in
         let v : ℕ = numberAt o n s (at - b) in

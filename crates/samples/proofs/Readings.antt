@@ -10,7 +10,7 @@ use Rattle.rules.specs.Rules.{samplesIn, width}
 use Rattle.rules.specs.Reading.{valueOf, samplesReading}
 use Rattle.rules.proofs.Renew.{All, SamplesOk}
 use Rattle.recordings.specs.Answers.{value, indexed, numbered}
-use Rattle.recordings.proofs.Chosen.{no-value}
+use Rattle.recordings.proofs.Chosen.{refusal-value}
 
 -- one of a list each of which is known
 pub all-one : {A : Type 0} (P : A → Type 0) (d : A) (l : List A) (i : ℕ) → i < length l → All P l → P (getD l i d)
@@ -33,12 +33,12 @@ module _ (t : ℕ) where
 
   reads-indexed : (cs : List R.Channel) (ss : List (List ℕ)) → SamplesOk t cs ss → (i : ℕ) {x : R.Channel} → indexed cs i ≡ value x → Reads cs ss i (suc i) x
   unfolding indexed numbered samplesReading
-  reads-indexed [] ss k i h = absurd (no-value h)
+  reads-indexed [] ss k i h = refusal-value h
   reads-indexed (c ∷ cs) [] k i h = absurd k
   reads-indexed (c ∷ cs) (s ∷ ss) k zero {x} h = let d : x ≡ c = cc in rw d (record { values = refl; count = k .0 })
   reads-indexed (c ∷ cs) (s ∷ ss) k (suc i) h = let r = reads-indexed cs ss (k .2) i h in record { values = r .values; count = r .count }
 
   pub reads-numbered : (cs : List R.Channel) (ss : List (List ℕ)) → SamplesOk t cs ss → (n : ℕ) {x : R.Channel} → numbered cs n ≡ value x → Reads cs ss (n - 1) n x
   unfolding numbered
-  reads-numbered cs ss k zero h = absurd (no-value h)
+  reads-numbered cs ss k zero h = refusal-value h
   reads-numbered cs ss k (suc i) h = let e : suc i - 1 ≡ i = omega arith in rw e (reads-indexed cs ss k i h)

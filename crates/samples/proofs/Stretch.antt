@@ -17,7 +17,7 @@ use Rattle.rules.specs.Rules.{sampleBytes, samplesIn, samplesOf, width}
 use Rattle.records.specs.Says.{Kept}
 use Rattle.records.proofs.Steps.{KeptOne}
 use Rattle.recordings.specs.Answers.{value, indexed}
-use Rattle.recordings.proofs.Chosen.{no-value}
+use Rattle.recordings.proofs.Chosen.{refusal-value}
 use Rattle.samples.specs.Asked.{RunInside, runOf, RunAt}
 use Rattle.samples.specs.Frames.{floatIn, numberIn}
 use Rattle.samples.specs.declared.Number.{Number}
@@ -52,7 +52,7 @@ module _ (o : Order) (s : List ℕ) (p format : ℕ) where
 -- one of a list is inside it
 pub indexed-within : {A : Type 0} (l : List A) (n : ℕ) {x : A} → indexed l n ≡ value x → n < length l
 unfolding indexed
-indexed-within [] n h = absurd (no-value h)
+indexed-within [] n h = refusal-value h
 indexed-within (a ∷ l) zero h = omega arith
 indexed-within (a ∷ l) (suc n) h = omega (arith, indexed-within l n h)
 
@@ -64,7 +64,7 @@ module _ (o : Order) (s : List ℕ) where
 
   pub kept-indexed : (p n : ℕ) (cs : List R.Channel) {x : R.Channel} → Kept o s p cs → indexed cs n ≡ value x → KeptOne o s (p + 256 * n) x
   unfolding indexed
-  kept-indexed p n [] k h = absurd (no-value h)
+  kept-indexed p n [] k h = refusal-value h
   kept-indexed p zero (c ∷ cs) {x} k h =
       let d : x ≡ c = cc in
       rw (d, add-zero p) (record { flags = k .0; format = k .1; rate = k .2 })
@@ -75,7 +75,7 @@ module _ (o : Order) (s : List ℕ) where
 -- the samples of the channels before it, and its own, are among those of all
 pub bytes-before : (t n : ℕ) (cs : List R.Channel) {x : R.Channel} → indexed cs n ≡ value x → sampleBytes t (take n cs) + width (x .format) * samplesIn t x ≤ sampleBytes t cs
 unfolding indexed sampleBytes
-bytes-before t n [] h = absurd (no-value h)
+bytes-before t n [] h = refusal-value h
 bytes-before t zero (c ∷ cs) {x} h =
     let d : x ≡ c = cc in
     rw (d, mul-comm (width (c .format)) (samplesIn t c)) (omega arith)

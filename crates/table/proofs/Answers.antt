@@ -10,6 +10,7 @@ use lib.IntN.{ℤ}
 use lib.ListN.{length}
 use Rattle.walk.specs.Walk as W
 use Rattle.walk.specs.Walk.{Row, refused}
+use Rattle.walk.proofs.Apart.{zero-one, false-true}
 use Rattle.walk.proofs.Unique.{one}
 use Rattle.rules.specs.Rules as R
 use Rattle.rules.specs.declared.FileHeader.{FileHeader}
@@ -18,9 +19,13 @@ use Rattle.judge.proofs.Accepted.{went, listed}
 use Rattle.children.specs.Recordings.{OfFile}
 use Rattle.rows.specs.Rows.{written}
 use Rattle.rows.specs.Listing.{Wrote}
-use Rattle.table.specs.Table.{Answer, rows, refusal, meaning, answerOf, afterwards, counted, kept, Lists}
+use Rattle.table.specs.Table.{Answer, rows, refusal, meaning, counted, kept, Lists}
 use Rattle.table.specs.declared.Listed.{Listed}
 use Rattle.table.specs.declared.Listed.the-variants as Listed
+
+-- an answer is no refusal
+pub rows-refusal : {X : Type 0} {n m p : ℕ} → rows n ≡ refusal m p → X
+rows-refusal h = zero-one (cc)
 
 -- a file that is refused
 pub lists-refused : (s : List ℕ) (out : List ℤ) {n p : ℕ} → R.judge s ≡ refused n p → Lists s out out (Listed.Refused (record { 0 = n; 1 = p }))
@@ -52,7 +57,7 @@ module _ (s : List ℕ) (h : FileHeader) (x : AcceptedAs s h) where
 
     leaves : out₁ ≡ out
     unfolding written
-    leaves = wrote-listed false out out₁ need first .holds (λ f. absurd (let z : _≡_ {A = ℕ} 0 1 = cc in omega arith))
+    leaves = wrote-listed false out out₁ need first .holds false-true
 
     pub lists-short : length out₁ < need → Lists s out out₁ (Listed.Refused (record { 0 = 17; 1 = need }))
     lists-short l =
