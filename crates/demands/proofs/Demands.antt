@@ -3,21 +3,24 @@
 use mathlib.Core.Path.{_≡_, refl, sym, ap, _∙_}
 use mathlib.Core.Bool.{true}
 use mathlib.Core.List.{List}
+use mathlib.Core.Option.{none}
 use Prim.Native.Nat.{ℕ, _+_, _*_, _≤_}
-use native.Mathlib.Omega.{arith}
 use borrow.Author.Tests.{le-leb}
 use denote.Ref.{RefT}
 use lib.IntN.{ℤ}
-use lib.ListN.{length, take, drop, length-drop}
-use lib.Seq.{take-at, length-take-le}
+use lib.ListN.{length, take, drop}
+use lib.Seq.{take-at}
 use Rattle.words.specs.Numbers.{Bytes, bytesAt}
-use Rattle.walk.specs.Walk.{Row, Event, Outcome, refused, passed, rows}
+use Rattle.words.specs.declared.Order.{Order}
+use Rattle.walk.specs.Walk.{Row, Event, refused, rows}
 use Rattle.rules.specs.Canonical.{rewritten, canonical}
 use Rattle.rules.specs.Reading.{ChannelReading, channelReading, reading}
 use Rattle.rules.specs.Rules as R
 use Rattle.rules.proofs.CanonicalForm.{canonical-form, form-unique}
 use Rattle.rules.proofs.Rewrite.{rewrite-bytes}
-use Rattle.rules.proofs.Turn.{is-render, nothing-left, turn-bytes}
+use Rattle.rules.proofs.Turn.{is-render, turn-bytes}
+use Rattle.header.specs.Letters.{lettered}
+use Rattle.header.specs.declared.Lettered.the-variants as Lettered
 use Rattle.judge.proofs.Verdicts.{judge-accepted, judge-refused}
 use Rattle.rows.specs.Rows.{written, flat}
 use Rattle.rows.proofs.Written.{length-flat}
@@ -37,56 +40,33 @@ use Rattle.questions.specs.Contracts.{ViewAnswer}
 use Rattle.questions.specs.Tied.{recordingRead, channelRead}
 use Rattle.questions.specs.Meanings.{meaningF, meaningD, meaningI, meaningT, meaningC, meaningS}
 use Rattle.questions.specs.Questions.{viewOf}
-use Rattle.questions.specs.Values.{textAt}
 use Rattle.questions.specs.declared.channels.ChannelTold.the-variants as ChannelTold
 use Rattle.questions.specs.declared.channels.Text.{Text}
 use Rattle.questions.specs.declared.items.ItemTold.the-variants as ItemTold
 use Rattle.questions.proofs.Texts.{channel-texts, item-text}
 use Rattle.questions.proofs.Views.{view-samples}
 use Rattle.questions.proofs.Unique.{facts-unique, channel-unique, patient-item-unique, event-item-unique, clock-unique, count-unique, sample-unique}
+use Rattle.makers.specs.Makers.{firstMaker}
 use Rattle.permit.specs.Permit as Permit
+use Rattle.permit.specs.declared.Written.{Written}
+use Rattle.permit.specs.declared.Written.the-variants as Written
+use Rattle.turn.specs.Turn.{Turns}
 use Rattle.turn.proofs.Answers.{turns-refused}
 use Rattle.turn.proofs.Demands.{turn-unique, turn-answers, turn-accepted, turn-twice}
+use Rattle.rewrite.specs.Rewrite.{barrier, Rewrites}
 use Rattle.rewrite.proofs.Answers.{rewrites-refused}
 use Rattle.rewrite.proofs.Demands.{rewrite-unique, rewrite-answers, rewrite-accepted, rewrite-both}
-use Rattle.demands.specs.Demands.{ofFile, AtStart, Shown, Demand-1, Accepted, HandsUp, TableHolds, Tells, Demand-2, SameEnd, SameNumbers, Demand-3}
+use Rattle.answers.specs.declared.Counted.{Counted}
+use Rattle.psg.specs.Calls.{TableAnswers}
+use Rattle.demands.specs.Boundary.{listedParts, writtenParts}
+use Rattle.demands.specs.Demands.{ofFile, Demand-1, Accepted, HandsUp, TableHolds, Tells, WrittenAnew, Demand-2, SameEnd, SameNumbers, BoundarySame, Same, Demand-3}
 use Rattle.demands.proofs.Agreeing.{agree-first, numbered-image}
 use Rattle.demands.proofs.Refusing.{of-file, table-refuses, table-keeps, turn-refuses, turn-keeps, rewrite-refuses, rewrite-keeps, question, proper-facts, proper-channel, proper-item, proper-clock, proper-count, proper-sample}
-use Rattle.demands.proofs.Samples.{recording-picked, view-inside, view-words, view-refused, view-none}
+use Rattle.demands.proofs.Samples.{recording-picked, view-words}
 use Rattle.demands.proofs.Telling.{channel-words, facts-told, channel-agrees, clock-told, count-told, sample-told}
-
--- A view
-
--- it lies in the file, whatever that is
-view-in : (s : List ℕ) → Bytes s → (i j k : ℕ) → viewOf s i j k .at + viewOf s i j k .length ≤ length s
-view-in s b i j k = go (R.judge s) refl
-  where
-    go : (x : Outcome R.File) → R.judge s ≡ x → viewOf s i j k .at + viewOf s i j k .length ≤ length s
-    go (refused n p) e = rw e (omega arith)
-    go (passed v l t) e = view-inside s b (e ∙ ap (λ (y : List ℕ). passed v y t) (nothing-left s b e)) i j k
-
-module _ (file : RefT (List ℕ)) (b : Bytes (file .now)) (i j k : ℕ) (r : RefT (List ℕ)) (x : ViewAnswer file i j k r) where
-  view-long : length (r .now) ≡ viewOf (file .now) i j k .length
-  unfolding bytesAt
-  view-long =
-      let p : Text = viewOf (file .now) i j k in
-      ap length (x .bytes) ∙ length-take-le (p .length) (drop (p .at) (file .now)) (rw length-drop (omega (arith, view-in (file .now) b i j k)))
-
-  at-start : viewOf (file .now) i j k ≡ textAt 0 0 → AtStart (viewOf (file .now) i j k .at) r
-  unfolding bytesAt
-  at-start z = record { first = ap (λ (q : Text). q .at) z; empty = x .bytes ∙ ap (λ (q : Text). bytesAt (q .length) (file .now) (q .at)) z }
-
-  shown : Shown file i j k r
-  unfolding bytesAt
-  shown = record {
-    at = viewOf (file .now) i j k .at;
-    block = x .block;
-    offset = x .offset;
-    inside = rw view-long (view-in (file .now) b i j k);
-    bytes = x .bytes ∙ ap (λ (n : ℕ). bytesAt n (file .now) (viewOf (file .now) i j k .at)) (sym view-long);
-    refused = λ u c. at-start (view-refused (file .now) i j k c);
-    none = λ c. at-start (view-none (file .now) i j k c);
-  }
+use Rattle.demands.proofs.Viewing.{view-long, shown}
+use Rattle.demands.proofs.Boundary.{boundary, boundary-judges, table-apart, turn-apart, rewrite-apart}
+use Rattle.demands.proofs.BoundaryTold.{boundary-tells}
 
 pub demand-1 : (s : List ℕ) → Bytes s → Demand-1 s
 demand-1 s b = record {
@@ -105,6 +85,7 @@ demand-1 s b = record {
   count = λ i j k a x. question s meaningC CountTold.Refused (λ r. refl) (proper-count s i j k) a x;
   sample = λ i j k n a x. question s meaningS SampleTold.Refused (λ r. refl) (proper-sample s i j k n) a x;
   view = λ file e i j k r x. shown file (rw e b) i j k r x;
+  boundary = boundary s b;
 }
 
 -- Demand 2
@@ -128,7 +109,7 @@ written-front : (out : List ℤ) (rs : List Row) → take (4 * length rs) (writt
 unfolding written
 written-front out rs = take-at (flat rs) (drop (0 + 4 * length rs) out) (4 * length rs) (length-flat rs)
 
-described : (s : List ℕ) {v : R.File} {t : List Event} → Accepted s v t → (out out′ : List ℤ) (a : Listed) → 4 * length (rows 0 t) ≤ length out → Lists s out out′ a → TableHolds (rows 0 t) out′ a
+described : (s : List ℕ) {v : R.File} {t : List Event} → Accepted s v t → (out out′ : List ℤ) (a : Listed) → 4 * length (rows 0 t) ≤ length out → Lists s out out′ a → TableHolds Listed.Rows (rows 0 t) out′ a
 described s {v} {t} h out out′ a room x =
     let l = le-leb (4 * length (rows 0 t)) (length out) room in
     let y = table-unique s out out′ (written true out 0 (rows 0 t)) a (Listed.Rows (length (rows 0 t))) x (record { answer = rw (h, l); buffer = rw (h, l) }) in
@@ -147,6 +128,30 @@ tells s b h = record {
   view = λ i j k a x. rw x (view-samples s b h i j k);
 }
 
+-- the file that `rewrite` wrote, whatever tells its length
+module _ (s : List ℕ) (b : Bytes s) {v : R.File} {t : List Event} (h : Accepted s v t) (order : ℕ) (to : Order) (names : lettered order ≡ Lettered.Names to) (free : barrier (R.orderOf s) to (firstMaker (rows 0 t)) ≡ none)
+    (out out′ : List ℕ) (c : Written) (room : length (rewritten to s) ≤ length out) (x : Rewrites s order out out′ c) where
+  rewrite-told : c ≡ Written.Bytes (length (rewritten to s))
+  rewrite-told = rewrite-answers s h order to names free out out′ c room x .0
+
+  written-anew : {E : Type 0} {wrote : ℕ → E} (a : E) → a ≡ wrote (length (rewritten to s)) → WrittenAnew wrote (reading v) to out′ a
+  written-anew a e =
+      let y = rewrite-answers s h order to names free out out′ c room x in
+      let z = rewrite-accepted s h order to names free out out′ c room x b in
+      let bs : Bytes (take (length (rewritten to s)) out′) = rw (y .1) (rewrite-bytes s b h to) in
+      let form = canonical-form (reading v) (take (length (rewritten to s)) out′) bs (z .0) in
+      record {
+        count = length (rewritten to s);
+        answer = e;
+        file = z .0 .file;
+        events = canonical (reading v);
+        accepted = z .0 .judged;
+        same = z .0 .same;
+        order = z .1;
+        form = form;
+        only = λ q u m d k f e o. form-unique q _ d bs k (z .0 .judged) (e ∙ sym (z .0 .same)) f form (o ∙ sym (z .1));
+      }
+
 pub demand-2 : (s : List ℕ) → Bytes s → Demand-2 s
 demand-2 s b = record {
   judges = λ a x. record {
@@ -158,22 +163,16 @@ demand-2 s b = record {
   refuses = hands-up s;
   lists = λ v t h out out′ a room x. described s h out out′ a room x;
   answers = λ v t h. tells s b h;
-  rewrites = λ v t h order to names free out out′ a room x.
-      let y = rewrite-answers s h order to names free out out′ a room x in
-      let z = rewrite-accepted s h order to names free out out′ a room x b in
-      let bs : Bytes (take (length (rewritten to s)) out′) = rw (y .1) (rewrite-bytes s b h to) in
-      let form = canonical-form (reading v) (take (length (rewritten to s)) out′) bs (z .0) in
-      record {
-        count = length (rewritten to s);
-        answer = y .0;
-        file = z .0 .file;
-        events = canonical (reading v);
-        accepted = z .0 .judged;
-        same = z .0 .same;
-        order = z .1;
-        form = form;
-        only = λ q u m d k f e o. form-unique q _ d bs k (z .0 .judged) (e ∙ sym (z .0 .same)) f form (o ∙ sym (z .1));
-      };
+  rewrites = λ v t h order to names free out out′ a room x. written-anew s b h order to names free out out′ a room x a (rewrite-told s b h order to names free out out′ a room x);
+  boundary-judges = boundary-judges s b;
+  boundary-lists = λ v t h out out′ a room x.
+      let y = table-apart s b out out′ a x in
+      let z = described s h out out′ (y .told) room (y .met) in
+      record { answer = y .same ∙ ap (listedParts .apart) (z .answer); holds = z .holds };
+  boundary-answers = λ v t h. boundary-tells s b h;
+  boundary-rewrites = λ v t h order to names free out out′ a room x.
+      let y = rewrite-apart s b order out out′ a x in
+      written-anew s b h order to names free out out′ (y .told) room (y .met) a (y .same ∙ ap (writtenParts .apart) (rewrite-told s b h order to names free out out′ (y .told) room (y .met)));
 }
 
 -- Demand 3
@@ -184,6 +183,9 @@ module _ (s s′ : List ℕ) (e : R.judge s′ ≡ R.judge s) where
   table-same out out₁ out₂ a c x y =
       let z = table-unique s out out₁ out₂ a c x (record { answer = rw e at (y .answer); buffer = rw e at (y .buffer) }) in
       record { answer = z .0; buffer = z .1 }
+
+  boundary-table-same : (out out₁ out₂ : List ℤ) (a c : Counted) → TableAnswers s out out₁ a → TableAnswers s′ out out₂ c → SameEnd a c out₁ out₂
+  boundary-table-same out out₁ out₂ a c x y = record { answer = x .answers ∙ (rw e) ∙ sym (y .answers); buffer = x .holds ∙ (rw e) ∙ sym (y .holds) }
 
 -- the channel of a reading is that of the file's value
 module _ (s : List ℕ) {v : R.File} {t : List Event} (h : Accepted s v t) (i k : ℕ) (c : ChannelReading) (has : channelRead (reading v) i k ≡ value c) where
@@ -225,14 +227,42 @@ module _ (i j k : ℕ) (file r file′ r′ : RefT (List ℕ)) (b : Bytes (file 
         });
   }
 
-pub demand-3 : (s : List ℕ) → Bytes s → Demand-3 s
-demand-3 s b = record {
-  answers = λ v t h free out out′ a room x. turn-answers s h free b out out′ a room x .0;
-  turned = λ v t h free out out′ a room x.
-      let s′ : List ℕ = take (length s) out′ in
+-- the file that `turn` wrote of an accepted one without makers' records
+module _ (s : List ℕ) (b : Bytes s) {v : R.File} {t : List Event} (h : Accepted s v t) (free : firstMaker (rows 0 t) ≡ none) (out out′ : List ℕ) (a : Written) (room : length s ≤ length out) (x : Turns s out out′ a) where
+  abbrev s′ : List ℕ
+  s′ = take (length s) out′
+
+  turned-bytes : Bytes s′
+  turned-bytes = rw (turn-answers s h free b out out′ a room x .1) (turn-bytes s b h)
+
+  boundary-same : BoundarySame s s′
+  boundary-same =
+      let e : R.judge s′ ≡ R.judge s = turn-accepted s h free b out out′ a room x .0 ∙ sym h in
+      record {
+        table = boundary-table-same s s′ e;
+        facts = λ i a c x y. x ∙ (rw e) ∙ sym y;
+        channel = λ i j a c x y. x ∙ (rw e) ∙ sym y;
+        patient-item = λ i j a c x y. x ∙ (rw e) ∙ sym y;
+        event-item = λ i j a c x y. x ∙ (rw e) ∙ sym y;
+        clock = λ i j a c x y. x ∙ (rw e) ∙ sym y;
+        count = λ i j k a c x y. x ∙ (rw e) ∙ sym y;
+        sample = λ i j k n a c x y. x ∙ (rw e) ∙ sym y;
+        view = λ i j k a c x y. x ∙ (rw e) ∙ sym y;
+        back = λ out₂ out₂′ c l z.
+            let y = turn-apart s′ turned-bytes out₂ out₂′ c z in
+            let w = turn-twice s h free b out out′ a room x out₂ out₂′ (y .told) l (y .met) in
+            record { answer = y .same ∙ ap (writtenParts .apart) (w .0); holds = w .1 };
+        anew = λ order to names out₁ out₁′ c l₁ x₁ out₂ out₂′ d l₂ x₂.
+            let y₁ = rewrite-apart s b order out₁ out₁′ c x₁ in
+            let y₂ = rewrite-apart s′ turned-bytes order out₂ out₂′ d x₂ in
+            let w = rewrite-both s b h free out out′ a room x order to names out₁ out₁′ (y₁ .told) l₁ (y₁ .met) out₂ out₂′ (y₂ .told) l₂ (y₂ .met) in
+            record { answer = y₁ .same ∙ (ap (writtenParts .apart) (w .0) ∙ sym (y₂ .same)); front = w .1 };
+      }
+
+  says-the-same : Same s (reading v) s′
+  says-the-same =
       let y = turn-accepted s h free b out out′ a room x in
       let e : R.judge s′ ≡ R.judge s = y .0 ∙ sym h in
-      let b′ : Bytes s′ = rw (turn-answers s h free b out out′ a room x .1) (turn-bytes s b h) in
       record {
         file = v;
         events = t;
@@ -248,10 +278,18 @@ demand-3 s b = record {
         clock = λ i j a c x y. clock-unique s i j a c x (rw e at y);
         count = λ i j k a c x y. count-unique s i j k a c x (rw e at y);
         sample = λ i j k n a c x y. sample-unique s i j k n a c x (rw e at y);
-        view = λ i j k file r file′ r′ f f′ x x′. same-numbers i j k file r file′ r′ (rw f b) (rw f′ b′) {v = v} {t = t} (rw f h) (rw f′ (y .0)) x x′;
+        view = λ i j k file r file′ r′ f f′ x x′. same-numbers i j k file r file′ r′ (rw f b) (rw f′ turned-bytes) {v = v} {t = t} (rw f h) (rw f′ (y .0)) x x′;
         back = λ out₂ out₂′ c l z. let w = turn-twice s h free b out out′ a room x out₂ out₂′ c l z in record { answer = w .0; holds = w .1 };
         anew = λ order to names out₁ out₁′ c l₁ x₁ out₂ out₂′ d l₂ x₂.
             let w = rewrite-both s b h free out out′ a room x order to names out₁ out₁′ c l₁ x₁ out₂ out₂′ d l₂ x₂ in
             record { answer = w .0; front = w .1 };
-      };
+        boundary = boundary-same;
+      }
+
+pub demand-3 : (s : List ℕ) → Bytes s → Demand-3 s
+demand-3 s b = record {
+  answers = λ v t h free out out′ a room x. turn-answers s h free b out out′ a room x .0;
+  turned = λ v t h free out out′ a room x. says-the-same s b h free out out′ a room x;
+  boundary-answers = λ v t h free out out′ a room x. let y = turn-apart s b out out′ a x in y .same ∙ ap (writtenParts .apart) (turn-answers s h free b out out′ (y .told) room (y .met) .0);
+  boundary-turned = λ v t h free out out′ a room x. let y = turn-apart s b out out′ a x in says-the-same s b h free out out′ (y .told) room (y .met);
 }

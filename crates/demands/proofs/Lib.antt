@@ -3,6 +3,9 @@ pub mod Refusing
 pub mod Agreeing
 pub mod Samples
 pub mod Telling
-pub mod Demands
 pub mod Floats
+pub mod Viewing
+pub mod Boundary
+pub mod BoundaryTold
+pub mod Demands
 pub mod Periods

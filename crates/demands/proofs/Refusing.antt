@@ -133,7 +133,7 @@ module _ (s : List ℕ) where
   proper-outside = out-of-range ofQuestion (length s) 0 (refusalOf 19 0) (or-right (ofFile 19) refl) refl refl
 
   module _ {A : Type 0} where
-    abbrev Proper : Answer A → Type 0
+    abbrev pub Proper : Answer A → Type 0
     Proper (value a) = Unit {0}
     Proper (refusal n p) = Refuses ofQuestion (length s) 0 (refusalOf n p)
 

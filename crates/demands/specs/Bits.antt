@@ -6,16 +6,19 @@ use Prim.Native.Nat.{ℕ, _+_, _*_, _≤_}
 use lib.Dec.{eqb}
 use lib.IntN.{ℤ, pos}
 use lib.ListN.{length}
-use Rattle.words.specs.Numbers.{numberAt}
+use Rattle.words.specs.Numbers.{bytesAt, numberAt}
 use Rattle.words.specs.Values.{signed}
 use Rattle.walk.specs.Walk.{pick}
 use Rattle.rules.specs.Rules.{orderOf, width}
 use Rattle.rules.specs.Reading.{Value, whole, float, ChannelReading, Reading}
 use Rattle.recordings.specs.Answers.{value}
 use Rattle.questions.specs.Questions.{viewOf}
-use Rattle.questions.specs.Tied.{channelRead, formatIn}
+use Rattle.questions.specs.Tied.{channelRead, NumbersAre, TextsAre, formatIn, valuesAt}
+use Rattle.questions.specs.declared.channels.Descriptor.{Descriptor}
+use Rattle.answers.specs.Flat.{flatChannel}
 use Rattle.answers.specs.declared.Channel.{Channel}
 use Rattle.answers.specs.declared.Sample.{Sample}
+use Rattle.answers.specs.declared.View.{View}
 
 -- the value that is answered: a float by its 32 bits, or a whole number
 abbrev pub valueIn : (isFloat bits : ℕ) → ℤ → Value
@@ -45,6 +48,12 @@ pub record CalibrationIs (s : List ℕ) (j : ℕ) (a : Channel) (c : ChannelRead
   pub floats : a .format ≡ pos 4 → a .«is_float» ≡ 1
   pub numbers : (a .format ≡ pos 4 → ⊥) → a .«is_float» ≡ 0
 
+-- the descriptor d of channel j, and its numbers for C, are those of the reading's channel c
+pub record ChannelIs (s : List ℕ) (j : ℕ) (d : Descriptor) (c : ChannelReading) : Type 0 where
+  pub numbers : NumbersAre d c
+  pub texts : TextsAre s d c
+  pub calibration : CalibrationIs s j (flatChannel (value d)) c
+
 -- A sample
 
 -- a float: its bits are the word at byte p of the file
@@ -67,3 +76,14 @@ pub record SampleIs (s : List ℕ) (v : Reading) (i j k n : ℕ) (a : Sample) (x
   -- the file's word
   pub floats : formatIn channel ≡ 4 → FloatAt s (viewOf s i j k .at + 4 * n) a
   pub numbers : (formatIn channel ≡ 4 → ⊥) → WholeNumberAt s (width (formatIn channel)) (viewOf s i j k .at + width (formatIn channel) * n) a
+
+-- the part a of the file is the samples vs that the reading v has of channel k of recording i
+pub record PartIs (s : List ℕ) (v : Reading) (i k : ℕ) (a : View) (vs : List Value) : Type 0 where
+  -- the channel
+  pub channel : ChannelReading
+  pub described : channelRead v i k ≡ value channel
+  -- in the file, and so many numbers of the format's width
+  pub inside : a .start + a .length ≤ length s
+  pub long : a .length ≡ width (formatIn channel) * length vs
+  -- read in the file's order
+  pub shows : valuesAt (orderOf s) (formatIn channel) (length vs) (bytesAt (a .length) s (a .start)) 0 ≡ vs

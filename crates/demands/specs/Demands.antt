@@ -15,10 +15,10 @@ use Rattle.words.specs.Numbers.{Bytes, bytesAt, other}
 use Rattle.words.specs.Runs.{numbersIn}
 use Rattle.words.specs.Values.{unsigned}
 use Rattle.words.specs.declared.Order.{Order}
-use Rattle.walk.specs.Walk.{pick, Row, Event, Outcome, refused, passed, rows}
+use Rattle.walk.specs.Walk.{Row, Event, Outcome, refused, passed, rows}
 use Rattle.rules.specs.Canonical.{rewritten}
 use Rattle.rules.specs.CanonicalForm.{CanonicalForm}
-use Rattle.rules.specs.Reading.{Value, whole, float, ChannelReading, ItemReading, FrameReading, RecordingReading, Reading, reading}
+use Rattle.rules.specs.Reading.{Value, whole, float, ChannelReading, FrameReading, RecordingReading, Reading, reading}
 use Rattle.rules.specs.Rules as R
 use Rattle.rules.specs.declared.FileHeader.{FileHeader}
 use Rattle.rules.specs.declared.Refusal.{Refusal}
@@ -32,7 +32,7 @@ use Rattle.rows.specs.Rows.{flat}
 use Rattle.table.specs.Table.{Lists}
 use Rattle.table.specs.declared.Listed.{Listed}
 use Rattle.table.specs.declared.Listed.the-variants as Listed
-use Rattle.recordings.specs.Answers.{Answer, value, refusal, _>>=_, indexed, numbered}
+use Rattle.recordings.specs.Answers.{Answer, value, refusal, _>>=_}
 use Rattle.recordings.specs.declared.Counts.{Counts}
 use Rattle.recordings.specs.declared.FactsTold.{FactsTold}
 use Rattle.recordings.specs.declared.FactsTold.the-variants as FactsTold
@@ -53,7 +53,6 @@ use Rattle.questions.specs.declared.channels.Calibration.the-variants as Calibr
 use Rattle.questions.specs.declared.channels.ChannelTold.{ChannelTold}
 use Rattle.questions.specs.declared.channels.ChannelTold.the-variants as ChannelTold
 use Rattle.questions.specs.declared.channels.Descriptor.{Descriptor}
-use Rattle.questions.specs.declared.items.Entry.{Entry}
 use Rattle.questions.specs.declared.items.ItemTold.{ItemTold}
 use Rattle.questions.specs.declared.items.ItemTold.the-variants as ItemTold
 use Rattle.makers.specs.Makers.{firstMaker}
@@ -61,6 +60,18 @@ use Rattle.permit.specs.declared.Written.{Written}
 use Rattle.permit.specs.declared.Written.the-variants as Written
 use Rattle.turn.specs.Turn.{Turns}
 use Rattle.rewrite.specs.Rewrite.{barrier, rewrittenIn, Rewrites}
+use Rattle.answers.specs.Flat.{counted, flatFacts, flatChannel, flatItem, flatClock, flatCount, flatSample}
+use Rattle.answers.specs.declared.Channel.{Channel}
+use Rattle.answers.specs.declared.Clock.{Clock}
+use Rattle.answers.specs.declared.Counted.{Counted}
+use Rattle.answers.specs.declared.Facts.{Facts}
+use Rattle.answers.specs.declared.Header.{Header}
+use Rattle.answers.specs.declared.Item.{Item}
+use Rattle.answers.specs.declared.Sample.{Sample}
+use Rattle.answers.specs.declared.View.{View}
+use Rattle.psg.specs.Calls.{JudgeAnswers, TableAnswers, TurnAnswers, RewriteAnswers, FactsAnswers, ChannelAnswers, PatientItemAnswers, EventItemAnswers, ClockAnswers, CountAnswers, SampleAnswers, ViewAnswers}
+use Rattle.demands.specs.Bits.{ChannelIs, SampleIs, PartIs}
+use Rattle.demands.specs.Boundary.{Parts, stoppedBy, headedBy, unheadedBy, judgeParts, listedParts, writtenParts, factsParts, channelParts, itemParts, clockParts, countParts, sampleParts}
 
 -- Demand 1: every call answers, with a value or with a refusal that document 01 gives for it; and a buffer keeps what the answer does not state
 
@@ -79,6 +90,9 @@ ofRewrite n = ofFile n || (eqb n 19 || (eqb n 18 || eqb n 17))
 
 abbrev pub ofQuestion : ℕ → Bool
 ofQuestion n = ofFile n || eqb n 19
+
+abbrev pub refusalOf : ℕ → ℕ → Refusal
+refusalOf n p = record { 0 = n; 1 = p }
 
 -- the refusal r, of a file of `size` bytes, by a call that has these numbers and needs so many elements of its buffer
 pub record Refuses (numbers : ℕ → Bool) (size need : ℕ) (r : Refusal) : Type 0 where
@@ -130,6 +144,48 @@ abbrev pub listedRows : Outcome R.File → List Row
 listedRows (refused n p) = []
 listedRows (passed v l t) = rows 0 t
 
+-- what C is answered, a, of a call about the file s whose answers are taken apart by c, that has these numbers and needs so many elements of its buffer
+pub record TakenApart {E A : Type 0} (s : List ℕ) (c : Parts E A) (meets : E → Type 0) (numbers : ℕ → Bool) (need : ℕ) (a : A) : Type 0 where
+  -- the answer of the call of Rattle, for the same file and buffer: what the demands say of it holds
+  pub told : E
+  pub met : meets told
+  pub same : a ≡ c .apart told
+  -- of a file that the rules refuse, their refusal
+  pub handed : (n p : ℕ) → R.judge s ≡ refused n p → a ≡ c .apart (c .refuse (refusalOf n p))
+  -- the number 0: it is no refusal
+  pub answered : c .says a .0 ≡ 0 → (r : Refusal) → told ≡ c .refuse r → ⊥
+  -- another: it is this refusal, one of the call's, and all else in a is 0
+  pub refused : 1 ≤ c .says a .0 → told ≡ c .refuse (c .says a)
+  pub proper : 1 ≤ c .says a .0 → Refuses numbers (length s) need (c .says a)
+  pub rest : 1 ≤ c .says a .0 → a ≡ c .apart (c .refuse (c .says a))
+
+-- the part a of the file that C is told
+pub record PartTold (file : RefT (List ℕ)) (i j k : ℕ) (a : View) : Type 0 where
+  -- what `view` answers of the same file
+  pub told : RefT (List ℕ)
+  pub met : ViewAnswer file i j k told
+  -- it, and whatever else `view` may answer, begins there and is as long
+  pub start : (r : RefT (List ℕ)) → ViewAnswer file i j k r → r .ptr .1 ≡ file .ptr .1 + a .start
+  pub long : (r : RefT (List ℕ)) → ViewAnswer file i j k r → length (r .now) ≡ a .length
+
+-- of the file s: what C is answered by each call that it links
+pub record Boundary (s : List ℕ) : Type 0 where
+  pub judge : (a : Header) → JudgeAnswers s a → TakenApart s judgeParts (JudgedAs s) ofFile 0 a
+  pub table : (out out′ : List ℤ) (a : Counted) → TableAnswers s out out′ a → TakenApart s listedParts (Lists s out out′) ofTable (4 * length (listedRows (R.judge s))) a
+  pub table-keeps : (out out′ : List ℤ) (a : Counted) → TableAnswers s out out′ a → KeepsRest stoppedBy counted 4 out out′ a
+  pub turn : (out out′ : List ℕ) (a : Counted) → TurnAnswers s out out′ a → TakenApart s writtenParts (Turns s out out′) ofTurn (length s) a
+  pub turn-keeps : (out out′ : List ℕ) (a : Counted) → TurnAnswers s out out′ a → KeepsRest stoppedBy counted 1 out out′ a
+  pub rewrite : (order : ℕ) (out out′ : List ℕ) (a : Counted) → RewriteAnswers s order out out′ a → TakenApart s writtenParts (Rewrites s order out out′) ofRewrite (length (rewrittenIn (lettered order) s)) a
+  pub rewrite-keeps : (order : ℕ) (out out′ : List ℕ) (a : Counted) → RewriteAnswers s order out out′ a → KeepsRest stoppedBy counted 1 out out′ a
+  pub facts : (i : ℕ) (a : Facts) → FactsAnswers s i a → TakenApart s factsParts (FactsAnswer s i) ofQuestion 0 a
+  pub channel : (i j : ℕ) (a : Channel) → ChannelAnswers s i j a → TakenApart s channelParts (ChannelAnswer s i j) ofQuestion 0 a
+  pub patient-item : (i j : ℕ) (a : Item) → PatientItemAnswers s i j a → TakenApart s itemParts (PatientItemAnswer s i j) ofQuestion 0 a
+  pub event-item : (i j : ℕ) (a : Item) → EventItemAnswers s i j a → TakenApart s itemParts (EventItemAnswer s i j) ofQuestion 0 a
+  pub clock : (i j : ℕ) (a : Clock) → ClockAnswers s i j a → TakenApart s clockParts (ClockAnswer s i j) ofQuestion 0 a
+  pub count : (i j k : ℕ) (a : Counted) → CountAnswers s i j k a → TakenApart s countParts (CountAnswer s i j k) ofQuestion 0 a
+  pub sample : (i j k n : ℕ) (a : Sample) → SampleAnswers s i j k n a → TakenApart s sampleParts (SampleAnswer s i j k n) ofQuestion 0 a
+  pub view : (file : RefT (List ℕ)) → file .now ≡ s → (i j k : ℕ) (a : View) → ViewAnswers s i j k a → PartTold file i j k a
+
 -- of the file s: what each public call answers, whatever else it is asked
 pub record Demand-1 (s : List ℕ) : Type 0 where
   -- judge
@@ -152,6 +208,8 @@ pub record Demand-1 (s : List ℕ) : Type 0 where
   pub count : (i j k : ℕ) (a : CountTold) → CountAnswer s i j k a → Answered CountTold.Refused ofQuestion (length s) 0 a
   pub sample : (i j k n : ℕ) (a : SampleTold) → SampleAnswer s i j k n a → Answered SampleTold.Refused ofQuestion (length s) 0 a
   pub view : (file : RefT (List ℕ)) → file .now ≡ s → (i j k : ℕ) (r : RefT (List ℕ)) → ViewAnswer file i j k r → Shown file i j k r
+  -- each call that C links answers the same, taken apart; its number 0 is never a refusal
+  pub boundary : Boundary s
 
 -- Demand 2: a file is accepted exactly when the rules accept it, every answer is what they say, and a file written anew is the canonical one
 
@@ -163,16 +221,13 @@ Accepted s v t = R.judge s ≡ passed v [] t
 abbrev pub headerOf : List ℕ → R.File → FileHeader
 headerOf s v = record { order = R.orderOf s; heading = record { script = v .heading .script }; count = length (v .recordings) }
 
-abbrev pub refusalOf : ℕ → ℕ → Refusal
-refusalOf n p = record { 0 = n; 1 = p }
-
-pub record JudgesByRules (s : List ℕ) (a : Judged) : Type 0 where
+pub record JudgesByRules {E : Type 0} (accept : FileHeader → E) (refuse : Refusal → E) (s : List ℕ) (a : E) : Type 0 where
   -- accepted exactly when the rules accept
-  pub accepts : (v : R.File) (t : List Event) → Accepted s v t → a ≡ Judged.Accepted (headerOf s v)
-  pub accepted : (h : FileHeader) → a ≡ Judged.Accepted h → AcceptedAs s h
+  pub accepts : (v : R.File) (t : List Event) → Accepted s v t → a ≡ accept (headerOf s v)
+  pub accepted : (h : FileHeader) → a ≡ accept h → AcceptedAs s h
   -- refused exactly when they refuse, by their number and at their position
-  pub refuses : (n p : ℕ) → R.judge s ≡ refused n p → a ≡ Judged.Refused (refusalOf n p)
-  pub refused : (n p : ℕ) → a ≡ Judged.Refused (refusalOf n p) → R.judge s ≡ refused n p
+  pub refuses : (n p : ℕ) → R.judge s ≡ refused n p → a ≡ refuse (refusalOf n p)
+  pub refused : (n p : ℕ) → a ≡ refuse (refusalOf n p) → R.judge s ≡ refused n p
 
 -- every other call hands the rules' refusal up
 pub record HandsUp (s : List ℕ) (n p : ℕ) : Type 0 where
@@ -188,8 +243,8 @@ pub record HandsUp (s : List ℕ) (n p : ℕ) : Type 0 where
   pub sample : (i j k m : ℕ) (a : SampleTold) → SampleAnswer s i j k m a → a ≡ SampleTold.Refused (refusalOf n p)
 
 -- the table of these rows: how many, and the numbers of each in front
-pub record TableHolds (rs : List Row) (out′ : List ℤ) (a : Listed) : Type 0 where
-  pub answer : a ≡ Listed.Rows (length rs)
+pub record TableHolds {E : Type 0} (wrote : ℕ → E) (rs : List Row) (out′ : List ℤ) (a : E) : Type 0 where
+  pub answer : a ≡ wrote (length rs)
   pub holds : take (4 * length rs) out′ ≡ flat rs
 
 -- What an answer of the code tells, as the reading has it: a float is its bits
@@ -250,11 +305,28 @@ pub record Tells (s : List ℕ) (g : Reading) : Type 0 where
   -- the bytes of a view, by the channel's width and the file's order, are the reading's samples, as many as are counted
   pub view : (i j k : ℕ) (a : CountTold) → CountAnswer s i j k a → Alike (ViewIs s g i j k) (meaningC a) (samplesRead g i j k)
 
--- what `rewrite` wrote of a file with the reading g, in the order `to`
-pub record WrittenAnew (g : Reading) (to : Order) (out′ : List ℕ) (a : Written) : Type 0 where
+-- what C is answered, a, is an answer taken apart that is alike with what the reading has
+pub record TellsApart {X Y A : Type 0} (apart : Answer Y → A) (Holds : Y → X → Type 0) (x : Answer X) (a : A) : Type 0 where
+  pub told : Answer Y
+  pub same : a ≡ apart told
+  pub alike : Alike Holds told x
+
+-- and so is each that C asks
+pub record BoundaryTells (s : List ℕ) (g : Reading) : Type 0 where
+  pub facts : (i : ℕ) (a : Facts) → FactsAnswers s i a → a ≡ flatFacts (recordingRead g i >>= λ r. value (countsIn r))
+  pub channel : (i j : ℕ) (a : Channel) → ChannelAnswers s i j a → TellsApart flatChannel (ChannelIs s j) (channelRead g i j) a
+  pub patient-item : (i j : ℕ) (a : Item) → PatientItemAnswers s i j a → TellsApart flatItem (ItemIs s) (itemRead Holder.Patient g i j) a
+  pub event-item : (i j : ℕ) (a : Item) → EventItemAnswers s i j a → TellsApart flatItem (ItemIs s) (itemRead Holder.Event g i j) a
+  pub clock : (i j : ℕ) (a : Clock) → ClockAnswers s i j a → a ≡ flatClock (frameRead g i j >>= λ f. value (timeIn f))
+  pub count : (i j k : ℕ) (a : Counted) → CountAnswers s i j k a → a ≡ flatCount (samplesRead g i j k >>= λ l. value (length l))
+  pub sample : (i j k n : ℕ) (a : Sample) → SampleAnswers s i j k n a → TellsApart flatSample (λ x u. SampleIs s g i j k n (flatSample (value x)) u) (sampleRead g i j k n) a
+  pub view : (i j k : ℕ) (a : View) → ViewAnswers s i j k a → (vs : List Value) → samplesRead g i j k ≡ value vs → PartIs s g i k a vs
+
+-- what was written of a file with the reading g, in the order `to`
+pub record WrittenAnew {E : Type 0} (wrote : ℕ → E) (g : Reading) (to : Order) (out′ : List ℕ) (a : E) : Type 0 where
   -- so many bytes: the file that was written
   pub count : ℕ
-  pub answer : a ≡ Written.Bytes count
+  pub answer : a ≡ wrote count
   -- it is accepted, and has this reading
   pub file : R.File
   pub events : List Event
@@ -268,21 +340,27 @@ pub record WrittenAnew (g : Reading) (to : Order) (out′ : List ℕ) (a : Writt
 
 pub record Demand-2 (s : List ℕ) : Type 0 where
   -- accepted exactly when the rules accept, and refused by every call as they refuse
-  pub judges : (a : Judged) → JudgedAs s a → JudgesByRules s a
+  pub judges : (a : Judged) → JudgedAs s a → JudgesByRules Judged.Accepted Judged.Refused s a
   pub refuses : (n p : ℕ) → R.judge s ≡ refused n p → HandsUp s n p
   -- the table, with room, is that of the rules' rows
-  pub lists : (v : R.File) (t : List Event) → Accepted s v t → (out out′ : List ℤ) (a : Listed) → 4 * length (rows 0 t) ≤ length out → Lists s out out′ a → TableHolds (rows 0 t) out′ a
+  pub lists : (v : R.File) (t : List Event) → Accepted s v t → (out out′ : List ℤ) (a : Listed) → 4 * length (rows 0 t) ≤ length out → Lists s out out′ a → TableHolds Listed.Rows (rows 0 t) out′ a
   -- the questions
   pub answers : (v : R.File) (t : List Event) → Accepted s v t → Tells s (reading v)
   -- with a letter that names an order, no maker's record in the way, and room, the file is written anew
   pub rewrites : (v : R.File) (t : List Event) → Accepted s v t → (order : ℕ) (to : Order) → lettered order ≡ Lettered.Names to → barrier (R.orderOf s) to (firstMaker (rows 0 t)) ≡ none →
-      (out out′ : List ℕ) (a : Written) → length (rewritten to s) ≤ length out → Rewrites s order out out′ a → WrittenAnew (reading v) to out′ a
+      (out out′ : List ℕ) (a : Written) → length (rewritten to s) ≤ length out → Rewrites s order out out′ a → WrittenAnew Written.Bytes (reading v) to out′ a
+  -- the same, as C is answered
+  pub boundary-judges : (a : Header) → JudgeAnswers s a → JudgesByRules headedBy unheadedBy s a
+  pub boundary-lists : (v : R.File) (t : List Event) → Accepted s v t → (out out′ : List ℤ) (a : Counted) → 4 * length (rows 0 t) ≤ length out → TableAnswers s out out′ a → TableHolds counted (rows 0 t) out′ a
+  pub boundary-answers : (v : R.File) (t : List Event) → Accepted s v t → BoundaryTells s (reading v)
+  pub boundary-rewrites : (v : R.File) (t : List Event) → Accepted s v t → (order : ℕ) (to : Order) → lettered order ≡ Lettered.Names to → barrier (R.orderOf s) to (firstMaker (rows 0 t)) ≡ none →
+      (out out′ : List ℕ) (a : Counted) → length (rewritten to s) ≤ length out → RewriteAnswers s order out out′ a → WrittenAnew counted (reading v) to out′ a
 
 -- Demand 3: a file and what `turn` wrote of it say the same
 
 -- the file xs was written into a buffer
-pub record Gives (xs out′ : List ℕ) (a : Written) : Type 0 where
-  pub answer : a ≡ Written.Bytes (length xs)
+pub record Gives {E : Type 0} (wrote : ℕ → E) (xs out′ : List ℕ) (a : E) : Type 0 where
+  pub answer : a ≡ wrote (length xs)
   pub holds : take (length xs) out′ ≡ xs
 
 -- two calls with one buffer: one answer, and one content of the buffer afterwards; with two buffers, one answer and the same n bytes in front
@@ -290,7 +368,7 @@ pub record SameEnd {A E : Type 0} (a b : E) (out₁ out₂ : List A) : Type 0 wh
   pub answer : a ≡ b
   pub buffer : out₁ ≡ out₂
 
-pub record SameFront (n : ℕ) (a b : Written) (out₁ out₂ : List ℕ) : Type 0 where
+pub record SameFront {E : Type 0} (n : ℕ) (a b : E) (out₁ out₂ : List ℕ) : Type 0 where
   pub answer : a ≡ b
   pub front : take n out₁ ≡ take n out₂
 
@@ -309,6 +387,23 @@ pub record SameNumbers (g : Reading) (i k : ℕ) (file r file′ r′ : RefT (Li
   pub long : length (r .now) ≡ length (r′ .now)
   -- the same words, by the width of the channel's samples
   pub words : (c : ChannelReading) → channelRead g i k ≡ value c → SameWords (R.width (unsigned 4 (c .format))) (R.orderOf (file .now)) (R.orderOf (file′ .now)) (r .now) (r′ .now)
+
+-- what C is answered of the file s and of the file s′ that was written of it
+pub record BoundarySame (s s′ : List ℕ) : Type 0 where
+  pub table : (out out₁ out₂ : List ℤ) (a b : Counted) → TableAnswers s out out₁ a → TableAnswers s′ out out₂ b → SameEnd a b out₁ out₂
+  pub facts : (i : ℕ) (a b : Facts) → FactsAnswers s i a → FactsAnswers s′ i b → a ≡ b
+  pub channel : (i j : ℕ) (a b : Channel) → ChannelAnswers s i j a → ChannelAnswers s′ i j b → a ≡ b
+  pub patient-item : (i j : ℕ) (a b : Item) → PatientItemAnswers s i j a → PatientItemAnswers s′ i j b → a ≡ b
+  pub event-item : (i j : ℕ) (a b : Item) → EventItemAnswers s i j a → EventItemAnswers s′ i j b → a ≡ b
+  pub clock : (i j : ℕ) (a b : Clock) → ClockAnswers s i j a → ClockAnswers s′ i j b → a ≡ b
+  pub count : (i j k : ℕ) (a b : Counted) → CountAnswers s i j k a → CountAnswers s′ i j k b → a ≡ b
+  pub sample : (i j k n : ℕ) (a b : Sample) → SampleAnswers s i j k n a → SampleAnswers s′ i j k n b → a ≡ b
+  pub view : (i j k : ℕ) (a b : View) → ViewAnswers s i j k a → ViewAnswers s′ i j k b → a ≡ b
+  pub back : (out out′ : List ℕ) (a : Counted) → length s ≤ length out → TurnAnswers s′ out out′ a → Gives counted s out′ a
+  pub anew : (order : ℕ) (to : Order) → lettered order ≡ Lettered.Names to →
+      (out₁ out₁′ : List ℕ) (a : Counted) → length (rewritten to s) ≤ length out₁ → RewriteAnswers s order out₁ out₁′ a →
+      (out₂ out₂′ : List ℕ) (b : Counted) → length (rewritten to s) ≤ length out₂ → RewriteAnswers s′ order out₂ out₂′ b →
+      SameFront (length (rewritten to s)) a b out₁′ out₂′
 
 -- the file s with the reading g, and the file s′ that `turn` wrote of it
 pub record Same (s : List ℕ) (g : Reading) (s′ : List ℕ) : Type 0 where
@@ -331,15 +426,21 @@ pub record Same (s : List ℕ) (g : Reading) (s′ : List ℕ) : Type 0 where
   pub sample : (i j k n : ℕ) (a b : SampleTold) → SampleAnswer s i j k n a → SampleAnswer s′ i j k n b → a ≡ b
   pub view : (i j k : ℕ) (file r file′ r′ : RefT (List ℕ)) → file .now ≡ s → file′ .now ≡ s′ → ViewAnswer file i j k r → ViewAnswer file′ i j k r′ → SameNumbers g i k file r file′ r′
   -- turned again, with room, it is the first file, byte for byte
-  pub back : (out out′ : List ℕ) (a : Written) → length s ≤ length out → Turns s′ out out′ a → Gives s out′ a
+  pub back : (out out′ : List ℕ) (a : Written) → length s ≤ length out → Turns s′ out out′ a → Gives Written.Bytes s out′ a
   -- rewritten in one order, with room, either gives the same answer and bytes
   pub anew : (order : ℕ) (to : Order) → lettered order ≡ Lettered.Names to →
       (out₁ out₁′ : List ℕ) (a : Written) → length (rewritten to s) ≤ length out₁ → Rewrites s order out₁ out₁′ a →
       (out₂ out₂′ : List ℕ) (b : Written) → length (rewritten to s) ≤ length out₂ → Rewrites s′ order out₂ out₂′ b →
       SameFront (length (rewritten to s)) a b out₁′ out₂′
+  -- the same, as C is answered
+  pub boundary : BoundarySame s s′
 
 pub record Demand-3 (s : List ℕ) : Type 0 where
   -- of an accepted file without makers' records, and with room, `turn` writes as many bytes as the file has: a file that says the same
   pub answers : (v : R.File) (t : List Event) → Accepted s v t → firstMaker (rows 0 t) ≡ none → (out out′ : List ℕ) (a : Written) → length s ≤ length out → Turns s out out′ a → a ≡ Written.Bytes (length s)
   pub turned : (v : R.File) (t : List Event) → Accepted s v t → firstMaker (rows 0 t) ≡ none → (out out′ : List ℕ) (a : Written) → length s ≤ length out → Turns s out out′ a →
+      Same s (reading v) (take (length s) out′)
+  -- and so does what C is answered
+  pub boundary-answers : (v : R.File) (t : List Event) → Accepted s v t → firstMaker (rows 0 t) ≡ none → (out out′ : List ℕ) (a : Counted) → length s ≤ length out → TurnAnswers s out out′ a → a ≡ counted (length s)
+  pub boundary-turned : (v : R.File) (t : List Event) → Accepted s v t → firstMaker (rows 0 t) ≡ none → (out out′ : List ℕ) (a : Counted) → length s ≤ length out → TurnAnswers s out out′ a →
       Same s (reading v) (take (length s) out′)

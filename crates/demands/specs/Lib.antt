@@ -1,2 +1,3 @@
+pub mod Boundary
 pub mod Demands
 pub mod Bits
