@@ -33,18 +33,24 @@ use Rattle.table.specs.declared.Listed.{Listed}
 use Rattle.table.specs.declared.Listed.the-variants as Listed
 use Rattle.recordings.specs.Answers.{Answer, value, refusal}
 use Rattle.recordings.specs.declared.Counts.{Counts}
+use Rattle.recordings.specs.declared.FactsTold.{FactsTold}
 use Rattle.recordings.specs.declared.FactsTold.the-variants as FactsTold
+use Rattle.samples.specs.declared.ClockTold.{ClockTold}
 use Rattle.samples.specs.declared.ClockTold.the-variants as ClockTold
+use Rattle.samples.specs.declared.CountTold.{CountTold}
 use Rattle.samples.specs.declared.CountTold.the-variants as CountTold
 use Rattle.samples.specs.declared.Number.{Number}
 use Rattle.samples.specs.declared.Number.the-variants as Number
+use Rattle.samples.specs.declared.SampleTold.{SampleTold}
 use Rattle.samples.specs.declared.SampleTold.the-variants as SampleTold
 use Rattle.samples.specs.declared.Time.{Time}
 use Rattle.questions.specs.Meanings.{meaningF, meaningD, meaningI, meaningT, meaningC, meaningS}
 use Rattle.questions.specs.Questions.{factsOf, channelOf, patientItemOf, eventItemOf, clockOf, countOf, sampleOf}
+use Rattle.questions.specs.declared.channels.ChannelTold.{ChannelTold}
 use Rattle.questions.specs.declared.channels.ChannelTold.the-variants as ChannelTold
 use Rattle.questions.specs.declared.channels.Descriptor.{Descriptor}
 use Rattle.questions.specs.declared.items.Entry.{Entry}
+use Rattle.questions.specs.declared.items.ItemTold.{ItemTold}
 use Rattle.questions.specs.declared.items.ItemTold.the-variants as ItemTold
 use Rattle.permit.specs.Permit as Permit
 use Rattle.permit.specs.declared.Written.{Written}
@@ -54,50 +60,49 @@ use Rattle.turn.specs.Turn.{Turns}
 use Rattle.rewrite.specs.Rewrite as Rewrite
 use Rattle.rewrite.specs.Rewrite.{rewrittenIn, Rewrites}
 use Rattle.answers.specs.Flat.{counted, countedRows, countedBytes, flatFacts, flatChannel, flatItem, flatClock, flatCount, flatSample}
+use Rattle.answers.specs.declared.Channel.{Channel}
+use Rattle.answers.specs.declared.Clock.{Clock}
 use Rattle.answers.specs.declared.Counted.{Counted}
+use Rattle.answers.specs.declared.Facts.{Facts}
 use Rattle.answers.specs.declared.Header.{Header}
+use Rattle.answers.specs.declared.Item.{Item}
+use Rattle.answers.specs.declared.Sample.{Sample}
 use Rattle.psg.specs.Calls.{JudgeAnswers, TableAnswers, TurnAnswers, RewriteAnswers}
-use Rattle.demands.specs.Boundary.{Parts, stoppedBy, headedBy, unheadedBy, judgeParts, listedParts, writtenParts, factsParts, channelParts, itemParts, clockParts, countParts, sampleParts}
-use Rattle.demands.specs.Demands.{ofFile, ofTable, ofTurn, ofRewrite, ofQuestion, refusalOf, Refuses, Answered, KeepsRest, listedRows, TakenApart, Boundary, Accepted, headerOf, JudgesByRules}
+use Rattle.demands.specs.Demands.{ofFile, ofTable, ofTurn, ofRewrite, ofQuestion, refusalOf, Refuses, Answered, KeepsRest, listedRows, stoppedBy, unheadedBy, headedBy, flatJudged, TakenApart, Boundary, Accepted, headerOf, JudgesByRules}
 use Rattle.demands.proofs.Refusing.{of-file, table-refuses, table-keeps, turn-refuses, turn-keeps, rewrite-refuses, rewrite-keeps, Proper, proper-facts, proper-channel, proper-item, proper-clock, proper-count, proper-sample}
 use Rattle.demands.proofs.Viewing.{part-told}
 
 -- An answer and its numbers
 
--- the answer b: its numbers say 0, or it is a refusal
-data Kind {E A : Type 0} (c : Parts E A) (b : E) : Type 0 where
-  is-value : c .says (c .apart b) .0 ≡ 0 → Kind c b
-  is-refusal : (r : Refusal) → b ≡ c .refuse r → Kind c b
+-- the answer b, in whose numbers n is the refusal
+data Kind {E : Type 0} (refuse : Refusal → E) (n : ℕ) (b : E) : Type 0 where
+  is-value : n ≡ 0 → Kind refuse n b
+  is-refusal : (r : Refusal) → b ≡ refuse r → Kind refuse n b
 
-module _ (s : List ℕ) {E A : Type 0} {c : Parts E A} {meets : E → Type 0} {numbers : ℕ → Bool} {need : ℕ} {a : A} (says : (r : Refusal) → c .says (c .apart (c .refuse r)) ≡ r) where
-  taken-apart : (b : E) → meets b → a ≡ c .apart b → ((n p : ℕ) → R.judge s ≡ refused n p → a ≡ c .apart (c .refuse (refusalOf n p))) → Answered (c .refuse) numbers (length s) need b → Kind c b → TakenApart s c meets numbers need a
-  taken-apart b m e h proper (is-value z) =
-      let f : c .says a .0 ≡ 0 = ap (λ (y : A). c .says y .0) e ∙ z in
+module _ (s : List ℕ) {E A : Type 0} {meets : E → Type 0} {refuse : Refusal → E} {apart : E → A} {numbers : ℕ → Bool} {need n p : ℕ} {a : A} where
+  taken-apart : (b : E) → meets b → a ≡ apart b → ((m q : ℕ) → R.judge s ≡ refused m q → a ≡ apart (refuse (refusalOf m q))) → ((r : Refusal) → b ≡ refuse r → refusalOf n p ≡ r) →
+      Answered refuse numbers (length s) need b → Kind refuse n b → TakenApart s meets refuse apart numbers need n p a
+  taken-apart b m e h says proper (is-value z) = record {
+    told = b;
+    met = m;
+    same = e;
+    handed = h;
+    answered = λ _ r i. let f : n ≡ r .0 = ap (λ (y : Refusal). y .0) (says r i) in omega (arith, proper r i .nonzero);
+    refused = λ l. absurd (omega arith);
+    proper = λ l. absurd (omega arith);
+    rest = λ l. absurd (omega arith);
+  }
+  taken-apart b m e h says proper (is-refusal r i) =
+      let t : b ≡ refuse (refusalOf n p) = i ∙ ap refuse (sym (says r i)) in
       record {
         told = b;
         met = m;
         same = e;
         handed = h;
-        answered = λ _ r i.
-            let g : c .says a .0 ≡ r .0 = ap (λ (y : A). c .says y .0) (e ∙ ap (c .apart) i) ∙ ap (λ (u : Refusal). u .0) (says r) in
-            omega (arith, proper r i .nonzero);
-        refused = λ l. absurd (omega arith);
-        proper = λ l. absurd (omega arith);
-        rest = λ l. absurd (omega arith);
-      }
-  taken-apart b m e h proper (is-refusal r i) =
-      let f : c .says a ≡ r = ap (c .says) (e ∙ ap (c .apart) i) ∙ says r in
-      let g : c .says a .0 ≡ r .0 = ap (λ (u : Refusal). u .0) f in
-      let t : b ≡ c .refuse (c .says a) = i ∙ ap (c .refuse) (sym f) in
-      record {
-        told = b;
-        met = m;
-        same = e;
-        handed = h;
-        answered = λ z _ _. omega (arith, proper r i .nonzero);
+        answered = λ z _ _. omega (arith, proper (refusalOf n p) t .nonzero);
         refused = λ _. t;
-        proper = λ _. proper (c .says a) t;
-        rest = λ _. e ∙ ap (c .apart) t;
+        proper = λ _. proper (refusalOf n p) t;
+        rest = λ _. e ∙ ap apart t;
       }
 
 -- what an answer means: a value or a refusal
@@ -117,62 +122,71 @@ either-bytes : (x : Permit.Answer) → Either Permit.bytes Permit.refusal x
 either-bytes (Permit.bytes n) = a-value n
 either-bytes (Permit.refusal n p) = a-refusal n p
 
--- answers that have a meaning, and numbers by it
-record Meant {M X E A : Type 0} (val : X → M) (ref : ℕ → ℕ → M) (c : Parts E A) : Type 0 where
+-- answers of the type E by their meaning, and the numbers A by it
+record Meant {M X : Type 0} (val : X → M) (ref : ℕ → ℕ → M) (E A : Type 0) : Type 0 where
   meaning : E → M
   tell : X → E
+  refuse : Refusal → E
   flat : M → A
+  says : A → Refusal
   tells : (v : X) → meaning (tell v) ≡ val v
-  refuses : (r : Refusal) → meaning (c .refuse r) ≡ ref (r .0) (r .1)
-  parts : (b : E) → c .apart b ≡ flat (meaning b)
-  zero : (v : X) → c .says (flat (val v)) .0 ≡ 0
-  named : (n p : ℕ) → c .says (flat (ref n p)) ≡ refusalOf n p
+  refuses : (r : Refusal) → meaning (refuse r) ≡ ref (r .0) (r .1)
+  zero : (v : X) → says (flat (val v)) .0 ≡ 0
+  named : (n p : ℕ) → says (flat (ref n p)) ≡ refusalOf n p
 
-flat-refusal : {M X E A : Type 0} {val : X → M} {ref : ℕ → ℕ → M} {c : Parts E A} (l : Meant val ref c) (r : Refusal) → c .apart (c .refuse r) ≡ l .flat (ref (r .0) (r .1))
-flat-refusal {c} l r = l .parts (c .refuse r) ∙ ap (l .flat) (l .refuses r)
+module _ {M X E A : Type 0} {val : X → M} {ref : ℕ → ℕ → M} (l : Meant val ref E A) where
+  -- the answer with the meaning m
+  told-by : {m : M} → Either val ref m → E
+  told-by (a-value v) = l .tell v
+  told-by (a-refusal n p) = l .refuse (refusalOf n p)
 
-module _ (s : List ℕ) {M X E A : Type 0} {val : X → M} {ref : ℕ → ℕ → M} {c : Parts E A} (l : Meant val ref c) {meets : E → Type 0} {numbers : ℕ → Bool} {need : ℕ} {a : A} where
-  -- the answer b has the meaning m, of which a is the numbers
-  told-by : {m : M} → ((b : E) → l .meaning b ≡ m → meets b) → a ≡ l .flat m → ((n p : ℕ) → R.judge s ≡ refused n p → m ≡ ref n p) →
-      ((n p : ℕ) → m ≡ ref n p → Refuses numbers (length s) need (refusalOf n p)) → (b : E) → l .meaning b ≡ m → Kind c b → TakenApart s c meets numbers need a
-  told-by met e hand proper b i k =
-      taken-apart s (λ r. ap (c .says) (flat-refusal l r) ∙ l .named (r .0) (r .1)) b (met b i) (e ∙ sym (l .parts b ∙ ap (l .flat) i))
-      (λ n p j. e ∙ (ap (l .flat) (hand n p j) ∙ sym (flat-refusal l (refusalOf n p)))) (λ r j. proper (r .0) (r .1) (sym i ∙ (ap (l .meaning) j ∙ l .refuses r))) k
+  told-means : {m : M} (x : Either val ref m) → l .meaning (told-by x) ≡ m
+  unfolding told-by
+  told-means (a-value v) = l .tells v
+  told-means (a-refusal n p) = l .refuses (refusalOf n p)
 
-  by-meaning : {m : M} → Either val ref m → ((b : E) → l .meaning b ≡ m → meets b) → a ≡ l .flat m → ((n p : ℕ) → R.judge s ≡ refused n p → m ≡ ref n p) →
-      ((n p : ℕ) → m ≡ ref n p → Refuses numbers (length s) need (refusalOf n p)) → TakenApart s c meets numbers need a
-  by-meaning (a-value v) met e hand proper = told-by met e hand proper (l .tell v) (l .tells v) (is-value (ap (λ (y : A). c .says y .0) (l .parts (l .tell v) ∙ ap (l .flat) (l .tells v)) ∙ l .zero v))
-  by-meaning (a-refusal n p) met e hand proper = told-by met e hand proper (c .refuse (refusalOf n p)) (l .refuses (refusalOf n p)) (is-refusal (refusalOf n p) refl)
+  told-kind : {m : M} (x : Either val ref m) {a : A} → a ≡ l .flat m → Kind (l .refuse) (l .says a .0) (told-by x)
+  unfolding told-by
+  told-kind (a-value v) e = is-value (ap (λ (y : A). l .says y .0) e ∙ l .zero v)
+  told-kind (a-refusal n p) e = is-refusal (refusalOf n p) refl
+
+  by-meaning : (s : List ℕ) {m : M} {meets : E → Type 0} {numbers : ℕ → Bool} {need : ℕ} {a : A} → Either val ref m → ((b : E) → l .meaning b ≡ m → meets b) → a ≡ l .flat m → ((n p : ℕ) → R.judge s ≡ refused n p → m ≡ ref n p) →
+      ((n p : ℕ) → m ≡ ref n p → Refuses numbers (length s) need (refusalOf n p)) → TakenApart s meets (l .refuse) (λ b. l .flat (l .meaning b)) numbers need (l .says a .0) (l .says a .1) a
+  by-meaning s {m} x met e hand proper =
+      let i = told-means x in
+      let is : (u : Refusal) → told-by x ≡ l .refuse u → m ≡ ref (u .0) (u .1) = λ u j. sym i ∙ (ap (l .meaning) j ∙ l .refuses u) in
+      taken-apart s (told-by x) (met (told-by x) i) (e ∙ ap (l .flat) (sym i)) (λ n p j. e ∙ ap (l .flat) (hand n p j ∙ sym (l .refuses (refusalOf n p))))
+      (λ u j. ap (l .says) (e ∙ ap (l .flat) (is u j)) ∙ l .named (u .0) (u .1)) (λ u j. proper (u .0) (u .1) (is u j)) (told-kind x e)
 
 -- the answers of each call
-abbrev listed : Meant Table.rows Table.refusal listedParts
-listed = record { meaning = Table.meaning; tell = Listed.Rows; flat = countedRows; tells = λ v. refl; refuses = λ r. refl; parts = λ b. refl; zero = λ v. refl; named = λ n p. refl }
+sample-zero : (v : Number) → flatSample (value v) .refusal ≡ 0
+sample-zero (Number.Whole z) = refl
+sample-zero (Number.Float v) = refl
+sample-zero (Number.Pattern n) = refl
 
-abbrev written : Meant Permit.bytes Permit.refusal writtenParts
-written = record { meaning = Permit.meaning; tell = Written.Bytes; flat = countedBytes; tells = λ v. refl; refuses = λ r. refl; parts = λ b. refl; zero = λ v. refl; named = λ n p. refl }
+abbrev listed : Meant Table.rows Table.refusal Listed Counted
+listed = record { meaning = Table.meaning; tell = Listed.Rows; refuse = Listed.Refused; flat = countedRows; says = λ a. refusalOf (a .refusal) (a .position); tells = λ v. refl; refuses = λ r. refl; zero = λ v. refl; named = λ n p. refl }
 
-abbrev facts : Meant {X = Counts} value refusal factsParts
-facts = record { meaning = meaningF; tell = FactsTold.Facts; flat = flatFacts; tells = λ v. refl; refuses = λ r. refl; parts = λ b. refl; zero = λ v. refl; named = λ n p. refl }
+abbrev written : Meant Permit.bytes Permit.refusal Written Counted
+written = record { meaning = Permit.meaning; tell = Written.Bytes; refuse = Written.Refused; flat = countedBytes; says = λ a. refusalOf (a .refusal) (a .position); tells = λ v. refl; refuses = λ r. refl; zero = λ v. refl; named = λ n p. refl }
 
-abbrev channel : Meant {X = Descriptor} value refusal channelParts
-channel = record { meaning = meaningD; tell = ChannelTold.Channel; flat = flatChannel; tells = λ v. refl; refuses = λ r. refl; parts = λ b. refl; zero = λ v. refl; named = λ n p. refl }
+abbrev facts : Meant {X = Counts} value refusal FactsTold Facts
+facts = record { meaning = meaningF; tell = FactsTold.Facts; refuse = FactsTold.Refused; flat = flatFacts; says = λ a. refusalOf (a .refusal) (a .position); tells = λ v. refl; refuses = λ r. refl; zero = λ v. refl; named = λ n p. refl }
 
-abbrev item : Meant {X = Entry} value refusal itemParts
-item = record { meaning = meaningI; tell = ItemTold.Item; flat = flatItem; tells = λ v. refl; refuses = λ r. refl; parts = λ b. refl; zero = λ v. refl; named = λ n p. refl }
+abbrev channel : Meant {X = Descriptor} value refusal ChannelTold Channel
+channel = record { meaning = meaningD; tell = ChannelTold.Channel; refuse = ChannelTold.Refused; flat = flatChannel; says = λ a. refusalOf (a .refusal) (a .position); tells = λ v. refl; refuses = λ r. refl; zero = λ v. refl; named = λ n p. refl }
 
-abbrev clock : Meant {X = Time} value refusal clockParts
-clock = record { meaning = meaningT; tell = ClockTold.At; flat = flatClock; tells = λ v. refl; refuses = λ r. refl; parts = λ b. refl; zero = λ v. refl; named = λ n p. refl }
+abbrev item : Meant {X = Entry} value refusal ItemTold Item
+item = record { meaning = meaningI; tell = ItemTold.Item; refuse = ItemTold.Refused; flat = flatItem; says = λ a. refusalOf (a .refusal) (a .position); tells = λ v. refl; refuses = λ r. refl; zero = λ v. refl; named = λ n p. refl }
 
-abbrev count : Meant {X = ℕ} value refusal countParts
-count = record { meaning = meaningC; tell = CountTold.Samples; flat = flatCount; tells = λ v. refl; refuses = λ r. refl; parts = λ b. refl; zero = λ v. refl; named = λ n p. refl }
+abbrev clock : Meant {X = Time} value refusal ClockTold Clock
+clock = record { meaning = meaningT; tell = ClockTold.At; refuse = ClockTold.Refused; flat = flatClock; says = λ a. refusalOf (a .refusal) (a .position); tells = λ v. refl; refuses = λ r. refl; zero = λ v. refl; named = λ n p. refl }
 
-abbrev sample : Meant {X = Number} value refusal sampleParts
-sample = record { meaning = meaningS; tell = SampleTold.Value; flat = flatSample; tells = λ v. refl; refuses = λ r. refl; parts = λ b. refl; zero = no-refusal; named = λ n p. refl }
-  where
-    no-refusal : (v : Number) → sampleParts .says (flatSample (value v)) .0 ≡ 0
-    no-refusal (Number.Whole z) = refl
-    no-refusal (Number.Float v) = refl
-    no-refusal (Number.Pattern n) = refl
+abbrev count : Meant {X = ℕ} value refusal CountTold Counted
+count = record { meaning = meaningC; tell = CountTold.Samples; refuse = CountTold.Refused; flat = flatCount; says = λ a. refusalOf (a .refusal) (a .position); tells = λ v. refl; refuses = λ r. refl; zero = λ v. refl; named = λ n p. refl }
+
+abbrev sample : Meant {X = Number} value refusal SampleTold Sample
+sample = record { meaning = meaningS; tell = SampleTold.Value; refuse = SampleTold.Refused; flat = flatSample; says = λ a. refusalOf (a .refusal) (a .position); tells = λ v. refl; refuses = λ r. refl; zero = sample-zero; named = λ n p. refl }
 
 -- The verdict
 
@@ -190,7 +204,7 @@ letter-named s h = go (eqb (getD s 16 0) 76) (eqb (getD s 16 0) 66) refl refl
     go : (x y : Bool) → eqb (getD s 16 0) 76 ≡ x → eqb (getD s 16 0) 66 ≡ y → getD s 16 0 ≡ letterOf (R.orderOf s)
     go x true e f = rw (R.orderOf, f, eqb-true (getD s 16 0) 66 f)
     go true false e f = rw (R.orderOf, f, eqb-true (getD s 16 0) 76 e)
-    go false false e f = let z : false ≡ true = rw (lettered, e, f) at h in absurd (let y : _≡_ {A = ℕ} 0 1 = cc in omega arith)
+    go false false e f = absurd (let z : 1 ≡ 0 = eqb-true 1 0 (rw (lettered, e, f) at h) in omega arith)
 
 letter-is : (s : List ℕ) (h : FileHeader) → AcceptedAs s h → getD s 16 0 ≡ letterOf (R.orderOf s)
 letter-is s h x =
@@ -217,72 +231,73 @@ accepted-as {v} {t} h = record { file = v; events = t; judged = h; order = refl;
 headed-by : (s : List ℕ) {a : Header} {v : R.File} {t : List Event} → JudgeAnswers s a → Accepted s v t → a ≡ headedBy (headerOf s v)
 headed-by s {v} x h = x ∙ rw (h, letter-is s (headerOf s v) (accepted-as h))
 
+-- What is left of a buffer
+
+-- an answer for C about a buffer, and the answer of Rattle
+data Ends {E : Type 0} (refuse : Refusal → E) (wrote : ℕ → E) (a : Counted) (c : E) : Type 0 where
+  ended : (n : ℕ) → c ≡ wrote n → a ≡ counted n → Ends refuse wrote a c
+  stops : (r : Refusal) → c ≡ refuse r → a ≡ stoppedBy r → Ends refuse wrote a c
+
+module _ {B E : Type 0} {refuse : Refusal → E} {wrote : ℕ → E} {each : ℕ} {out out′ : List B} {a : Counted} {c : E} where
+  kept : KeepsRest refuse wrote each out out′ c → Ends refuse wrote a c → KeepsRest stoppedBy counted each out out′ a
+  kept k (ended n i e) = record {
+    refused = λ r j.
+        let z : n ≡ 0 = ap (λ (y : Counted). y .count) (sym e ∙ j) in
+        let w : each * n ≡ 0 = rw z (omega arith) in
+        rw w at (k .beyond n i);
+    fits = λ m j. let z : m ≡ n = ap (λ (y : Counted). y .count) (sym j ∙ e) in rw z (k .fits n i);
+    beyond = λ m j. let z : m ≡ n = ap (λ (y : Counted). y .count) (sym j ∙ e) in rw z (k .beyond n i);
+    long = k .long;
+  }
+  kept k (stops r i e) = record {
+    refused = λ _ _. k .refused r i;
+    fits = λ m j. let z : m ≡ 0 = ap (λ (y : Counted). y .count) (sym j ∙ e) in rw z (omega arith);
+    beyond = λ m j. ap (drop (each * m)) (k .refused r i);
+    long = k .long;
+  }
+
+ends-listed : {a : Counted} (c : Listed) → a ≡ countedRows (Table.meaning c) → Ends Listed.Refused Listed.Rows a c
+ends-listed (Listed.Rows n) e = ended n refl e
+ends-listed (Listed.Refused r) e = stops r refl e
+
+ends-written : {a : Counted} (c : Written) → a ≡ countedBytes (Permit.meaning c) → Ends Written.Refused Written.Bytes a c
+ends-written (Written.Bytes n) e = ended n refl e
+ends-written (Written.Refused r) e = stops r refl e
+
 -- The calls, of every list of bytes
 
 module _ (s : List ℕ) (b : Bytes s) where
-  pub judge-apart : (a : Header) → JudgeAnswers s a → TakenApart s judgeParts (JudgedAs s) ofFile 0 a
+  pub judge-apart : (a : Header) → JudgeAnswers s a → TakenApart s (JudgedAs s) Judged.Refused flatJudged ofFile 0 (a .refusal) (a .position) a
   judge-apart a x = go (R.judge s) refl
     where
-      told : (j : Judged) → JudgedAs s j → a ≡ judgeParts .apart j → Kind judgeParts j → TakenApart s judgeParts (JudgedAs s) ofFile 0 a
-      told j m e k = taken-apart s (λ r. refl) j m e (λ n p h. x ∙ rw h) (λ r i. of-file s ofFile 0 (λ n h. h) r (rw i at m)) k
+      told : (j : Judged) → JudgedAs s j → a ≡ flatJudged j → Kind Judged.Refused (a .refusal) j → TakenApart s (JudgedAs s) Judged.Refused flatJudged ofFile 0 (a .refusal) (a .position) a
+      told j m e k =
+          taken-apart s j m e (λ n p h. x ∙ rw h) (λ r i. ap (λ (y : Header). refusalOf (y .refusal) (y .position)) (e ∙ ap flatJudged i)) (λ r i. of-file s ofFile 0 (λ n h. h) r (rw i at m)) k
 
-      go : (y : Outcome R.File) → R.judge s ≡ y → TakenApart s judgeParts (JudgedAs s) ofFile 0 a
+      go : (y : Outcome R.File) → R.judge s ≡ y → TakenApart s (JudgedAs s) Judged.Refused flatJudged ofFile 0 (a .refusal) (a .position) a
       go (refused n p) e = told (Judged.Refused (refusalOf n p)) e (x ∙ rw e) (is-refusal (refusalOf n p) refl)
       go (passed v l t) e =
           let h = e ∙ ap (λ (y : List ℕ). passed v y t) (nothing-left s b e) in
-          told (Judged.Accepted (headerOf s v)) (accepted-as h) (headed-by s x h) (is-value refl)
+          told (Judged.Accepted (headerOf s v)) (accepted-as h) (headed-by s x h) (is-value (ap (λ (y : Header). y .refusal) (headed-by s x h)))
 
-  pub table-apart : (out out′ : List ℤ) (a : Counted) → TableAnswers s out out′ a → TakenApart s listedParts (Lists s out out′) ofTable (4 * length (listedRows (R.judge s))) a
+  pub table-apart : (out out′ : List ℤ) (a : Counted) → TableAnswers s out out′ a → TakenApart s (Lists s out out′) Listed.Refused (λ c. countedRows (Table.meaning c)) ofTable (4 * length (listedRows (R.judge s))) (a .refusal) (a .position) a
   table-apart out out′ a x =
-      by-meaning s listed (either-rows (Table.answerOf s (length out))) (λ c e. record { answer = e; buffer = x .holds }) (x .answers) (λ n p h. rw h)
+      by-meaning listed s (either-rows (Table.answerOf s (length out))) (λ c e. record { answer = e; buffer = x .holds }) (x .answers) (λ n p h. rw h)
       (λ n p e. table-refuses s (length out) (refusalOf n p) (sym e))
 
-  pub turn-apart : (out out′ : List ℕ) (a : Counted) → TurnAnswers s out out′ a → TakenApart s writtenParts (Turns s out out′) ofTurn (length s) a
+  pub turn-apart : (out out′ : List ℕ) (a : Counted) → TurnAnswers s out out′ a → TakenApart s (Turns s out out′) Written.Refused (λ c. countedBytes (Permit.meaning c)) ofTurn (length s) (a .refusal) (a .position) a
   turn-apart out out′ a x =
-      by-meaning s written (either-bytes (Turn.answerOf s (length out))) (λ c e. record { answer = e; buffer = x .holds }) (x .answers) (λ n p h. rw h)
+      by-meaning written s (either-bytes (Turn.answerOf s (length out))) (λ c e. record { answer = e; buffer = x .holds }) (x .answers) (λ n p h. rw h)
       (λ n p e. turn-refuses s b (length out) (refusalOf n p) (sym e))
 
-  pub rewrite-apart : (order : ℕ) (out out′ : List ℕ) (a : Counted) → RewriteAnswers s order out out′ a → TakenApart s writtenParts (Rewrites s order out out′) ofRewrite (length (rewrittenIn (lettered order) s)) a
+  pub rewrite-apart : (order : ℕ) (out out′ : List ℕ) (a : Counted) → RewriteAnswers s order out out′ a → TakenApart s (Rewrites s order out out′) Written.Refused (λ c. countedBytes (Permit.meaning c)) ofRewrite (length (rewrittenIn (lettered order) s)) (a .refusal) (a .position) a
   rewrite-apart order out out′ a x =
-      by-meaning s written (either-bytes (Rewrite.answerOf s order (length out))) (λ c e. record { answer = e; buffer = x .holds }) (x .answers) (λ n p h. rw h)
+      by-meaning written s (either-bytes (Rewrite.answerOf s order (length out))) (λ c e. record { answer = e; buffer = x .holds }) (x .answers) (λ n p h. rw h)
       (λ n p e. rewrite-refuses s b order (length out) (refusalOf n p) (sym e))
 
   -- a question's refusals
   asked : {A : Type 0} {x : Answer A} → Proper s x → (n p : ℕ) → x ≡ refusal n p → Refuses ofQuestion (length s) 0 (refusalOf n p)
   asked h n p e = rw e at h
-
-  -- What is left of a buffer
-
-  -- an answer for C about a buffer, and the answer of Rattle
-  data Ends {E : Type 0} (refuse : Refusal → E) (wrote : ℕ → E) (a : Counted) (c : E) : Type 0 where
-    ended : (n : ℕ) → c ≡ wrote n → a ≡ counted n → Ends refuse wrote a c
-    stops : (r : Refusal) → c ≡ refuse r → a ≡ stoppedBy r → Ends refuse wrote a c
-
-  module _ {B E : Type 0} {refuse : Refusal → E} {wrote : ℕ → E} {each : ℕ} {out out′ : List B} {a : Counted} {c : E} where
-    kept : KeepsRest refuse wrote each out out′ c → Ends refuse wrote a c → KeepsRest stoppedBy counted each out out′ a
-    kept k (ended n i e) = record {
-      refused = λ r j.
-          let z : n ≡ 0 = ap (λ (y : Counted). y .count) (sym e ∙ j) in
-          let w : each * n ≡ 0 = rw z (omega arith) in
-          rw w at (k .beyond n i);
-      fits = λ m j. let z : m ≡ n = ap (λ (y : Counted). y .count) (sym j ∙ e) in rw z (k .fits n i);
-      beyond = λ m j. let z : m ≡ n = ap (λ (y : Counted). y .count) (sym j ∙ e) in rw z (k .beyond n i);
-      long = k .long;
-    }
-    kept k (stops r i e) = record {
-      refused = λ _ _. k .refused r i;
-      fits = λ m j. let z : m ≡ 0 = ap (λ (y : Counted). y .count) (sym j ∙ e) in rw z (omega arith);
-      beyond = λ m j. ap (drop (each * m)) (k .refused r i);
-      long = k .long;
-    }
-
-  ends-listed : {a : Counted} (c : Listed) → a ≡ countedRows (Table.meaning c) → Ends Listed.Refused Listed.Rows a c
-  ends-listed (Listed.Rows n) e = ended n refl e
-  ends-listed (Listed.Refused r) e = stops r refl e
-
-  ends-written : {a : Counted} (c : Written) → a ≡ countedBytes (Permit.meaning c) → Ends Written.Refused Written.Bytes a c
-  ends-written (Written.Bytes n) e = ended n refl e
-  ends-written (Written.Refused r) e = stops r refl e
 
   pub boundary : Boundary s
   boundary = record {
@@ -293,35 +308,31 @@ module _ (s : List ℕ) (b : Bytes s) where
     turn-keeps = λ out out′ a x. let y = turn-apart out out′ a x in kept (turn-keeps s b out out′ (y .told) (y .met)) (ends-written (y .told) (y .same));
     rewrite = rewrite-apart;
     rewrite-keeps = λ order out out′ a x. let y = rewrite-apart order out out′ a x in kept (rewrite-keeps s order out out′ (y .told) (y .met)) (ends-written (y .told) (y .same));
-    facts = λ i a x. by-meaning s facts (either (factsOf s i)) (λ c e. e) x (λ n p h. rw h) (asked (proper-facts s i));
-    channel = λ i j a x. by-meaning s channel (either (channelOf s i j)) (λ c e. e) x (λ n p h. rw h) (asked (proper-channel s i j));
-    patient-item = λ i j a x. by-meaning s item (either (patientItemOf s i j)) (λ c e. e) x (λ n p h. rw h) (asked (proper-item s Holder.Patient i j));
-    event-item = λ i j a x. by-meaning s item (either (eventItemOf s i j)) (λ c e. e) x (λ n p h. rw h) (asked (proper-item s Holder.Event i j));
-    clock = λ i j a x. by-meaning s clock (either (clockOf s i j)) (λ c e. e) x (λ n p h. rw h) (asked (proper-clock s i j));
-    count = λ i j k a x. by-meaning s count (either (countOf s i j k)) (λ c e. e) x (λ n p h. rw h) (asked (proper-count s i j k));
-    sample = λ i j k n a x. by-meaning s sample (either (sampleOf s i j k n)) (λ c e. e) x (λ n p h. rw h) (asked (proper-sample s i j k n));
+    facts = λ i a x. by-meaning facts s (either (factsOf s i)) (λ c e. e) x (λ n p h. rw h) (asked (proper-facts s i));
+    channel = λ i j a x. by-meaning channel s (either (channelOf s i j)) (λ c e. e) x (λ n p h. rw h) (asked (proper-channel s i j));
+    patient-item = λ i j a x. by-meaning item s (either (patientItemOf s i j)) (λ c e. e) x (λ n p h. rw h) (asked (proper-item s Holder.Patient i j));
+    event-item = λ i j a x. by-meaning item s (either (eventItemOf s i j)) (λ c e. e) x (λ n p h. rw h) (asked (proper-item s Holder.Event i j));
+    clock = λ i j a x. by-meaning clock s (either (clockOf s i j)) (λ c e. e) x (λ n p h. rw h) (asked (proper-clock s i j));
+    count = λ i j k a x. by-meaning count s (either (countOf s i j k)) (λ c e. e) x (λ n p h. rw h) (asked (proper-count s i j k));
+    sample = λ i j k n a x. by-meaning sample s (either (sampleOf s i j k n)) (λ c e. e) x (λ n p h. rw h) (asked (proper-sample s i j k n));
     view = λ file e i j k a x. part-told file (rw e b) i j k a (rw e x);
   }
 
   -- accepted and refused exactly as the rules do
   pub boundary-judges : (a : Header) → JudgeAnswers s a → JudgesByRules headedBy unheadedBy s a
-  boundary-judges a x = let y = judge-apart a x in go (y .told) (y .met) (y .same) (λ r i. of-file s ofFile 0 (λ n h. h) r (rw i at (y .met)) .nonzero)
+  boundary-judges a x =
+      let y = judge-apart a x in
+      record { accepts = λ v t h. headed-by s x h; accepted = as-accepted (y .told) (y .met) (y .same); refuses = λ n p h. x ∙ rw h; refused = as-refused (y .told) (y .met) (y .same) }
     where
-      go : (j : Judged) → JudgedAs s j → a ≡ judgeParts .apart j → ((r : Refusal) → j ≡ Judged.Refused r → 1 ≤ r .0) → JudgesByRules headedBy unheadedBy s a
-      go (Judged.Accepted k) m e some = record {
-        accepts = λ v t h. headed-by s x h;
-        accepted = λ h i.
-            let o : k .order ≡ h .order = letter-one (k .order) (h .order) (ap (λ (z : Header). z .order) (sym e ∙ i)) in
-            let c : k .heading .script ≡ h .heading .script = ap (λ (z : Header). z .script) (sym e ∙ i) in
-            let n : k .count ≡ h .count = ap (λ (z : Header). z .recordings) (sym e ∙ i) in
-            let w : k ≡ h = λ u. record { order = o u; heading = record { script = c u }; count = n u } in
-            rw w at m;
-        refuses = λ n p h. x ∙ rw h;
-        refused = λ n p i. let z : letterOf (k .order) ≡ 0 = ap (λ (y : Header). y .order) (sym e ∙ i) in absurd (omega (arith, letter-some (k .order)));
-      }
-      go (Judged.Refused r) m e some = record {
-        accepts = λ v t h. headed-by s x h;
-        accepted = λ h i. let z : r .0 ≡ 0 = ap (λ (y : Header). y .refusal) (sym e ∙ i) in absurd (omega (arith, some r refl));
-        refuses = λ n p h. x ∙ rw h;
-        refused = λ n p i. m ∙ λ u. refused (ap (λ (y : Header). y .refusal) (sym e ∙ i) u) (ap (λ (y : Header). y .position) (sym e ∙ i) u);
-      }
+      as-accepted : (j : Judged) → JudgedAs s j → a ≡ flatJudged j → (h : FileHeader) → a ≡ headedBy h → AcceptedAs s h
+      as-accepted (Judged.Accepted k) m e h i =
+          let o : k .order ≡ h .order = letter-one (k .order) (h .order) (ap (λ (z : Header). z .order) (sym e ∙ i)) in
+          let c : k .heading .script ≡ h .heading .script = ap (λ (z : Header). z .script) (sym e ∙ i) in
+          let n : k .count ≡ h .count = ap (λ (z : Header). z .recordings) (sym e ∙ i) in
+          let w : k ≡ h = λ u. record { order = o u; heading = record { script = c u }; count = n u } in
+          rw w at m
+      as-accepted (Judged.Refused r) m e h i = let z : r .0 ≡ 0 = ap (λ (y : Header). y .refusal) (sym e ∙ i) in absurd (omega (arith, of-file s ofFile 0 (λ n h. h) r m .nonzero))
+
+      as-refused : (j : Judged) → JudgedAs s j → a ≡ flatJudged j → (n p : ℕ) → a ≡ unheadedBy (refusalOf n p) → R.judge s ≡ refused n p
+      as-refused (Judged.Accepted k) m e n p i = let z : letterOf (k .order) ≡ 0 = ap (λ (y : Header). y .order) (sym e ∙ i) in absurd (omega (arith, letter-some (k .order)))
+      as-refused (Judged.Refused r) m e n p i = m ∙ ap (λ (y : Header). refused (y .refusal) (y .position)) (sym e ∙ i)

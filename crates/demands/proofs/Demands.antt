@@ -56,9 +56,9 @@ use Rattle.turn.proofs.Demands.{turn-unique, turn-answers, turn-accepted, turn-
 use Rattle.rewrite.specs.Rewrite.{barrier, Rewrites}
 use Rattle.rewrite.proofs.Answers.{rewrites-refused}
 use Rattle.rewrite.proofs.Demands.{rewrite-unique, rewrite-answers, rewrite-accepted, rewrite-both}
+use Rattle.answers.specs.Flat.{countedRows, countedBytes}
 use Rattle.answers.specs.declared.Counted.{Counted}
 use Rattle.psg.specs.Calls.{TableAnswers}
-use Rattle.demands.specs.Boundary.{listedParts, writtenParts}
 use Rattle.demands.specs.Demands.{ofFile, Demand-1, Accepted, HandsUp, TableHolds, Tells, WrittenAnew, Demand-2, SameEnd, SameNumbers, BoundarySame, Same, Demand-3}
 use Rattle.demands.proofs.Agreeing.{agree-first, numbered-image}
 use Rattle.demands.proofs.Refusing.{of-file, table-refuses, table-keeps, turn-refuses, turn-keeps, rewrite-refuses, rewrite-keeps, question, proper-facts, proper-channel, proper-item, proper-clock, proper-count, proper-sample}
@@ -168,11 +168,11 @@ demand-2 s b = record {
   boundary-lists = λ v t h out out′ a room x.
       let y = table-apart s b out out′ a x in
       let z = described s h out out′ (y .told) room (y .met) in
-      record { answer = y .same ∙ ap (listedParts .apart) (z .answer); holds = z .holds };
+      record { answer = y .same ∙ ap (λ (c : Listed). countedRows (Table.meaning c)) (z .answer); holds = z .holds };
   boundary-answers = λ v t h. boundary-tells s b h;
   boundary-rewrites = λ v t h order to names free out out′ a room x.
       let y = rewrite-apart s b order out out′ a x in
-      written-anew s b h order to names free out out′ (y .told) room (y .met) a (y .same ∙ ap (writtenParts .apart) (rewrite-told s b h order to names free out out′ (y .told) room (y .met)));
+      written-anew s b h order to names free out out′ (y .told) room (y .met) a (y .same ∙ ap (λ (c : Written). countedBytes (Permit.meaning c)) (rewrite-told s b h order to names free out out′ (y .told) room (y .met)));
 }
 
 -- Demand 3
@@ -251,12 +251,12 @@ module _ (s : List ℕ) (b : Bytes s) {v : R.File} {t : List Event} (h : Accepte
         back = λ out₂ out₂′ c l z.
             let y = turn-apart s′ turned-bytes out₂ out₂′ c z in
             let w = turn-twice s h free b out out′ a room x out₂ out₂′ (y .told) l (y .met) in
-            record { answer = y .same ∙ ap (writtenParts .apart) (w .0); holds = w .1 };
+            record { answer = y .same ∙ ap (λ (c : Written). countedBytes (Permit.meaning c)) (w .0); holds = w .1 };
         anew = λ order to names out₁ out₁′ c l₁ x₁ out₂ out₂′ d l₂ x₂.
             let y₁ = rewrite-apart s b order out₁ out₁′ c x₁ in
             let y₂ = rewrite-apart s′ turned-bytes order out₂ out₂′ d x₂ in
             let w = rewrite-both s b h free out out′ a room x order to names out₁ out₁′ (y₁ .told) l₁ (y₁ .met) out₂ out₂′ (y₂ .told) l₂ (y₂ .met) in
-            record { answer = y₁ .same ∙ (ap (writtenParts .apart) (w .0) ∙ sym (y₂ .same)); front = w .1 };
+            record { answer = y₁ .same ∙ (ap (λ (c : Written). countedBytes (Permit.meaning c)) (w .0) ∙ sym (y₂ .same)); front = w .1 };
       }
 
   says-the-same : Same s (reading v) s′
@@ -290,6 +290,6 @@ pub demand-3 : (s : List ℕ) → Bytes s → Demand-3 s
 demand-3 s b = record {
   answers = λ v t h free out out′ a room x. turn-answers s h free b out out′ a room x .0;
   turned = λ v t h free out out′ a room x. says-the-same s b h free out out′ a room x;
-  boundary-answers = λ v t h free out out′ a room x. let y = turn-apart s b out out′ a x in y .same ∙ ap (writtenParts .apart) (turn-answers s h free b out out′ (y .told) room (y .met) .0);
+  boundary-answers = λ v t h free out out′ a room x. let y = turn-apart s b out out′ a x in y .same ∙ ap (λ (c : Written). countedBytes (Permit.meaning c)) (turn-answers s h free b out out′ (y .told) room (y .met) .0);
   boundary-turned = λ v t h free out out′ a room x. let y = turn-apart s b out out′ a x in says-the-same s b h free out out′ (y .told) room (y .met);
 }

@@ -1,5 +1,6 @@
 -- The three demands on the library. Each speaks of every answer and every final buffer that meets a public call's contract, by the definition that the call's
--- `ensures` cites; that each call ends, for every input, is the language's own check. `proofs/Demands.antt` proves them of every list of bytes.
+-- `ensures` cites, in Rattle and (`boundary`) for C; that each call ends, for every input, is the language's own check. `proofs/Demands.antt` proves them of
+-- every list of bytes.
 -- Assumes nothing.
 use mathlib.Core.Path.{_≡_}
 use mathlib.Core.Bool.{Bool, true, _||_}
@@ -11,7 +12,7 @@ use lib.Dec.{eqb}
 use lib.IntN.{ℤ}
 use lib.ListN.{length, take, drop}
 use Rattle.words.specs.Floats.{bitsOf}
-use Rattle.words.specs.Numbers.{Bytes, bytesAt, other}
+use Rattle.words.specs.Numbers.{Bytes, letterOf, bytesAt, other}
 use Rattle.words.specs.Runs.{numbersIn}
 use Rattle.words.specs.Values.{unsigned}
 use Rattle.words.specs.declared.Order.{Order}
@@ -29,6 +30,7 @@ use Rattle.judge.specs.Judged.{AcceptedAs, JudgedAs}
 use Rattle.judge.specs.declared.Judged.{Judged}
 use Rattle.judge.specs.declared.Judged.the-variants as Judged
 use Rattle.rows.specs.Rows.{flat}
+use Rattle.table.specs.Table as Table
 use Rattle.table.specs.Table.{Lists}
 use Rattle.table.specs.declared.Listed.{Listed}
 use Rattle.table.specs.declared.Listed.the-variants as Listed
@@ -56,11 +58,12 @@ use Rattle.questions.specs.declared.channels.Descriptor.{Descriptor}
 use Rattle.questions.specs.declared.items.ItemTold.{ItemTold}
 use Rattle.questions.specs.declared.items.ItemTold.the-variants as ItemTold
 use Rattle.makers.specs.Makers.{firstMaker}
+use Rattle.permit.specs.Permit as Permit
 use Rattle.permit.specs.declared.Written.{Written}
 use Rattle.permit.specs.declared.Written.the-variants as Written
 use Rattle.turn.specs.Turn.{Turns}
 use Rattle.rewrite.specs.Rewrite.{barrier, rewrittenIn, Rewrites}
-use Rattle.answers.specs.Flat.{counted, flatFacts, flatChannel, flatItem, flatClock, flatCount, flatSample}
+use Rattle.answers.specs.Flat.{counted, stopped, countedRows, countedBytes, headed, unheaded, flatFacts, flatChannel, flatItem, flatClock, flatCount, flatSample}
 use Rattle.answers.specs.declared.Channel.{Channel}
 use Rattle.answers.specs.declared.Clock.{Clock}
 use Rattle.answers.specs.declared.Counted.{Counted}
@@ -71,7 +74,6 @@ use Rattle.answers.specs.declared.Sample.{Sample}
 use Rattle.answers.specs.declared.View.{View}
 use Rattle.psg.specs.Calls.{JudgeAnswers, TableAnswers, TurnAnswers, RewriteAnswers, FactsAnswers, ChannelAnswers, PatientItemAnswers, EventItemAnswers, ClockAnswers, CountAnswers, SampleAnswers, ViewAnswers}
 use Rattle.demands.specs.Bits.{ChannelIs, SampleIs, PartIs}
-use Rattle.demands.specs.Boundary.{Parts, stoppedBy, headedBy, unheadedBy, judgeParts, listedParts, writtenParts, factsParts, channelParts, itemParts, clockParts, countParts, sampleParts}
 
 -- Demand 1: every call answers, with a value or with a refusal that document 01 gives for it; and a buffer keeps what the answer does not state
 
@@ -144,20 +146,36 @@ abbrev pub listedRows : Outcome R.File → List Row
 listedRows (refused n p) = []
 listedRows (passed v l t) = rows 0 t
 
--- what C is answered, a, of a call about the file s whose answers are taken apart by c, that has these numbers and needs so many elements of its buffer
-pub record TakenApart {E A : Type 0} (s : List ℕ) (c : Parts E A) (meets : E → Type 0) (numbers : ℕ → Bool) (need : ℕ) (a : A) : Type 0 where
-  -- the answer of the call of Rattle, for the same file and buffer: what the demands say of it holds
+-- What C is answered: the answer of the call of Rattle, taken apart into numbers (`Flat`)
+
+abbrev pub stoppedBy : Refusal → Counted
+stoppedBy r = stopped (r .0) (r .1)
+
+abbrev pub unheadedBy : Refusal → Header
+unheadedBy r = unheaded (r .0) (r .1)
+
+-- a header, with its order's letter
+abbrev pub headedBy : FileHeader → Header
+headedBy h = headed (letterOf (h .order)) (h .heading .script) (h .count)
+
+abbrev pub flatJudged : Judged → Header
+flatJudged (Judged.Accepted h) = headedBy h
+flatJudged (Judged.Refused r) = unheadedBy r
+
+-- the answer a for C, in which n is the refusal and p its position, by a call about the file s that has these numbers and needs so many elements of its buffer
+pub record TakenApart {E A : Type 0} (s : List ℕ) (meets : E → Type 0) (refuse : Refusal → E) (apart : E → A) (numbers : ℕ → Bool) (need n p : ℕ) (a : A) : Type 0 where
+  -- what the call of Rattle answers, for the same file and buffer: all that the demands say of it holds
   pub told : E
   pub met : meets told
-  pub same : a ≡ c .apart told
+  pub same : a ≡ apart told
   -- of a file that the rules refuse, their refusal
-  pub handed : (n p : ℕ) → R.judge s ≡ refused n p → a ≡ c .apart (c .refuse (refusalOf n p))
-  -- the number 0: it is no refusal
-  pub answered : c .says a .0 ≡ 0 → (r : Refusal) → told ≡ c .refuse r → ⊥
-  -- another: it is this refusal, one of the call's, and all else in a is 0
-  pub refused : 1 ≤ c .says a .0 → told ≡ c .refuse (c .says a)
-  pub proper : 1 ≤ c .says a .0 → Refuses numbers (length s) need (c .says a)
-  pub rest : 1 ≤ c .says a .0 → a ≡ c .apart (c .refuse (c .says a))
+  pub handed : (m q : ℕ) → R.judge s ≡ refused m q → a ≡ apart (refuse (refusalOf m q))
+  -- n is 0: told is no refusal
+  pub answered : n ≡ 0 → (r : Refusal) → told ≡ refuse r → ⊥
+  -- n is another number: told is n at p, one of the call's refusals, and the rest of a is 0
+  pub refused : 1 ≤ n → told ≡ refuse (refusalOf n p)
+  pub proper : 1 ≤ n → Refuses numbers (length s) need (refusalOf n p)
+  pub rest : 1 ≤ n → a ≡ apart (refuse (refusalOf n p))
 
 -- the part a of the file that C is told
 pub record PartTold (file : RefT (List ℕ)) (i j k : ℕ) (a : View) : Type 0 where
@@ -170,20 +188,22 @@ pub record PartTold (file : RefT (List ℕ)) (i j k : ℕ) (a : View) : Type 0 w
 
 -- of the file s: what C is answered by each call that it links
 pub record Boundary (s : List ℕ) : Type 0 where
-  pub judge : (a : Header) → JudgeAnswers s a → TakenApart s judgeParts (JudgedAs s) ofFile 0 a
-  pub table : (out out′ : List ℤ) (a : Counted) → TableAnswers s out out′ a → TakenApart s listedParts (Lists s out out′) ofTable (4 * length (listedRows (R.judge s))) a
+  pub judge : (a : Header) → JudgeAnswers s a → TakenApart s (JudgedAs s) Judged.Refused flatJudged ofFile 0 (a .refusal) (a .position) a
+  pub table : (out out′ : List ℤ) (a : Counted) → TableAnswers s out out′ a →
+      TakenApart s (Lists s out out′) Listed.Refused (λ b. countedRows (Table.meaning b)) ofTable (4 * length (listedRows (R.judge s))) (a .refusal) (a .position) a
   pub table-keeps : (out out′ : List ℤ) (a : Counted) → TableAnswers s out out′ a → KeepsRest stoppedBy counted 4 out out′ a
-  pub turn : (out out′ : List ℕ) (a : Counted) → TurnAnswers s out out′ a → TakenApart s writtenParts (Turns s out out′) ofTurn (length s) a
+  pub turn : (out out′ : List ℕ) (a : Counted) → TurnAnswers s out out′ a → TakenApart s (Turns s out out′) Written.Refused (λ b. countedBytes (Permit.meaning b)) ofTurn (length s) (a .refusal) (a .position) a
   pub turn-keeps : (out out′ : List ℕ) (a : Counted) → TurnAnswers s out out′ a → KeepsRest stoppedBy counted 1 out out′ a
-  pub rewrite : (order : ℕ) (out out′ : List ℕ) (a : Counted) → RewriteAnswers s order out out′ a → TakenApart s writtenParts (Rewrites s order out out′) ofRewrite (length (rewrittenIn (lettered order) s)) a
+  pub rewrite : (order : ℕ) (out out′ : List ℕ) (a : Counted) → RewriteAnswers s order out out′ a →
+      TakenApart s (Rewrites s order out out′) Written.Refused (λ b. countedBytes (Permit.meaning b)) ofRewrite (length (rewrittenIn (lettered order) s)) (a .refusal) (a .position) a
   pub rewrite-keeps : (order : ℕ) (out out′ : List ℕ) (a : Counted) → RewriteAnswers s order out out′ a → KeepsRest stoppedBy counted 1 out out′ a
-  pub facts : (i : ℕ) (a : Facts) → FactsAnswers s i a → TakenApart s factsParts (FactsAnswer s i) ofQuestion 0 a
-  pub channel : (i j : ℕ) (a : Channel) → ChannelAnswers s i j a → TakenApart s channelParts (ChannelAnswer s i j) ofQuestion 0 a
-  pub patient-item : (i j : ℕ) (a : Item) → PatientItemAnswers s i j a → TakenApart s itemParts (PatientItemAnswer s i j) ofQuestion 0 a
-  pub event-item : (i j : ℕ) (a : Item) → EventItemAnswers s i j a → TakenApart s itemParts (EventItemAnswer s i j) ofQuestion 0 a
-  pub clock : (i j : ℕ) (a : Clock) → ClockAnswers s i j a → TakenApart s clockParts (ClockAnswer s i j) ofQuestion 0 a
-  pub count : (i j k : ℕ) (a : Counted) → CountAnswers s i j k a → TakenApart s countParts (CountAnswer s i j k) ofQuestion 0 a
-  pub sample : (i j k n : ℕ) (a : Sample) → SampleAnswers s i j k n a → TakenApart s sampleParts (SampleAnswer s i j k n) ofQuestion 0 a
+  pub facts : (i : ℕ) (a : Facts) → FactsAnswers s i a → TakenApart s (FactsAnswer s i) FactsTold.Refused (λ b. flatFacts (meaningF b)) ofQuestion 0 (a .refusal) (a .position) a
+  pub channel : (i j : ℕ) (a : Channel) → ChannelAnswers s i j a → TakenApart s (ChannelAnswer s i j) ChannelTold.Refused (λ b. flatChannel (meaningD b)) ofQuestion 0 (a .refusal) (a .position) a
+  pub patient-item : (i j : ℕ) (a : Item) → PatientItemAnswers s i j a → TakenApart s (PatientItemAnswer s i j) ItemTold.Refused (λ b. flatItem (meaningI b)) ofQuestion 0 (a .refusal) (a .position) a
+  pub event-item : (i j : ℕ) (a : Item) → EventItemAnswers s i j a → TakenApart s (EventItemAnswer s i j) ItemTold.Refused (λ b. flatItem (meaningI b)) ofQuestion 0 (a .refusal) (a .position) a
+  pub clock : (i j : ℕ) (a : Clock) → ClockAnswers s i j a → TakenApart s (ClockAnswer s i j) ClockTold.Refused (λ b. flatClock (meaningT b)) ofQuestion 0 (a .refusal) (a .position) a
+  pub count : (i j k : ℕ) (a : Counted) → CountAnswers s i j k a → TakenApart s (CountAnswer s i j k) CountTold.Refused (λ b. flatCount (meaningC b)) ofQuestion 0 (a .refusal) (a .position) a
+  pub sample : (i j k n : ℕ) (a : Sample) → SampleAnswers s i j k n a → TakenApart s (SampleAnswer s i j k n) SampleTold.Refused (λ b. flatSample (meaningS b)) ofQuestion 0 (a .refusal) (a .position) a
   pub view : (file : RefT (List ℕ)) → file .now ≡ s → (i j k : ℕ) (a : View) → ViewAnswers s i j k a → PartTold file i j k a
 
 -- of the file s: what each public call answers, whatever else it is asked
@@ -305,13 +325,13 @@ pub record Tells (s : List ℕ) (g : Reading) : Type 0 where
   -- the bytes of a view, by the channel's width and the file's order, are the reading's samples, as many as are counted
   pub view : (i j k : ℕ) (a : CountTold) → CountAnswer s i j k a → Alike (ViewIs s g i j k) (meaningC a) (samplesRead g i j k)
 
--- what C is answered, a, is an answer taken apart that is alike with what the reading has
+-- the answer a for C is one taken apart that is alike with what the reading has, x
 pub record TellsApart {X Y A : Type 0} (apart : Answer Y → A) (Holds : Y → X → Type 0) (x : Answer X) (a : A) : Type 0 where
   pub told : Answer Y
   pub same : a ≡ apart told
   pub alike : Alike Holds told x
 
--- and so is each that C asks
+-- each question of C about a file with this reading answers what the reading says
 pub record BoundaryTells (s : List ℕ) (g : Reading) : Type 0 where
   pub facts : (i : ℕ) (a : Facts) → FactsAnswers s i a → a ≡ flatFacts (recordingRead g i >>= λ r. value (countsIn r))
   pub channel : (i j : ℕ) (a : Channel) → ChannelAnswers s i j a → TellsApart flatChannel (ChannelIs s j) (channelRead g i j) a
@@ -349,7 +369,7 @@ pub record Demand-2 (s : List ℕ) : Type 0 where
   -- with a letter that names an order, no maker's record in the way, and room, the file is written anew
   pub rewrites : (v : R.File) (t : List Event) → Accepted s v t → (order : ℕ) (to : Order) → lettered order ≡ Lettered.Names to → barrier (R.orderOf s) to (firstMaker (rows 0 t)) ≡ none →
       (out out′ : List ℕ) (a : Written) → length (rewritten to s) ≤ length out → Rewrites s order out out′ a → WrittenAnew Written.Bytes (reading v) to out′ a
-  -- the same, as C is answered
+  -- what C is answered
   pub boundary-judges : (a : Header) → JudgeAnswers s a → JudgesByRules headedBy unheadedBy s a
   pub boundary-lists : (v : R.File) (t : List Event) → Accepted s v t → (out out′ : List ℤ) (a : Counted) → 4 * length (rows 0 t) ≤ length out → TableAnswers s out out′ a → TableHolds counted (rows 0 t) out′ a
   pub boundary-answers : (v : R.File) (t : List Event) → Accepted s v t → BoundaryTells s (reading v)
@@ -388,7 +408,7 @@ pub record SameNumbers (g : Reading) (i k : ℕ) (file r file′ r′ : RefT (Li
   -- the same words, by the width of the channel's samples
   pub words : (c : ChannelReading) → channelRead g i k ≡ value c → SameWords (R.width (unsigned 4 (c .format))) (R.orderOf (file .now)) (R.orderOf (file′ .now)) (r .now) (r′ .now)
 
--- what C is answered of the file s and of the file s′ that was written of it
+-- what C is answered of the file s and of the file s′ that `turn` wrote of it
 pub record BoundarySame (s s′ : List ℕ) : Type 0 where
   pub table : (out out₁ out₂ : List ℤ) (a b : Counted) → TableAnswers s out out₁ a → TableAnswers s′ out out₂ b → SameEnd a b out₁ out₂
   pub facts : (i : ℕ) (a b : Facts) → FactsAnswers s i a → FactsAnswers s′ i b → a ≡ b
@@ -432,7 +452,7 @@ pub record Same (s : List ℕ) (g : Reading) (s′ : List ℕ) : Type 0 where
       (out₁ out₁′ : List ℕ) (a : Written) → length (rewritten to s) ≤ length out₁ → Rewrites s order out₁ out₁′ a →
       (out₂ out₂′ : List ℕ) (b : Written) → length (rewritten to s) ≤ length out₂ → Rewrites s′ order out₂ out₂′ b →
       SameFront (length (rewritten to s)) a b out₁′ out₂′
-  -- the same, as C is answered
+  -- what C is answered
   pub boundary : BoundarySame s s′
 
 pub record Demand-3 (s : List ℕ) : Type 0 where
@@ -440,7 +460,7 @@ pub record Demand-3 (s : List ℕ) : Type 0 where
   pub answers : (v : R.File) (t : List Event) → Accepted s v t → firstMaker (rows 0 t) ≡ none → (out out′ : List ℕ) (a : Written) → length s ≤ length out → Turns s out out′ a → a ≡ Written.Bytes (length s)
   pub turned : (v : R.File) (t : List Event) → Accepted s v t → firstMaker (rows 0 t) ≡ none → (out out′ : List ℕ) (a : Written) → length s ≤ length out → Turns s out out′ a →
       Same s (reading v) (take (length s) out′)
-  -- and so does what C is answered
+  -- and so does the call that C links
   pub boundary-answers : (v : R.File) (t : List Event) → Accepted s v t → firstMaker (rows 0 t) ≡ none → (out out′ : List ℕ) (a : Counted) → length s ≤ length out → TurnAnswers s out out′ a → a ≡ counted (length s)
   pub boundary-turned : (v : R.File) (t : List Event) → Accepted s v t → firstMaker (rows 0 t) ≡ none → (out out′ : List ℕ) (a : Counted) → length s ≤ length out → TurnAnswers s out out′ a →
       Same s (reading v) (take (length s) out′)

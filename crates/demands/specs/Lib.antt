@@ -1,3 +1,2 @@
-pub mod Boundary
 pub mod Demands
 pub mod Bits
