@@ -14,12 +14,12 @@ use Rattle.words.specs.declared.Order.{Order}
 use Rattle.words.specs.declared.Order.the-variants.{Little, Big}
 use Rattle.walk.specs.See.{Verdict, goes, gate}
 use Rattle.walk.specs.Walk.{Event, Outcome, refused, passed}
+use Rattle.walk.proofs.Apart.{false-true, stops-goes}
 use Rattle.rules.specs.Rules as R
 use Rattle.rules.specs.declared.FileHeader.{FileHeader}
 use Rattle.rules.specs.declared.Refusal.{Refusal}
 use Rattle.rules.proofs.Turn.{nothing-left}
 use Rattle.records.specs.declared.items.Holder.the-variants as Holder
-use Rattle.records.proofs.Opened.{halted}
 use Rattle.header.specs.Letters.{lettered}
 use Rattle.header.specs.Opened.{names}
 use Rattle.header.proofs.Opening.{header-open}
@@ -194,7 +194,7 @@ sample = record { meaning = meaningS; tell = SampleTold.Value; refuse = SampleTo
 gate-passed : {A : Type 0} (c : Bool) (v : Verdict A) (n p : ℕ) {e : ℕ} {a : A} → gate c v n p ≡ goes a e → (c ≡ true) × (v ≡ goes a e)
 unfolding gate
 gate-passed true v n p h = (refl, h)
-gate-passed false v n p h = halted refl h
+gate-passed false v n p h = stops-goes h
 
 -- the letter of an accepted file is its order's
 letter-named : (s : List ℕ) → names (lettered (getD s 16 0)) ≡ true → getD s 16 0 ≡ letterOf (R.orderOf s)
@@ -204,7 +204,7 @@ letter-named s h = go (eqb (getD s 16 0) 76) (eqb (getD s 16 0) 66) refl refl
     go : (x y : Bool) → eqb (getD s 16 0) 76 ≡ x → eqb (getD s 16 0) 66 ≡ y → getD s 16 0 ≡ letterOf (R.orderOf s)
     go x true e f = rw (R.orderOf, f, eqb-true (getD s 16 0) 66 f)
     go true false e f = rw (R.orderOf, f, eqb-true (getD s 16 0) 76 e)
-    go false false e f = absurd (let z : 1 ≡ 0 = eqb-true 1 0 (rw (lettered, e, f) at h) in omega arith)
+    go false false e f = false-true (rw (lettered, e, f) at h)
 
 letter-is : (s : List ℕ) (h : FileHeader) → AcceptedAs s h → getD s 16 0 ≡ letterOf (R.orderOf s)
 letter-is s h x =

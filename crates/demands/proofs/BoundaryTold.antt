@@ -9,7 +9,7 @@ use Rattle.rules.specs.Rules as R
 use Rattle.rules.specs.Reading.{Value, reading}
 use Rattle.records.specs.declared.items.Holder.the-variants as Holder
 use Rattle.recordings.specs.Answers.{Answer, value}
-use Rattle.recordings.proofs.Chosen.{no-value}
+use Rattle.recordings.proofs.Chosen.{refusal-value}
 use Rattle.questions.specs.Questions.{channelOf, patientItemOf, eventItemOf, sampleOf}
 use Rattle.questions.specs.Tied.{channelRead, samplesRead, Alike, values, refusals, NumbersAre, TextsAre}
 use Rattle.questions.proofs.Readings.{alike-value, numbers-read}
@@ -34,7 +34,7 @@ alike-also refusals q f = refusals
 
 alike-given : {A B : Type 0} {P : A → B → Type 0} {x : Answer A} {y : Answer B} {b : B} → Alike P x y → y ≡ value b → (a : A) × P a b
 alike-given {b} (values {a} {b = c} p) e = let i : c ≡ b = cc in (a, rw (← i) p)
-alike-given refusals e = absurd (no-value e)
+alike-given refusals e = refusal-value e
 
 -- An accepted file
 
