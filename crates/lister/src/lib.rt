@@ -1,23 +1,29 @@
 // Prints what the table says of a file: a record a line, or the refusal.
 ghost use Prim.Native.Nat.{_<_};
+ghost use mathlib.Core.Path.{_≡_};
+ghost use lib.IntN.{natAbs};
 use table::Listed;
 
 // A file of 32,768 bytes has at most 2,048 records, of four numbers each.
 const ROWS: usize = 2048;
 
-// A number that is not negative, as print_decimal takes it; 0 for any other.
-fn natural(n: i64) -> u64 {
-    if n < 0 { 0 } else { n as u64 }
+// A number without its sign, as print_decimal takes it. -1 - n does not overflow where -n might.
+fn magnitude(n: i64) -> u64
+    ensures { λ r. ⌜ r ≡ natAbs n ⌝ }
+{
+    if n < 0 {
+        (-1 - n) as u64 + 1
+    } else {
+        n as u64
+    }
 }
 
-// A number of a row, with a sign where it is negative: there -n is !n + 1, which is at most 2^63 and so does not wrap.
+// A number of a row, with a sign where it is negative.
 fn print_number(n: i64) {
     if n < 0 {
         io::write_all(1, b"-");
-        io::print_decimal(1, std::num::wrapping_add_u64(natural(!n), 1));
-    } else {
-        io::print_decimal(1, natural(n));
     }
+    io::print_decimal(1, magnitude(n));
 }
 
 // The row whose four numbers start at `at`.
