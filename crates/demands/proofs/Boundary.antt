@@ -59,7 +59,7 @@ use Rattle.turn.specs.Turn as Turn
 use Rattle.turn.specs.Turn.{Turns}
 use Rattle.rewrite.specs.Rewrite as Rewrite
 use Rattle.rewrite.specs.Rewrite.{rewrittenIn, Rewrites}
-use Rattle.answers.specs.Flat.{counted, countedRows, countedBytes, flatFacts, flatChannel, flatItem, flatClock, flatCount, flatSample}
+use Rattle.answers.specs.Flat.{countedRows, countedBytes, flatFacts, flatChannel, flatItem, flatClock, flatCount, flatSample}
 use Rattle.answers.specs.declared.Channel.{Channel}
 use Rattle.answers.specs.declared.Clock.{Clock}
 use Rattle.answers.specs.declared.Counted.{Counted}
@@ -68,7 +68,7 @@ use Rattle.answers.specs.declared.Header.{Header}
 use Rattle.answers.specs.declared.Item.{Item}
 use Rattle.answers.specs.declared.Sample.{Sample}
 use Rattle.psg.specs.Calls.{JudgeAnswers, TableAnswers, TurnAnswers, RewriteAnswers}
-use Rattle.demands.specs.Demands.{ofFile, ofTable, ofTurn, ofRewrite, ofQuestion, refusalOf, Refuses, Answered, KeepsRest, listedRows, stoppedBy, unheadedBy, headedBy, flatJudged, TakenApart, Boundary, Accepted, headerOf, JudgesByRules}
+use Rattle.demands.specs.Demands.{ofFile, ofTable, ofTurn, ofRewrite, ofQuestion, refusalOf, Refuses, Answered, KeepsRest, listedRows, wroteC, stoppedC, headerC, refusedC, flatJudged, TakenApart, Boundary, Accepted, headerOf, JudgesByRules}
 use Rattle.demands.proofs.Refusing.{of-file, table-refuses, table-keeps, turn-refuses, turn-keeps, rewrite-refuses, rewrite-keeps, Proper, proper-facts, proper-channel, proper-item, proper-clock, proper-count, proper-sample}
 use Rattle.demands.proofs.Viewing.{part-told}
 
@@ -123,16 +123,16 @@ either-bytes (Permit.bytes n) = a-value n
 either-bytes (Permit.refusal n p) = a-refusal n p
 
 -- answers of the type E by their meaning, and the numbers A by it
-record Meant {M X : Type 0} (val : X → M) (ref : ℕ → ℕ → M) (E A : Type 0) : Type 0 where
-  meaning : E → M
-  tell : X → E
-  refuse : Refusal → E
-  flat : M → A
-  says : A → Refusal
-  tells : (v : X) → meaning (tell v) ≡ val v
-  refuses : (r : Refusal) → meaning (refuse r) ≡ ref (r .0) (r .1)
-  zero : (v : X) → says (flat (val v)) .0 ≡ 0
-  named : (n p : ℕ) → says (flat (ref n p)) ≡ refusalOf n p
+pub record Meant {M X : Type 0} (val : X → M) (ref : ℕ → ℕ → M) (E A : Type 0) : Type 0 where
+  pub meaning : E → M
+  pub tell : X → E
+  pub refuse : Refusal → E
+  pub flat : M → A
+  pub says : A → Refusal
+  pub tells : (v : X) → meaning (tell v) ≡ val v
+  pub refuses : (r : Refusal) → meaning (refuse r) ≡ ref (r .0) (r .1)
+  pub zero : (v : X) → says (flat (val v)) .0 ≡ 0
+  pub named : (n p : ℕ) → says (flat (ref n p)) ≡ refusalOf n p
 
 module _ {M X E A : Type 0} {val : X → M} {ref : ℕ → ℕ → M} (l : Meant val ref E A) where
   -- the answer with the meaning m
@@ -159,7 +159,7 @@ module _ {M X E A : Type 0} {val : X → M} {ref : ℕ → ℕ → M} (l : Meant
       (λ u j. ap (l .says) (e ∙ ap (l .flat) (is u j)) ∙ l .named (u .0) (u .1)) (λ u j. proper (u .0) (u .1) (is u j)) (told-kind x e)
 
 -- the answers of each call
-sample-zero : (v : Number) → flatSample (value v) .refusal ≡ 0
+pub sample-zero : (v : Number) → flatSample (value v) .refusal ≡ 0
 sample-zero (Number.Whole z) = refl
 sample-zero (Number.Float v) = refl
 sample-zero (Number.Pattern n) = refl
@@ -170,22 +170,22 @@ listed = record { meaning = Table.meaning; tell = Listed.Rows; refuse = Listed.R
 abbrev written : Meant Permit.bytes Permit.refusal Written Counted
 written = record { meaning = Permit.meaning; tell = Written.Bytes; refuse = Written.Refused; flat = countedBytes; says = λ a. refusalOf (a .refusal) (a .position); tells = λ v. refl; refuses = λ r. refl; zero = λ v. refl; named = λ n p. refl }
 
-abbrev facts : Meant {X = Counts} value refusal FactsTold Facts
+abbrev pub facts : Meant {X = Counts} value refusal FactsTold Facts
 facts = record { meaning = meaningF; tell = FactsTold.Facts; refuse = FactsTold.Refused; flat = flatFacts; says = λ a. refusalOf (a .refusal) (a .position); tells = λ v. refl; refuses = λ r. refl; zero = λ v. refl; named = λ n p. refl }
 
-abbrev channel : Meant {X = Descriptor} value refusal ChannelTold Channel
+abbrev pub channel : Meant {X = Descriptor} value refusal ChannelTold Channel
 channel = record { meaning = meaningD; tell = ChannelTold.Channel; refuse = ChannelTold.Refused; flat = flatChannel; says = λ a. refusalOf (a .refusal) (a .position); tells = λ v. refl; refuses = λ r. refl; zero = λ v. refl; named = λ n p. refl }
 
-abbrev item : Meant {X = Entry} value refusal ItemTold Item
+abbrev pub item : Meant {X = Entry} value refusal ItemTold Item
 item = record { meaning = meaningI; tell = ItemTold.Item; refuse = ItemTold.Refused; flat = flatItem; says = λ a. refusalOf (a .refusal) (a .position); tells = λ v. refl; refuses = λ r. refl; zero = λ v. refl; named = λ n p. refl }
 
-abbrev clock : Meant {X = Time} value refusal ClockTold Clock
+abbrev pub clock : Meant {X = Time} value refusal ClockTold Clock
 clock = record { meaning = meaningT; tell = ClockTold.At; refuse = ClockTold.Refused; flat = flatClock; says = λ a. refusalOf (a .refusal) (a .position); tells = λ v. refl; refuses = λ r. refl; zero = λ v. refl; named = λ n p. refl }
 
-abbrev count : Meant {X = ℕ} value refusal CountTold Counted
+abbrev pub count : Meant {X = ℕ} value refusal CountTold Counted
 count = record { meaning = meaningC; tell = CountTold.Samples; refuse = CountTold.Refused; flat = flatCount; says = λ a. refusalOf (a .refusal) (a .position); tells = λ v. refl; refuses = λ r. refl; zero = λ v. refl; named = λ n p. refl }
 
-abbrev sample : Meant {X = Number} value refusal SampleTold Sample
+abbrev pub sample : Meant {X = Number} value refusal SampleTold Sample
 sample = record { meaning = meaningS; tell = SampleTold.Value; refuse = SampleTold.Refused; flat = flatSample; says = λ a. refusalOf (a .refusal) (a .position); tells = λ v. refl; refuses = λ r. refl; zero = sample-zero; named = λ n p. refl }
 
 -- The verdict
@@ -228,18 +228,18 @@ accepted-as : {s : List ℕ} {v : R.File} {t : List Event} → Accepted s v t �
 accepted-as {v} {t} h = record { file = v; events = t; judged = h; order = refl; heading = refl; count = refl }
 
 -- what C is answered of an accepted file
-headed-by : (s : List ℕ) {a : Header} {v : R.File} {t : List Event} → JudgeAnswers s a → Accepted s v t → a ≡ headedBy (headerOf s v)
+headed-by : (s : List ℕ) {a : Header} {v : R.File} {t : List Event} → JudgeAnswers s a → Accepted s v t → a ≡ headerC (headerOf s v)
 headed-by s {v} x h = x ∙ rw (h, letter-is s (headerOf s v) (accepted-as h))
 
 -- What is left of a buffer
 
 -- an answer for C about a buffer, and the answer of Rattle
 data Ends {E : Type 0} (refuse : Refusal → E) (wrote : ℕ → E) (a : Counted) (c : E) : Type 0 where
-  ended : (n : ℕ) → c ≡ wrote n → a ≡ counted n → Ends refuse wrote a c
-  stops : (r : Refusal) → c ≡ refuse r → a ≡ stoppedBy r → Ends refuse wrote a c
+  ended : (n : ℕ) → c ≡ wrote n → a ≡ wroteC n → Ends refuse wrote a c
+  stops : (r : Refusal) → c ≡ refuse r → a ≡ stoppedC r → Ends refuse wrote a c
 
 module _ {B E : Type 0} {refuse : Refusal → E} {wrote : ℕ → E} {each : ℕ} {out out′ : List B} {a : Counted} {c : E} where
-  kept : KeepsRest refuse wrote each out out′ c → Ends refuse wrote a c → KeepsRest stoppedBy counted each out out′ a
+  kept : KeepsRest refuse wrote each out out′ c → Ends refuse wrote a c → KeepsRest stoppedC wroteC each out out′ a
   kept k (ended n i e) = record {
     refused = λ r j.
         let z : n ≡ 0 = ap (λ (y : Counted). y .count) (sym e ∙ j) in
@@ -319,12 +319,12 @@ module _ (s : List ℕ) (b : Bytes s) where
   }
 
   -- accepted and refused exactly as the rules do
-  pub boundary-judges : (a : Header) → JudgeAnswers s a → JudgesByRules headedBy unheadedBy s a
+  pub boundary-judges : (a : Header) → JudgeAnswers s a → JudgesByRules headerC refusedC s a
   boundary-judges a x =
       let y = judge-apart a x in
       record { accepts = λ v t h. headed-by s x h; accepted = as-accepted (y .told) (y .met) (y .same); refuses = λ n p h. x ∙ rw h; refused = as-refused (y .told) (y .met) (y .same) }
     where
-      as-accepted : (j : Judged) → JudgedAs s j → a ≡ flatJudged j → (h : FileHeader) → a ≡ headedBy h → AcceptedAs s h
+      as-accepted : (j : Judged) → JudgedAs s j → a ≡ flatJudged j → (h : FileHeader) → a ≡ headerC h → AcceptedAs s h
       as-accepted (Judged.Accepted k) m e h i =
           let o : k .order ≡ h .order = letter-one (k .order) (h .order) (ap (λ (z : Header). z .order) (sym e ∙ i)) in
           let c : k .heading .script ≡ h .heading .script = ap (λ (z : Header). z .script) (sym e ∙ i) in
@@ -333,6 +333,6 @@ module _ (s : List ℕ) (b : Bytes s) where
           rw w at m
       as-accepted (Judged.Refused r) m e h i = let z : r .0 ≡ 0 = ap (λ (y : Header). y .refusal) (sym e ∙ i) in absurd (omega (arith, of-file s ofFile 0 (λ n h. h) r m .nonzero))
 
-      as-refused : (j : Judged) → JudgedAs s j → a ≡ flatJudged j → (n p : ℕ) → a ≡ unheadedBy (refusalOf n p) → R.judge s ≡ refused n p
+      as-refused : (j : Judged) → JudgedAs s j → a ≡ flatJudged j → (n p : ℕ) → a ≡ refusedC (refusalOf n p) → R.judge s ≡ refused n p
       as-refused (Judged.Accepted k) m e n p i = let z : letterOf (k .order) ≡ 0 = ap (λ (y : Header). y .order) (sym e ∙ i) in absurd (omega (arith, letter-some (k .order)))
       as-refused (Judged.Refused r) m e n p i = m ∙ ap (λ (y : Header). refused (y .refusal) (y .position)) (sym e ∙ i)

@@ -3,27 +3,30 @@
 use mathlib.Core.Path.{_≡_, refl, ap, _∙_}
 use mathlib.Core.List.{List}
 use Prim.Native.Nat.{ℕ}
+use lib.ListN.{length}
 use Rattle.words.specs.Numbers.{Bytes}
 use Rattle.walk.specs.Walk.{Event}
 use Rattle.rules.specs.Rules as R
-use Rattle.rules.specs.Reading.{Value, reading}
+use Rattle.rules.specs.Reading.{Value, ChannelReading, reading}
+use Rattle.rules.specs.declared.Refusal.{Refusal}
 use Rattle.records.specs.declared.items.Holder.the-variants as Holder
-use Rattle.recordings.specs.Answers.{Answer, value}
+use Rattle.recordings.specs.Answers.{Answer, value, refusal}
 use Rattle.recordings.proofs.Chosen.{refusal-value}
-use Rattle.questions.specs.Questions.{channelOf, patientItemOf, eventItemOf, sampleOf}
-use Rattle.questions.specs.Tied.{channelRead, samplesRead, Alike, values, refusals, NumbersAre, TextsAre}
-use Rattle.questions.proofs.Readings.{alike-value, numbers-read}
+use Rattle.questions.specs.Questions.{channelOf}
+use Rattle.questions.specs.Tied.{channelRead, samplesRead, Alike, values, refusals, FactsAre, NumbersAre, TextsAre, ItemIs, ClockIs}
+use Rattle.questions.specs.declared.channels.Descriptor.{Descriptor}
+use Rattle.questions.proofs.Readings.{alike-value, facts-read, numbers-read, clock-read}
 use Rattle.questions.proofs.Texts.{channel-texts, item-text}
 use Rattle.questions.proofs.Views.{view-samples}
-use Rattle.answers.specs.Flat.{flatFacts, flatClock, flatCount}
+use Rattle.answers.specs.Flat.{flatChannel}
 use Rattle.answers.specs.declared.View.{View}
 use Rattle.psg.specs.Calls.{ViewAnswers}
-use Rattle.demands.specs.Bits.{ChannelIs, PartIs}
-use Rattle.demands.specs.Demands.{Accepted, BoundaryTells}
+use Rattle.demands.specs.Bits.{CalibrationIs, ChannelIs, SampleIs, PartIs}
+use Rattle.demands.specs.Demands.{Accepted, TellsC, countsC, entryC, timeC, BoundaryTells}
+use Rattle.demands.proofs.Boundary.{Meant, facts, channel, item, clock, count, sample}
 use Rattle.demands.proofs.Floats.{calibration-bits, sample-bits}
-use Rattle.demands.proofs.Telling.{facts-told, clock-told, count-told}
 
--- Answers that are alike in two ways; and what stands behind a value of the reading
+-- Answers that are alike: in two ways, behind a value of the reading, and with the first taken apart
 
 alike-also : {A B : Type 0} {P Q K : A → B → Type 0} {x : Answer A} {y : Answer B} → Alike P x y → Alike Q x y → ((a : A) (b : B) → P a b → Q a b → K a b) → Alike K x y
 alike-also (values {a} {b} p) q f =
@@ -36,13 +39,35 @@ alike-given : {A B : Type 0} {P : A → B → Type 0} {x : Answer A} {y : Answer
 alike-given {b} (values {a} {b = c} p) e = let i : c ≡ b = cc in (a, rw (← i) p)
 alike-given refusals e = refusal-value e
 
+module _ {Y E A : Type 0} (l : Meant {X = Y} value refusal E A) {X : Type 0} {P : Y → X → Type 0} {a : A} (Holds : A → X → Type 0) where
+  tells : {m : Answer Y} {x : Answer X} → a ≡ l .flat m → Alike P m x → ((y : Y) (u : X) → P y u → Holds (l .flat (value y)) u) → TellsC (Holds a) (l .says a .0) (l .says a .1) x
+  tells e (values {a = y} {b = u} p) f = (ap (λ (z : A). l .says z .0) e ∙ l .zero y, rw e (f y u p))
+  tells e (refusals {n} {p = q}) f = (ap (λ (z : A). l .says z .0) e ∙ ap (λ (r : Refusal). r .0) (l .named n q), ap (λ (z : A). l .says z .1) e ∙ ap (λ (r : Refusal). r .1) (l .named n q))
+
 -- An accepted file
 
+channel-is : {s : List ℕ} {j : ℕ} (d : Descriptor) (c : ChannelReading) → (NumbersAre d c × TextsAre s d c) → CalibrationIs s j (flatChannel (value d)) c → ChannelIs s j (flatChannel (value d)) c
+channel-is d c (n, t) b = record {
+  number = n .number;
+  flags = n .flags;
+  kind = n .kind;
+  format = n .format;
+  rate = n .rate;
+  frequency = n .frequency;
+  low-cut = n .lowCut;
+  high-cut = n .highCut;
+  sensitivity = n .sensitivity;
+  label = t .label;
+  unit = t .unit;
+  comment = t .comment;
+  calibration = b;
+}
+
 module _ (s : List ℕ) (b : Bytes s) {v : R.File} {t : List Event} (h : Accepted s v t) where
-  channel-is : (i j : ℕ) → Alike (ChannelIs s j) (channelOf s i j) (channelRead (reading v) i j)
-  channel-is i j =
+  channel-alike : (i j : ℕ) → Alike (λ d c. ChannelIs s j (flatChannel (value d)) c) (channelOf s i j) (channelRead (reading v) i j)
+  channel-alike i j =
       let x : Alike (λ d c. NumbersAre d c × TextsAre s d c) (channelOf s i j) (channelRead (reading v) i j) = alike-also (numbers-read s b h i j) (channel-texts s b h i j) (λ d c n m. (n, m)) in
-      alike-also x (calibration-bits s b h i j) (λ d c n m. record { numbers = n .0; texts = n .1; calibration = m })
+      alike-also x (calibration-bits s b h i j) channel-is
 
   part-is : (i j k : ℕ) (a : View) → ViewAnswers s i j k a → (vs : List Value) → samplesRead (reading v) i j k ≡ value vs → PartIs s (reading v) i k a vs
   part-is i j k a x vs e =
@@ -52,12 +77,12 @@ module _ (s : List ℕ) (b : Bytes s) {v : R.File} {t : List Event} (h : Accepte
 
   pub boundary-tells : BoundaryTells s (reading v)
   boundary-tells = record {
-    facts = λ i a x. x ∙ ap flatFacts (facts-told s b h i);
-    channel = λ i j a x. record { told = channelOf s i j; same = x; alike = channel-is i j };
-    patient-item = λ i j a x. record { told = patientItemOf s i j; same = x; alike = item-text s b h i j Holder.Patient };
-    event-item = λ i j a x. record { told = eventItemOf s i j; same = x; alike = item-text s b h i j Holder.Event };
-    clock = λ i j a x. x ∙ ap flatClock (clock-told s b h i j);
-    count = λ i j k a x. x ∙ ap flatCount (count-told s b h i j k);
-    sample = λ i j k n a x. record { told = sampleOf s i j k n; same = x; alike = sample-bits s b h i j k n };
+    facts = λ i a x. tells facts (λ c. FactsAre (countsC c)) x (facts-read s b h i) (λ y u k. k);
+    channel = λ i j a x. tells channel (ChannelIs s j) x (channel-alike i j) (λ y u k. k);
+    patient-item = λ i j a x. tells item (λ c. ItemIs s (entryC c)) x (item-text s b h i j Holder.Patient) (λ y u k. k);
+    event-item = λ i j a x. tells item (λ c. ItemIs s (entryC c)) x (item-text s b h i j Holder.Event) (λ y u k. k);
+    clock = λ i j a x. tells clock (λ c. ClockIs (timeC c)) x (clock-read s b h i j) (λ y u k. k);
+    count = λ i j k a x. tells count (λ c vs. c .count ≡ length vs) x (view-samples s b h i j k) (λ y u w. w .count);
+    sample = λ i j k n a x. tells sample (SampleIs s (reading v) i j k n) x (sample-bits s b h i j k n) (λ y u w. w);
     view = part-is;
   }

@@ -13,9 +13,8 @@ use Rattle.rules.specs.Rules.{orderOf, width}
 use Rattle.rules.specs.Reading.{Value, whole, float, ChannelReading, Reading}
 use Rattle.recordings.specs.Answers.{value}
 use Rattle.questions.specs.Questions.{viewOf}
-use Rattle.questions.specs.Tied.{channelRead, NumbersAre, TextsAre, formatIn, valuesAt}
-use Rattle.questions.specs.declared.channels.Descriptor.{Descriptor}
-use Rattle.answers.specs.Flat.{flatChannel}
+use Rattle.questions.specs.Tied.{channelRead, TextIs, formatIn, valuesAt}
+use Rattle.questions.specs.Values.{textAt}
 use Rattle.answers.specs.declared.Channel.{Channel}
 use Rattle.answers.specs.declared.Sample.{Sample}
 use Rattle.answers.specs.declared.View.{View}
@@ -48,11 +47,21 @@ pub record CalibrationIs (s : List ℕ) (j : ℕ) (a : Channel) (c : ChannelRead
   pub floats : a .format ≡ pos 4 → a .«is_float» ≡ 1
   pub numbers : (a .format ≡ pos 4 → ⊥) → a .«is_float» ≡ 0
 
--- the descriptor d of channel j, and its numbers for C, are those of the reading's channel c
-pub record ChannelIs (s : List ℕ) (j : ℕ) (d : Descriptor) (c : ChannelReading) : Type 0 where
-  pub numbers : NumbersAre d c
-  pub texts : TextsAre s d c
-  pub calibration : CalibrationIs s j (flatChannel (value d)) c
+-- what C is answered of channel j is the reading's channel c
+pub record ChannelIs (s : List ℕ) (j : ℕ) (a : Channel) (c : ChannelReading) : Type 0 where
+  pub number : a .number ≡ c .channel
+  pub flags : a .flags ≡ c .flags
+  pub kind : a .kind ≡ c .type
+  pub format : a .format ≡ c .format
+  pub rate : a .rate ≡ c .rate
+  pub frequency : a .frequency ≡ c .calFrequency
+  pub low-cut : a .«low_cut» ≡ c .lowCut
+  pub high-cut : a .«high_cut» ≡ c .highCut
+  pub sensitivity : a .sensitivity ≡ c .sensitivity
+  pub label : TextIs s (textAt (a .label) (a .«label_length»)) (c .label)
+  pub unit : TextIs s (textAt (a .unit) (a .«unit_length»)) (c .unit)
+  pub comment : TextIs s (textAt (a .comment) (a .«comment_length»)) (c .comment)
+  pub calibration : CalibrationIs s j a c
 
 -- A sample
 

@@ -48,13 +48,15 @@ use Rattle.samples.specs.declared.SampleTold.{SampleTold}
 use Rattle.samples.specs.declared.SampleTold.the-variants as SampleTold
 use Rattle.samples.specs.declared.Time.{Time}
 use Rattle.questions.specs.Contracts.{FactsAnswer, ChannelAnswer, PatientItemAnswer, EventItemAnswer, ClockAnswer, CountAnswer, SampleAnswer, ViewAnswer}
-use Rattle.questions.specs.Tied.{recordingRead, channelRead, itemRead, frameRead, samplesRead, sampleRead, Alike, TextsAre, ItemIs, ViewIs}
+use Rattle.questions.specs.Tied.{recordingRead, channelRead, itemRead, frameRead, samplesRead, sampleRead, Alike, FactsAre, TextsAre, ItemIs, ClockIs, ViewIs}
+use Rattle.questions.specs.Values.{textAt}
 use Rattle.questions.specs.Meanings.{meaningF, meaningD, meaningI, meaningT, meaningC, meaningS}
 use Rattle.questions.specs.declared.channels.Calibration.{Calibration}
 use Rattle.questions.specs.declared.channels.Calibration.the-variants as Calibration
 use Rattle.questions.specs.declared.channels.ChannelTold.{ChannelTold}
 use Rattle.questions.specs.declared.channels.ChannelTold.the-variants as ChannelTold
 use Rattle.questions.specs.declared.channels.Descriptor.{Descriptor}
+use Rattle.questions.specs.declared.items.Entry.{Entry}
 use Rattle.questions.specs.declared.items.ItemTold.{ItemTold}
 use Rattle.questions.specs.declared.items.ItemTold.the-variants as ItemTold
 use Rattle.makers.specs.Makers.{firstMaker}
@@ -63,7 +65,7 @@ use Rattle.permit.specs.declared.Written.{Written}
 use Rattle.permit.specs.declared.Written.the-variants as Written
 use Rattle.turn.specs.Turn.{Turns}
 use Rattle.rewrite.specs.Rewrite.{barrier, rewrittenIn, Rewrites}
-use Rattle.answers.specs.Flat.{counted, stopped, countedRows, countedBytes, headed, unheaded, flatFacts, flatChannel, flatItem, flatClock, flatCount, flatSample}
+use Rattle.answers.specs.Flat.{countedRows, countedBytes, flatFacts, flatChannel, flatItem, flatClock, flatCount, flatSample}
 use Rattle.answers.specs.declared.Channel.{Channel}
 use Rattle.answers.specs.declared.Clock.{Clock}
 use Rattle.answers.specs.declared.Counted.{Counted}
@@ -148,19 +150,23 @@ listedRows (passed v l t) = rows 0 t
 
 -- What C is answered: the answer of the call of Rattle, taken apart into numbers (`Flat`)
 
-abbrev pub stoppedBy : Refusal → Counted
-stoppedBy r = stopped (r .0) (r .1)
+-- so many elements written, and a refusal
+abbrev pub wroteC : ℕ → Counted
+wroteC n = record { refusal = 0; position = 0; count = n }
 
-abbrev pub unheadedBy : Refusal → Header
-unheadedBy r = unheaded (r .0) (r .1)
+abbrev pub stoppedC : Refusal → Counted
+stoppedC r = record { refusal = r .0; position = r .1; count = 0 }
 
--- a header, with its order's letter
-abbrev pub headedBy : FileHeader → Header
-headedBy h = headed (letterOf (h .order)) (h .heading .script) (h .count)
+-- a header, with its order's letter, and a refusal
+abbrev pub headerC : FileHeader → Header
+headerC h = record { refusal = 0; position = 0; order = letterOf (h .order); script = h .heading .script; recordings = h .count }
+
+abbrev pub refusedC : Refusal → Header
+refusedC r = record { refusal = r .0; position = r .1; order = 0; script = 0; recordings = 0 }
 
 abbrev pub flatJudged : Judged → Header
-flatJudged (Judged.Accepted h) = headedBy h
-flatJudged (Judged.Refused r) = unheadedBy r
+flatJudged (Judged.Accepted h) = headerC h
+flatJudged (Judged.Refused r) = refusedC r
 
 -- the answer a for C, in which n is the refusal and p its position, by a call about the file s that has these numbers and needs so many elements of its buffer
 pub record TakenApart {E A : Type 0} (s : List ℕ) (meets : E → Type 0) (refuse : Refusal → E) (apart : E → A) (numbers : ℕ → Bool) (need n p : ℕ) (a : A) : Type 0 where
@@ -191,12 +197,12 @@ pub record Boundary (s : List ℕ) : Type 0 where
   pub judge : (a : Header) → JudgeAnswers s a → TakenApart s (JudgedAs s) Judged.Refused flatJudged ofFile 0 (a .refusal) (a .position) a
   pub table : (out out′ : List ℤ) (a : Counted) → TableAnswers s out out′ a →
       TakenApart s (Lists s out out′) Listed.Refused (λ b. countedRows (Table.meaning b)) ofTable (4 * length (listedRows (R.judge s))) (a .refusal) (a .position) a
-  pub table-keeps : (out out′ : List ℤ) (a : Counted) → TableAnswers s out out′ a → KeepsRest stoppedBy counted 4 out out′ a
+  pub table-keeps : (out out′ : List ℤ) (a : Counted) → TableAnswers s out out′ a → KeepsRest stoppedC wroteC 4 out out′ a
   pub turn : (out out′ : List ℕ) (a : Counted) → TurnAnswers s out out′ a → TakenApart s (Turns s out out′) Written.Refused (λ b. countedBytes (Permit.meaning b)) ofTurn (length s) (a .refusal) (a .position) a
-  pub turn-keeps : (out out′ : List ℕ) (a : Counted) → TurnAnswers s out out′ a → KeepsRest stoppedBy counted 1 out out′ a
+  pub turn-keeps : (out out′ : List ℕ) (a : Counted) → TurnAnswers s out out′ a → KeepsRest stoppedC wroteC 1 out out′ a
   pub rewrite : (order : ℕ) (out out′ : List ℕ) (a : Counted) → RewriteAnswers s order out out′ a →
       TakenApart s (Rewrites s order out out′) Written.Refused (λ b. countedBytes (Permit.meaning b)) ofRewrite (length (rewrittenIn (lettered order) s)) (a .refusal) (a .position) a
-  pub rewrite-keeps : (order : ℕ) (out out′ : List ℕ) (a : Counted) → RewriteAnswers s order out out′ a → KeepsRest stoppedBy counted 1 out out′ a
+  pub rewrite-keeps : (order : ℕ) (out out′ : List ℕ) (a : Counted) → RewriteAnswers s order out out′ a → KeepsRest stoppedC wroteC 1 out out′ a
   pub facts : (i : ℕ) (a : Facts) → FactsAnswers s i a → TakenApart s (FactsAnswer s i) FactsTold.Refused (λ b. flatFacts (meaningF b)) ofQuestion 0 (a .refusal) (a .position) a
   pub channel : (i j : ℕ) (a : Channel) → ChannelAnswers s i j a → TakenApart s (ChannelAnswer s i j) ChannelTold.Refused (λ b. flatChannel (meaningD b)) ofQuestion 0 (a .refusal) (a .position) a
   pub patient-item : (i j : ℕ) (a : Item) → PatientItemAnswers s i j a → TakenApart s (PatientItemAnswer s i j) ItemTold.Refused (λ b. flatItem (meaningI b)) ofQuestion 0 (a .refusal) (a .position) a
@@ -325,21 +331,31 @@ pub record Tells (s : List ℕ) (g : Reading) : Type 0 where
   -- the bytes of a view, by the channel's width and the file's order, are the reading's samples, as many as are counted
   pub view : (i j k : ℕ) (a : CountTold) → CountAnswer s i j k a → Alike (ViewIs s g i j k) (meaningC a) (samplesRead g i j k)
 
--- the answer a for C is one taken apart that is alike with what the reading has, x
-pub record TellsApart {X Y A : Type 0} (apart : Answer Y → A) (Holds : Y → X → Type 0) (x : Answer X) (a : A) : Type 0 where
-  pub told : Answer Y
-  pub same : a ≡ apart told
-  pub alike : Alike Holds told x
+-- an answer for C, in which n is the refusal and p its position, and what the reading has: the number 0 and a value of which this holds, or the refusal
+abbrev pub TellsC : {X : Type 0} → (X → Type 0) → (n p : ℕ) → Answer X → Type 0
+TellsC Holds n p (value x) = (n ≡ 0) × Holds x
+TellsC Holds n p (refusal m q) = (n ≡ m) × (p ≡ q)
+
+-- the numbers that C is answered, as the answers of Rattle have them
+abbrev pub countsC : Facts → Counts
+countsC a = record { channels = a .channels; frames = a .frames; seconds = a .seconds }
+
+abbrev pub entryC : Item → Entry
+entryC a = record { code = a .code; text = textAt (a .text) (a .«text_length») }
+
+abbrev pub timeC : Clock → Time
+timeC a = record { hour = a .hour; minute = a .minute; second = a .second }
 
 -- each question of C about a file with this reading answers what the reading says
 pub record BoundaryTells (s : List ℕ) (g : Reading) : Type 0 where
-  pub facts : (i : ℕ) (a : Facts) → FactsAnswers s i a → a ≡ flatFacts (recordingRead g i >>= λ r. value (countsIn r))
-  pub channel : (i j : ℕ) (a : Channel) → ChannelAnswers s i j a → TellsApart flatChannel (ChannelIs s j) (channelRead g i j) a
-  pub patient-item : (i j : ℕ) (a : Item) → PatientItemAnswers s i j a → TellsApart flatItem (ItemIs s) (itemRead Holder.Patient g i j) a
-  pub event-item : (i j : ℕ) (a : Item) → EventItemAnswers s i j a → TellsApart flatItem (ItemIs s) (itemRead Holder.Event g i j) a
-  pub clock : (i j : ℕ) (a : Clock) → ClockAnswers s i j a → a ≡ flatClock (frameRead g i j >>= λ f. value (timeIn f))
-  pub count : (i j k : ℕ) (a : Counted) → CountAnswers s i j k a → a ≡ flatCount (samplesRead g i j k >>= λ l. value (length l))
-  pub sample : (i j k n : ℕ) (a : Sample) → SampleAnswers s i j k n a → TellsApart flatSample (λ x u. SampleIs s g i j k n (flatSample (value x)) u) (sampleRead g i j k n) a
+  pub facts : (i : ℕ) (a : Facts) → FactsAnswers s i a → TellsC (FactsAre (countsC a)) (a .refusal) (a .position) (recordingRead g i)
+  pub channel : (i j : ℕ) (a : Channel) → ChannelAnswers s i j a → TellsC (ChannelIs s j a) (a .refusal) (a .position) (channelRead g i j)
+  pub patient-item : (i j : ℕ) (a : Item) → PatientItemAnswers s i j a → TellsC (ItemIs s (entryC a)) (a .refusal) (a .position) (itemRead Holder.Patient g i j)
+  pub event-item : (i j : ℕ) (a : Item) → EventItemAnswers s i j a → TellsC (ItemIs s (entryC a)) (a .refusal) (a .position) (itemRead Holder.Event g i j)
+  pub clock : (i j : ℕ) (a : Clock) → ClockAnswers s i j a → TellsC (ClockIs (timeC a)) (a .refusal) (a .position) (frameRead g i j)
+  pub count : (i j k : ℕ) (a : Counted) → CountAnswers s i j k a → TellsC (λ vs. a .count ≡ length vs) (a .refusal) (a .position) (samplesRead g i j k)
+  pub sample : (i j k n : ℕ) (a : Sample) → SampleAnswers s i j k n a → TellsC (SampleIs s g i j k n a) (a .refusal) (a .position) (sampleRead g i j k n)
+  -- what is seen at the place that C is told
   pub view : (i j k : ℕ) (a : View) → ViewAnswers s i j k a → (vs : List Value) → samplesRead g i j k ≡ value vs → PartIs s g i k a vs
 
 -- what was written of a file with the reading g, in the order `to`
@@ -370,11 +386,11 @@ pub record Demand-2 (s : List ℕ) : Type 0 where
   pub rewrites : (v : R.File) (t : List Event) → Accepted s v t → (order : ℕ) (to : Order) → lettered order ≡ Lettered.Names to → barrier (R.orderOf s) to (firstMaker (rows 0 t)) ≡ none →
       (out out′ : List ℕ) (a : Written) → length (rewritten to s) ≤ length out → Rewrites s order out out′ a → WrittenAnew Written.Bytes (reading v) to out′ a
   -- what C is answered
-  pub boundary-judges : (a : Header) → JudgeAnswers s a → JudgesByRules headedBy unheadedBy s a
-  pub boundary-lists : (v : R.File) (t : List Event) → Accepted s v t → (out out′ : List ℤ) (a : Counted) → 4 * length (rows 0 t) ≤ length out → TableAnswers s out out′ a → TableHolds counted (rows 0 t) out′ a
+  pub boundary-judges : (a : Header) → JudgeAnswers s a → JudgesByRules headerC refusedC s a
+  pub boundary-lists : (v : R.File) (t : List Event) → Accepted s v t → (out out′ : List ℤ) (a : Counted) → 4 * length (rows 0 t) ≤ length out → TableAnswers s out out′ a → TableHolds wroteC (rows 0 t) out′ a
   pub boundary-answers : (v : R.File) (t : List Event) → Accepted s v t → BoundaryTells s (reading v)
   pub boundary-rewrites : (v : R.File) (t : List Event) → Accepted s v t → (order : ℕ) (to : Order) → lettered order ≡ Lettered.Names to → barrier (R.orderOf s) to (firstMaker (rows 0 t)) ≡ none →
-      (out out′ : List ℕ) (a : Counted) → length (rewritten to s) ≤ length out → RewriteAnswers s order out out′ a → WrittenAnew counted (reading v) to out′ a
+      (out out′ : List ℕ) (a : Counted) → length (rewritten to s) ≤ length out → RewriteAnswers s order out out′ a → WrittenAnew wroteC (reading v) to out′ a
 
 -- Demand 3: a file and what `turn` wrote of it say the same
 
@@ -419,7 +435,7 @@ pub record BoundarySame (s s′ : List ℕ) : Type 0 where
   pub count : (i j k : ℕ) (a b : Counted) → CountAnswers s i j k a → CountAnswers s′ i j k b → a ≡ b
   pub sample : (i j k n : ℕ) (a b : Sample) → SampleAnswers s i j k n a → SampleAnswers s′ i j k n b → a ≡ b
   pub view : (i j k : ℕ) (a b : View) → ViewAnswers s i j k a → ViewAnswers s′ i j k b → a ≡ b
-  pub back : (out out′ : List ℕ) (a : Counted) → length s ≤ length out → TurnAnswers s′ out out′ a → Gives counted s out′ a
+  pub back : (out out′ : List ℕ) (a : Counted) → length s ≤ length out → TurnAnswers s′ out out′ a → Gives wroteC s out′ a
   pub anew : (order : ℕ) (to : Order) → lettered order ≡ Lettered.Names to →
       (out₁ out₁′ : List ℕ) (a : Counted) → length (rewritten to s) ≤ length out₁ → RewriteAnswers s order out₁ out₁′ a →
       (out₂ out₂′ : List ℕ) (b : Counted) → length (rewritten to s) ≤ length out₂ → RewriteAnswers s′ order out₂ out₂′ b →
@@ -461,6 +477,6 @@ pub record Demand-3 (s : List ℕ) : Type 0 where
   pub turned : (v : R.File) (t : List Event) → Accepted s v t → firstMaker (rows 0 t) ≡ none → (out out′ : List ℕ) (a : Written) → length s ≤ length out → Turns s out out′ a →
       Same s (reading v) (take (length s) out′)
   -- and so does the call that C links
-  pub boundary-answers : (v : R.File) (t : List Event) → Accepted s v t → firstMaker (rows 0 t) ≡ none → (out out′ : List ℕ) (a : Counted) → length s ≤ length out → TurnAnswers s out out′ a → a ≡ counted (length s)
+  pub boundary-answers : (v : R.File) (t : List Event) → Accepted s v t → firstMaker (rows 0 t) ≡ none → (out out′ : List ℕ) (a : Counted) → length s ≤ length out → TurnAnswers s out out′ a → a ≡ wroteC (length s)
   pub boundary-turned : (v : R.File) (t : List Event) → Accepted s v t → firstMaker (rows 0 t) ≡ none → (out out′ : List ℕ) (a : Counted) → length s ≤ length out → TurnAnswers s out out′ a →
       Same s (reading v) (take (length s) out′)

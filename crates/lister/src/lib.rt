@@ -11,11 +11,7 @@ const ROWS: usize = 2048;
 fn magnitude(n: i64) -> u64
     ensures { λ r. ⌜ r ≡ natAbs n ⌝ }
 {
-    if n < 0 {
-        (-1 - n) as u64 + 1
-    } else {
-        n as u64
-    }
+    if n < 0 { (-1 - n) as u64 + 1 } else { n as u64 }
 }
 
 // A number of a row, with a sign where it is negative.
