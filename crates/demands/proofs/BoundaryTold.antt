@@ -21,7 +21,7 @@ use Rattle.questions.proofs.Views.{view-samples}
 use Rattle.answers.specs.Flat.{flatChannel}
 use Rattle.answers.specs.declared.View.{View}
 use Rattle.psg.specs.Calls.{ViewAnswers}
-use Rattle.demands.specs.Bits.{CalibrationIs, ChannelIs, SampleIs, PartIs}
+use Rattle.demands.specs.Bits.{CalibrationIs, ChannelIs, SampleIs, SamplesAt}
 use Rattle.demands.specs.Demands.{Accepted, TellsC, countsC, entryC, timeC, BoundaryTells}
 use Rattle.demands.proofs.Boundary.{Meant, facts, channel, item, clock, count, sample}
 use Rattle.demands.proofs.Floats.{calibration-bits, sample-bits}
@@ -64,13 +64,13 @@ channel-is d c (n, t) b = record {
 }
 
 module _ (s : List ℕ) (b : Bytes s) {v : R.File} {t : List Event} (h : Accepted s v t) where
-  channel-alike : (i j : ℕ) → Alike (λ d c. ChannelIs s j (flatChannel (value d)) c) (channelOf s i j) (channelRead (reading v) i j)
-  channel-alike i j =
+  channel-told : (i j : ℕ) → Alike (λ d c. ChannelIs s j (flatChannel (value d)) c) (channelOf s i j) (channelRead (reading v) i j)
+  channel-told i j =
       let x : Alike (λ d c. NumbersAre d c × TextsAre s d c) (channelOf s i j) (channelRead (reading v) i j) = alike-also (numbers-read s b h i j) (channel-texts s b h i j) (λ d c n m. (n, m)) in
       alike-also x (calibration-bits s b h i j) channel-is
 
-  part-is : (i j k : ℕ) (a : View) → ViewAnswers s i j k a → (vs : List Value) → samplesRead (reading v) i j k ≡ value vs → PartIs s (reading v) i k a vs
-  part-is i j k a x vs e =
+  samples-at : (i j k : ℕ) (a : View) → ViewAnswers s i j k a → (vs : List Value) → samplesRead (reading v) i j k ≡ value vs → SamplesAt s (reading v) i k a vs
+  samples-at i j k a x vs e =
       let w = alike-given (view-samples s b h i j k) e .1 in
       let n = w .count in
       rw x (record { channel = w .channel; described = w .described; inside = w .inside; long = rw (← n) (w .long); shows = rw (← n) (w .shows) })
@@ -78,11 +78,11 @@ module _ (s : List ℕ) (b : Bytes s) {v : R.File} {t : List Event} (h : Accepte
   pub boundary-tells : BoundaryTells s (reading v)
   boundary-tells = record {
     facts = λ i a x. tells facts (λ c. FactsAre (countsC c)) x (facts-read s b h i) (λ y u k. k);
-    channel = λ i j a x. tells channel (ChannelIs s j) x (channel-alike i j) (λ y u k. k);
+    channel = λ i j a x. tells channel (ChannelIs s j) x (channel-told i j) (λ y u k. k);
     patient-item = λ i j a x. tells item (λ c. ItemIs s (entryC c)) x (item-text s b h i j Holder.Patient) (λ y u k. k);
     event-item = λ i j a x. tells item (λ c. ItemIs s (entryC c)) x (item-text s b h i j Holder.Event) (λ y u k. k);
     clock = λ i j a x. tells clock (λ c. ClockIs (timeC c)) x (clock-read s b h i j) (λ y u k. k);
     count = λ i j k a x. tells count (λ c vs. c .count ≡ length vs) x (view-samples s b h i j k) (λ y u w. w .count);
     sample = λ i j k n a x. tells sample (SampleIs s (reading v) i j k n) x (sample-bits s b h i j k n) (λ y u w. w);
-    view = part-is;
+    view = samples-at;
   }

@@ -87,7 +87,7 @@ pub record SampleIs (s : List ℕ) (v : Reading) (i j k n : ℕ) (a : Sample) (x
   pub numbers : (formatIn channel ≡ 4 → ⊥) → WholeNumberAt s (width (formatIn channel)) (viewOf s i j k .at + width (formatIn channel) * n) a
 
 -- the part a of the file is the samples vs that the reading v has of channel k of recording i
-pub record PartIs (s : List ℕ) (v : Reading) (i k : ℕ) (a : View) (vs : List Value) : Type 0 where
+pub record SamplesAt (s : List ℕ) (v : Reading) (i k : ℕ) (a : View) (vs : List Value) : Type 0 where
   -- the channel
   pub channel : ChannelReading
   pub described : channelRead v i k ≡ value channel

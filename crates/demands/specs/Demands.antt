@@ -75,7 +75,7 @@ use Rattle.answers.specs.declared.Item.{Item}
 use Rattle.answers.specs.declared.Sample.{Sample}
 use Rattle.answers.specs.declared.View.{View}
 use Rattle.psg.specs.Calls.{JudgeAnswers, TableAnswers, TurnAnswers, RewriteAnswers, FactsAnswers, ChannelAnswers, PatientItemAnswers, EventItemAnswers, ClockAnswers, CountAnswers, SampleAnswers, ViewAnswers}
-use Rattle.demands.specs.Bits.{ChannelIs, SampleIs, PartIs}
+use Rattle.demands.specs.Bits.{ChannelIs, SampleIs, SamplesAt}
 
 -- Demand 1: every call answers, with a value or with a refusal that document 01 gives for it; and a buffer keeps what the answer does not state
 
@@ -356,7 +356,7 @@ pub record BoundaryTells (s : List ℕ) (g : Reading) : Type 0 where
   pub count : (i j k : ℕ) (a : Counted) → CountAnswers s i j k a → TellsC (λ vs. a .count ≡ length vs) (a .refusal) (a .position) (samplesRead g i j k)
   pub sample : (i j k n : ℕ) (a : Sample) → SampleAnswers s i j k n a → TellsC (SampleIs s g i j k n a) (a .refusal) (a .position) (sampleRead g i j k n)
   -- what is seen at the place that C is told
-  pub view : (i j k : ℕ) (a : View) → ViewAnswers s i j k a → (vs : List Value) → samplesRead g i j k ≡ value vs → PartIs s g i k a vs
+  pub view : (i j k : ℕ) (a : View) → ViewAnswers s i j k a → (vs : List Value) → samplesRead g i j k ≡ value vs → SamplesAt s g i k a vs
 
 -- what was written of a file with the reading g, in the order `to`
 pub record WrittenAnew {E : Type 0} (wrote : ℕ → E) (g : Reading) (to : Order) (out′ : List ℕ) (a : E) : Type 0 where
