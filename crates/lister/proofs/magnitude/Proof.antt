@@ -9,7 +9,7 @@ use lib.Dec.{ltb→lt}
 use lib.IntN.{ℤ, pos, negsuc, natAbs, _-ℤ_, +ℤ-comm, -ℤ-one}
 use lib.Signed.{ltZ, ltZ-no, yes-nonNeg}
 use mir.Syntax.{w64}
-use mir.Val.{Fits, SFits, toZ, ofZ}
+use mir.Val.{SFits, toZ, ofZ}
 use mir.Facts.{fits-natAbs, sfits-toZ, fits-ofZ, toZ-ofZ}
 use Rattle.lister.proofs.magnitude.Statement.{statement}
 use Rattle.lister.proofs.magnitude.Tie as tie
@@ -43,9 +43,6 @@ module _ (z : ℤ) (f : SFits w64 z) (e : ltZ (toZ w64 (ofZ w64 z)) (pos 0) ≡ 
   cast : toZ w64 (ofZ w64 (negsuc 0 -ℤ toZ w64 (ofZ w64 z))) ≡ pos (under .k)
   cast = toZ-ofZ fits-less ∙ difference
 
-  fits-more : Fits w64 (under .k + 1)
-  fits-more = record { fits = omega (arith, under .small .sfits) }
-
   is-magnitude : under .k + 1 ≡ natAbs z
   is-magnitude = one-more z (under .k) (under .is)
 
@@ -56,7 +53,7 @@ cast-result : tie.Need-cast-result
 cast-result c = rw (cast _ (c .before .fits .n) (c .if1 .taken)) (tt, fits-natAbs {w = w64} tt (under _ (c .before .fits .n) (c .if1 .taken) .small))
 
 add-result : tie.Need-add-result
-add-result c = rw (cast _ (c .before .fits .n) (c .if1 .taken)) (fits-more _ (c .before .fits .n) (c .if1 .taken))
+add-result c = rw (cast _ (c .before .fits .n) (c .if1 .taken)) (record { fits = omega (arith, under _ (c .before .fits .n) (c .if1 .taken) .small .sfits) })
 
 cast-result-2 : tie.Need-cast-result-2
 cast-result-2 c =
