@@ -2,12 +2,12 @@
 -- Assumes nothing.
 use mathlib.Core.Path.{_≡_, refl, sym, ap, _∙_}
 use mathlib.Core.Bool.{Bool, true, false}
-use mathlib.Core.List.{List, [], map}
+use mathlib.Core.List.{List, map}
 use Prim.Native.Nat.{ℕ, _+_, _-_, _*_, _^_, _<_}
 use native.Mathlib.Omega.{arith}
 use borrow.Author.Tests.{eqb-true}
 use lib.Dec.{eqb}
-use lib.ListN.{length, take, getD, length-map, List·getD-map}
+use lib.ListN.{length, getD, length-map, List·getD-map}
 use Rattle.words.specs.Floats.{nanPattern}
 use Rattle.words.specs.Numbers.{Bytes}
 use Rattle.words.specs.Values.{signed, unsigned}
@@ -23,14 +23,14 @@ use Rattle.rules.specs.Rules.{fixed, head, admit, channelBody, width}
 use Rattle.rules.proofs.Held.{channel-holds-at}
 use Rattle.rules.proofs.Rewrite.{reading-words}
 use Rattle.recordings.specs.Answers.{Answer, value, refusal, _>>=_, indexed, numbered}
-use Rattle.recordings.specs.Recordings.{startOf, at120, at130}
+use Rattle.recordings.specs.Recordings.{at120}
 use Rattle.recordings.proofs.Chosen.{indexed-one, numbered-one}
 use Rattle.samples.specs.Frames.{timeOf, Samples, numberIn, floatIn}
 use Rattle.samples.specs.declared.Number.{Number}
 use Rattle.samples.proofs.Bits.{a-pattern, a-float}
 use Rattle.questions.specs.Questions.{factsOf, channelOf, clockOf, countOf, sampleOf}
 use Rattle.questions.specs.Tied.{recordingRead, channelRead, frameRead, samplesRead, sampleRead}
-use Rattle.questions.specs.Values.{someNan, floatsOf, calibrationOf, descriptorOf, entryOf}
+use Rattle.questions.specs.Values.{someNan, floatsOf, calibrationOf, descriptorOf}
 use Rattle.questions.specs.declared.channels.Calibration.the-variants as Calibration
 use Rattle.questions.proofs.Calibrated.{plain, patterns, floats}
 use Rattle.demands.specs.Demands.{Accepted, calibratedBy, valueTold, countsIn, timeIn, DescriptorTells, Agree, values, refusals}

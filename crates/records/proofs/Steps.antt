@@ -1,23 +1,22 @@
 -- What the walks that the code loops over come to, one step at a time.
 -- Assumes nothing.
 use mathlib.Core.Path.{_≡_, refl, sym, ap, _∙_}
-use mathlib.Core.Bool.{Bool, true, false, _&&_}
+use mathlib.Core.Bool.{Bool, true, false}
 use mathlib.Core.List.{List, [], _∷_}
 use Prim.Native.Nat.{ℕ, zero, suc, _+_, _*_, _-_, _≤_, _<_}
 use native.Mathlib.Nat.{add-zero, add-assoc, sub-self, add-sub-cancel-left, suc-mul, mul-comm}
 use native.Mathlib.Numerals.{add-one}
 use native.Mathlib.Omega.{arith}
-use lib.ListN.{length, take, drop, getD, length-drop}
-use lib.Seq.{drop-cons, length-take-le}
+use lib.ListN.{length, take, drop, length-drop}
+use lib.Seq.{length-take-le}
 use lib.Dec.{leb, eqb}
-use borrow.Author.Tests.{eq-eqb, ne-eqb}
 use Rattle.words.specs.Numbers.{numberAt, bytesAt}
 use Rattle.words.specs.Runs.{firstNonzero}
 use Rattle.words.specs.declared.Order.{Order}
 use Rattle.walk.specs.See.{Yields, gate, ends, Verdict, stops, goes, Goes, see, over, onward}
 use Rattle.walk.specs.Walk.{laid, Text, Walk, give, number, _>>=_, _>>_}
 use Rattle.walk.proofs.Laid.{laid-padding}
-use Rattle.walk.proofs.Seen.{yields-bind, yields-then, places, back, add-sub-add, eqb-add, then-gate, over-gate, over-goes, see-bind, then-skip, over-then, went, stopped, stays-goes, walks, see-read, see-check, over-give}
+use Rattle.walk.proofs.Seen.{yields-bind, yields-then, places, back, add-sub-add, eqb-add, then-gate, over-gate, over-goes, see-bind, then-skip, over-then, went, stopped, stays-goes, walks, see-read, over-give}
 use Rattle.rules.specs.Rules.{itemsBody, Head, head, admit, span, makerCode, next, zeros, padding, more, series, Item, item, itemSize, itemBytes, itemList, between, dated, daysIn, isMains, basicBody, Channel, width, samplesIn, samplesOf, sampleBytes, numberList, samples, coded, fixed, channelBody, channel, channels, frames, channelsBody, items, Basic}
 use Rattle.rules.proofs.Room.{stays-item, stays-itemList}
 use Rattle.records.specs.Says.{Kept, headroom}

@@ -1,9 +1,9 @@
 -- The answer of `rewrite` is the one that the rules fix for the file, the letter and the buffer, by what the calls in it say.
 -- Assumes nothing.
 use mathlib.Core.Path.{_≡_, refl, sym, ap, _∙_}
-use mathlib.Core.List.{List, _++_, map}
+use mathlib.Core.List.{List, map}
 use mathlib.Core.Option.{Option}
-use Prim.Native.Nat.{ℕ, _+_, _-_, _≤_, _<_}
+use Prim.Native.Nat.{ℕ, _-_, _≤_, _<_}
 use native.Mathlib.Omega.{arith}
 use borrow.Author.Tests.{leb-true}
 use lib.Dec.{leb}
@@ -11,7 +11,7 @@ use lib.ListN.{length, length-map, length-append}
 use Rattle.words.specs.Numbers.{Bytes}
 use Rattle.words.specs.Runs.{pasted}
 use Rattle.words.specs.declared.Order.{Order}
-use Rattle.walk.specs.Walk.{refused, render, size}
+use Rattle.walk.specs.Walk.{refused, render}
 use Rattle.walk.proofs.Laws.{length-render}
 use Rattle.walk.proofs.Tracing.{render-append}
 use Rattle.rules.specs.Rules as R

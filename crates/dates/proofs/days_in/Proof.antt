@@ -1,5 +1,4 @@
 -- `dates::days_in` meets its contract: by turns, by the law of the months; February by the leap year. Assumes nothing.
-use mathlib.Core.Path.{_∙_}
 use borrow.Author.Needs.{needs}
 use Rattle.walk.proofs.Seen.{tests}
 use Rattle.rules.specs.Rules.{daysIn, monthDays}

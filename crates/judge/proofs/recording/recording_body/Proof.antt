@@ -1,9 +1,7 @@
 -- `judge::recording::recording_body` meets its contract: one law of Recorded for each return.
 -- x: behind the descriptions; y: behind the channels that hold; z: behind the signals. Assumes nothing.
-use mathlib.Core.Path.{_≡_}
 use native.Mathlib.Omega.{arith}
 use denote.Ref.{now}
-use lib.ListN.{length}
 use Prim.Native.Nat.{_+_}
 use Rattle.descriptions.specs.DescriptionsJudged.{DescriptionsOf}
 use Rattle.descriptions.specs.declared.DescriptionsJudged.the-variants as DescriptionsJudged

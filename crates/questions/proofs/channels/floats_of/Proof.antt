@@ -3,7 +3,7 @@
 use mathlib.Core.Path.{sym, _∙_}
 use borrow.Author.Needs.{needs}
 use Rattle.words.proofs.Floats.{no-nan}
-use Rattle.questions.proofs.Calibrated.{Plain, plain, patterns, floats}
+use Rattle.questions.proofs.Calibrated.{plain, patterns, floats}
 use Rattle.questions.proofs.channels.floats_of.Statement.{statement}
 use Rattle.questions.proofs.channels.floats_of.Tie as tie
 

@@ -1,7 +1,6 @@
 -- `turn::recordings::last` meets its contract: the delimiter's head, and the bytes behind it.
 -- Assumes nothing.
 use native.Mathlib.Omega.{arith}
-use denote.Ref.{now}
 use Rattle.bodies.proofs.Copying.{holds-join}
 use borrow.Author.Needs.{needs}
 use Rattle.turn.proofs.recordings.last.Statement.{statement}
