@@ -44,6 +44,19 @@ struct psg_header {
     uint32_t recordings;
 };
 
+/* All that the file header says: the spelling, 0 where the file begins with JSSR-SPG and 1 where it begins with
+   JSSR-PSG; the version and the form as numbers, 300 and 0; then as above. */
+struct psg_heading {
+    uint32_t refusal;
+    uint64_t position;
+    uint32_t spelling;
+    uint32_t version;
+    uint32_t form;
+    uint32_t order;
+    uint32_t script;
+    uint32_t recordings;
+};
+
 /* M, F and T. */
 struct psg_facts {
     uint32_t refusal;
@@ -123,6 +136,9 @@ struct psg_counted psg_turn(const uint8_t *file, size_t length, uint8_t *out, si
 /* Writes the canonical form of the file in the byte order that the letter names, 'L' or 'B': how many bytes. 19 for another
    letter; 18 where a maker's record stands in the way and the order is not the file's. */
 struct psg_counted psg_rewrite(const uint8_t *file, size_t length, uint8_t order, uint8_t *out, size_t room);
+
+/* What the file header says. Only the file can be refused. */
+struct psg_heading psg_header(const uint8_t *file, size_t length);
 
 /* How many channels and frames a recording has, and the seconds of a frame. */
 struct psg_facts psg_facts(const uint8_t *file, size_t length, size_t recording);

@@ -22,6 +22,16 @@ AT(psg_header, order, 16)
 AT(psg_header, script, 20)
 AT(psg_header, recordings, 24)
 
+SIZE(psg_heading, 40)
+AT(psg_heading, refusal, 0)
+AT(psg_heading, position, 8)
+AT(psg_heading, spelling, 16)
+AT(psg_heading, version, 20)
+AT(psg_heading, form, 24)
+AT(psg_heading, order, 28)
+AT(psg_heading, script, 32)
+AT(psg_heading, recordings, 36)
+
 SIZE(psg_facts, 32)
 AT(psg_facts, refusal, 0)
 AT(psg_facts, position, 8)
@@ -113,6 +123,22 @@ static void writing(const uint8_t *file, size_t n) {
     EXPECT(turn.refusal == 1 && turn.position == 0);
 }
 
+/* The header's values by either spelling, and the refusal where neither stands there. */
+static void spellings(uint8_t *file, size_t n) {
+    struct psg_heading heading = psg_header(file, n);
+    EXPECT(heading.refusal == 0 && heading.spelling == 0 && heading.version == 300 && heading.form == 0);
+    EXPECT(heading.order == 'L' && heading.script == 'S' && heading.recordings == 1);
+    memcpy(file, "JSSR-PSG", 8);
+    heading = psg_header(file, n);
+    EXPECT(heading.refusal == 0 && heading.spelling == 1 && heading.version == 300 && heading.form == 0);
+    EXPECT(heading.order == 'L' && heading.script == 'S' && heading.recordings == 1);
+    memcpy(file, "JSSR-PPG", 8);
+    heading = psg_header(file, n);
+    EXPECT(heading.refusal == 2 && heading.position == 0 && heading.version == 0 && heading.order == 0);
+    memcpy(file, "JSSR-SPG", 8);
+    EXPECT(psg_header(file, n - 1).refusal == 10);
+}
+
 static void questions(const uint8_t *file, size_t n) {
     struct psg_facts facts = psg_facts(file, n, 1);
     EXPECT(facts.refusal == 0 && facts.channels == 1 && facts.frames == 1 && facts.seconds == 1);
@@ -140,6 +166,7 @@ int main(void) {
     EXPECT(header.refusal == 10 && header.position == 32 && header.order == 0);
     header = psg_judge(file, 0);
     EXPECT(header.refusal == 1 && header.position == 0);
+    spellings(file, n);
     writing(file, n);
     questions(file, n);
     return failed;

@@ -7,7 +7,7 @@
 set -euo pipefail
 cd "$(dirname "$0")/.."
 own=tests/corpus/files.tar.gz
-beside=${1:-../shared/corpus/files-2.tar.gz}
+beside=${1:-../shared/corpus/files-2-3.tar.gz}
 listing=$PWD/target/bin/listing
 seed=${SEED:-$(date +%s)}
 count=${COUNT:-5000}
@@ -20,14 +20,15 @@ trap 'rm -rf "$files"' EXIT
 
 # Everything that a corpus says, for the second program, the library and `listing`.
 compare_corpus() {
-    local folder differ=0 listed=0 f asked
+    local folder differ=0 listed=0 f name asked
     folder=$(mktemp -d -p "$files")
     tar xzf "$1" -C "$folder"
     "$built/second" corpus "$folder/corpus"
-    for asked in "$folder/corpus/questions.ask" "$folder/corpus/questions-old.ask"; do
+    for name in questions questions-old questions-3; do
+        asked=$folder/corpus/$name.ask
         [ -e "$asked" ] || continue
         "$built/ask" "$folder/corpus" <"$asked" | diff - "${asked%.ask}.ans"
-        echo "$(wc -l <"$asked") lines of $1, $(basename "$asked"), through the library, 0 differences"
+        echo "$(wc -l <"$asked") lines of $1, $name.ask, through the library, 0 differences"
     done
     for f in "$folder"/corpus/*.bin; do
         listed=$((listed + 1))

@@ -7,7 +7,7 @@ cd "$(dirname "$0")/.."
 (cd rust && cargo build --release --offline --quiet --package psg-second)
 files=$(mktemp -d)
 trap 'rm -rf "$files"' EXIT
-rust/target/release/second make-corpus "${SEED:-20261118}" "${COUNT:-300}" "$files/corpus"
+rust/target/release/second make-corpus "${SEED:-20261131}" "${COUNT:-300}" "$files/corpus"
 mkdir -p tests/corpus
 tar -C "$files" --sort=name --mtime=@0 --owner=0 --group=0 --numeric-owner --mode=u=rwX,go=rX -cf - corpus |
     gzip -9n >tests/corpus/files.tar.gz

@@ -3,7 +3,7 @@
 //! that one file is what turning the other has to give.
 
 use second::bytes::Order;
-use second::header::{self, Header};
+use second::header::{self, Header, Spelling};
 use second::random::Random;
 use second::record::{channel, channels, frame, frames, items, overview, Format, Kind, HEAD};
 use second::rewrite::grouping;
@@ -67,6 +67,7 @@ impl Night {
             rows: Vec::with_capacity(8 + self.rates.len() + self.frames),
         };
         page.bytes.extend(header::canonical(&Header {
+            spelling: Spelling::Spg,
             order,
             script: b'E',
             recordings: 1,

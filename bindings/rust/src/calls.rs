@@ -44,6 +44,7 @@ macro_rules! answers {
 answers! {
     Counted { count: u64 }
     Header { order: u32, script: u32, recordings: u32 }
+    Heading { spelling: u32, version: u32, form: u32, order: u32, script: u32, recordings: u32 }
     Facts { channels: u32, frames: u32, seconds: u32 }
     Channel {
         number: i32, flags: i32, kind: i32, format: i32, rate: i32,
@@ -82,6 +83,9 @@ macro_rules! layouts {
 layouts! {
     Counted, 24 { refusal 0, position 8, count 16 }
     Header, 32 { refusal 0, position 8, order 16, script 20, recordings 24 }
+    Heading, 40 {
+        refusal 0, position 8, spelling 16, version 20, form 24, order 28, script 32, recordings 36
+    }
     Facts, 32 { refusal 0, position 8, channels 16, frames 20, seconds 24 }
     Channel, 120 {
         refusal 0, position 8, number 16, flags 20, kind 24, format 28, rate 32, is_float 36,
@@ -147,6 +151,7 @@ macro_rules! questions {
 }
 
 questions! {
+    psg_header, header() -> Heading;
     psg_facts, facts(recording) -> Facts;
     psg_channel, channel(recording, channel) -> Channel;
     psg_patient_item, patient_item(recording, item) -> Item;

@@ -7,11 +7,13 @@
 //! Who makes a slice of a mapped file vouches that nothing writes to that file or shortens it during a call.
 //!
 //! ```
-//! use psg::Order;
+//! use psg::{Order, Spelling};
 //!
 //! let file = std::fs::read("../../crates/listing/stdin").unwrap();
 //! let header = psg::judge(&file)?;
 //! assert_eq!((header.order, header.script, header.recordings), (Order::Little, b'S', 1));
+//! let heading = psg::header(&file)?;
+//! assert_eq!((heading.spelling, heading.version, heading.form), (Spelling::Spg, 300, 0));
 //! let facts = psg::facts(&file, 1)?;
 //! assert_eq!((facts.channels, facts.frames, facts.seconds), (1, 1, 1));
 //! let turned = psg::turned(&file)?;
@@ -27,11 +29,13 @@ mod calls;
 mod float;
 mod order;
 mod refusal;
+mod spelling;
 
 use calls::Answer;
 pub use float::FloatBits;
 pub use order::Order;
 pub use refusal::Refusal;
+pub use spelling::Spelling;
 
 /// A record of the table.
 #[derive(Clone, Copy, Debug, PartialEq, Eq)]
@@ -46,9 +50,26 @@ pub struct Row {
     pub serial: i64,
 }
 
-/// What the header of an accepted file says.
+/// What a verdict says of the header of an accepted file; [`Heading`] has all of it.
 #[derive(Clone, Copy, Debug, PartialEq, Eq)]
 pub struct Header {
+    /// The byte order.
+    pub order: Order,
+    /// The letter of the texts' script: `b'S'`, `b'J'`, `b'E'` or `b'U'`.
+    pub script: u8,
+    /// K, how many recordings the file holds: 1 to 64.
+    pub recordings: usize,
+}
+
+/// All that the header of an accepted file says.
+#[derive(Clone, Copy, Debug, PartialEq, Eq)]
+pub struct Heading {
+    /// The spelling of the identifier.
+    pub spelling: Spelling,
+    /// The version as a number: 300.
+    pub version: u32,
+    /// The form as a number: 0.
+    pub form: u32,
     /// The byte order.
     pub order: Order,
     /// The letter of the texts' script: `b'S'`, `b'J'`, `b'E'` or `b'U'`.
@@ -157,12 +178,15 @@ pub enum Sample {
 /// themselves, so none needs this one before it.
 pub fn judge(file: &[u8]) -> Result<Header, Refusal> {
     let header = calls::judge(file).answer()?;
-    let order = Order::from_letter(header.order as u8);
     Ok(Header {
-        order: order.expect("an accepted file's letter is L or B"),
+        order: order_of(header.order),
         script: header.script as u8,
         recordings: header.recordings as usize,
     })
+}
+
+fn order_of(letter: u32) -> Order {
+    Order::from_letter(letter as u8).expect("an accepted file's letter is L or B")
 }
 
 /// Writes four numbers a record into `rows` (position, length, code, serial), by position: how many records.
@@ -224,6 +248,20 @@ fn needed(asked: Result<usize, Refusal>) -> Result<usize, Refusal> {
         Err(refusal) if refusal.number == 17 => Ok(refusal.position),
         other => other,
     }
+}
+
+/// What the header of a file says. Only the file can be refused.
+pub fn header(file: &[u8]) -> Result<Heading, Refusal> {
+    let heading = calls::header(file).answer()?;
+    let spelling = Spelling::from_number(heading.spelling);
+    Ok(Heading {
+        spelling: spelling.expect("an accepted file has one of the two"),
+        version: heading.version,
+        form: heading.form,
+        order: order_of(heading.order),
+        script: heading.script as u8,
+        recordings: heading.recordings as usize,
+    })
 }
 
 /// How many channels and frames a recording has, and the seconds of a frame.

@@ -17,7 +17,7 @@ impl Refusal {
     pub const fn meaning(&self) -> &'static str {
         match self.number {
             1 => "the file is under 32 bytes long",
-            2 => "the file does not begin with JSSR-SPG",
+            2 => "the file begins with neither JSSR-SPG nor JSSR-PSG",
             3 => "the version is not 000300",
             4 => "the form is not 00",
             5 => "the byte order is neither L nor B",

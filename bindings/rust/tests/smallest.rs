@@ -1,6 +1,6 @@
 //! The smallest file with samples (562 bytes): every call, and refusals in words.
 
-use psg::{Calibration, FloatBits, Header, Order, Refusal, Sample};
+use psg::{Calibration, FloatBits, Header, Heading, Order, Refusal, Sample, Spelling};
 
 fn smallest() -> Vec<u8> {
     std::fs::read("../../crates/listing/stdin").expect("the sample file of `listing`")
@@ -143,6 +143,66 @@ fn a_verdict_is_the_headers_values_or_the_refusal() {
         // Nothing is cut off an accepted file without being missed.
         let refused = psg::judge(&file[..end]).unwrap_err();
         assert_eq!(refused, psg::rows(&file[..end]).unwrap_err());
+    }
+}
+
+const SPELLINGS: [Spelling; 2] = [Spelling::Spg, Spelling::Psg];
+
+/// A file with another identifier.
+fn spelled(file: &[u8], identifier: &[u8; 8]) -> Vec<u8> {
+    [identifier, &file[8..]].concat()
+}
+
+#[test]
+fn a_spelling_has_a_number_and_a_number_has_a_spelling() {
+    for spelling in SPELLINGS {
+        assert_eq!(Spelling::from_number(spelling.number()), Some(spelling));
+    }
+    let named = (0..=u32::from(u8::MAX)).filter(|&n| Spelling::from_number(n).is_some());
+    assert_eq!(named.collect::<Vec<u32>>(), [0, 1]);
+}
+
+#[test]
+fn the_header_has_the_spelling_that_stands_there() {
+    for spelling in SPELLINGS {
+        let file = spelled(&smallest(), spelling.identifier());
+        let expected = Heading {
+            spelling,
+            version: 300,
+            form: 0,
+            order: Order::Little,
+            script: b'S',
+            recordings: 1,
+        };
+        assert_eq!(psg::header(&file), Ok(expected));
+        let turned = Heading {
+            order: Order::Big,
+            ..expected
+        };
+        assert_eq!(psg::header(&psg::turned(&file).unwrap()), Ok(turned));
+        for (order, expected) in [(Order::Little, expected), (Order::Big, turned)] {
+            let rewritten = psg::rewritten(&file, order).unwrap();
+            assert_eq!(psg::header(&rewritten), Ok(expected));
+            assert_eq!(&rewritten[..8], spelling.identifier());
+        }
+        for end in 0..file.len() {
+            let refused = psg::header(&file[..end]).unwrap_err();
+            assert_eq!(refused, psg::judge(&file[..end]).unwrap_err());
+        }
+    }
+}
+
+#[test]
+fn neither_spelling_is_2() {
+    for identifier in [b"JSSR-SSG", b"JSSR-PPG", b"JSSR-SGP", b"jssr-psg"] {
+        let file = spelled(&smallest(), identifier);
+        let refused = psg::header(&file).unwrap_err();
+        assert_eq!(
+            refused.to_string(),
+            "refused 2 at 0: the file begins with neither JSSR-SPG nor JSSR-PSG"
+        );
+        assert_eq!(psg::judge(&file), Err(refused));
+        assert_eq!(psg::turned(&file), Err(refused));
     }
 }
 

@@ -6,8 +6,11 @@ use Prim.Native.Nat.{ℕ}
 use lib.IntN.{pos}
 use lib.ListN.{length, getD}
 use Rattle.words.specs.Floats.{bitsOf}
+use Rattle.words.specs.Numbers.{letterOf}
 use Rattle.walk.specs.Walk.{Outcome, refused, passed}
 use Rattle.rules.specs.Rules as R
+use Rattle.rules.specs.declared.Spelling.{Spelling}
+use Rattle.rules.specs.declared.Spelling.the-variants as Spelling
 use Rattle.table.specs.Table as Table
 use Rattle.permit.specs.Permit as Permit
 use Rattle.recordings.specs.Answers.{Answer, value, refusal}
@@ -20,12 +23,14 @@ use Rattle.questions.specs.declared.channels.Calibration.{Calibration}
 use Rattle.questions.specs.declared.channels.Calibration.the-variants as Calibration
 use Rattle.questions.specs.declared.channels.Descriptor.{Descriptor}
 use Rattle.questions.specs.declared.channels.Text.{Text}
+use Rattle.questions.specs.declared.headers.Header as Asked
 use Rattle.questions.specs.declared.items.Entry.{Entry}
 use Rattle.answers.specs.declared.Channel.{Channel}
 use Rattle.answers.specs.declared.Clock.{Clock}
 use Rattle.answers.specs.declared.Counted.{Counted}
 use Rattle.answers.specs.declared.Facts.{Facts}
 use Rattle.answers.specs.declared.Header.{Header}
+use Rattle.answers.specs.declared.Heading.{Heading}
 use Rattle.answers.specs.declared.Item.{Item}
 use Rattle.answers.specs.declared.Patterns.{Patterns}
 use Rattle.answers.specs.declared.Sample.{Sample}
@@ -61,6 +66,24 @@ unheaded n p = record { refusal = n; position = p; order = 0; script = 0; record
 abbrev pub flatHeader : List ℕ → Outcome R.File → Header
 flatHeader s (refused n p) = unheaded n p
 flatHeader s (passed v r t) = headed (getD s 16 0) (v .heading .script) (length (v .recordings))
+
+-- 0 as the standard spells it, 1 by the society's abbreviation
+abbrev pub spellingNumber : Spelling → ℕ
+spellingNumber Spelling.Spg = 0
+spellingNumber Spelling.Psg = 1
+
+abbrev pub flatHeading : Answer Asked.Header → Heading
+flatHeading (value x) = record {
+  refusal = 0;
+  position = 0;
+  spelling = spellingNumber (x .spelling);
+  version = x .version;
+  form = x .form;
+  order = letterOf (x .order);
+  script = x .script;
+  recordings = x .recordings;
+}
+flatHeading (refusal n p) = record { refusal = n; position = p; spelling = 0; version = 0; form = 0; order = 0; script = 0; recordings = 0 }
 
 abbrev pub flatFacts : Answer Counts → Facts
 flatFacts (value x) = record { refusal = 0; position = 0; channels = x .channels; frames = x .frames; seconds = x .seconds }

@@ -1,23 +1,28 @@
 // Answers taken apart into numbers: first document 01's refusal and its position, or 0 and 0; then the values, which are 0 for a refusal.
 ghost use mathlib.Core.Path.{_≡_};
 ghost use Rattle.words.specs.Floats.{bitsOf};
+ghost use Rattle.words.specs.Numbers.{letterOf};
 ghost use Rattle.words.specs.Values.{unsigned};
 ghost use Rattle.permit.specs.Permit.{meaning};
 ghost use Rattle.recordings.specs.Answers.{value, refusal};
-ghost use Rattle.questions.specs.Meanings.{meaningF, meaningD, meaningI, meaningT, meaningC, meaningS};
+ghost use Rattle.questions.specs.Meanings.{meaningH, meaningF, meaningD, meaningI, meaningT, meaningC, meaningS};
 ghost use Rattle.answers.specs.Flat.{counted, stopped, countedBytes, headed, unheaded};
-ghost use Rattle.answers.specs.Flat.{flatFacts, patternsOf, flatChannel, flatItem, flatClock, flatCount, flatSample};
+ghost use Rattle.answers.specs.Flat.{spellingNumber, flatHeading, flatFacts, patternsOf, flatChannel, flatItem, flatClock, flatCount, flatSample};
 use permit::Written;
 use questions::channels::Calibration;
 use questions::channels::ChannelTold;
 use questions::channels::Descriptor;
+use questions::headers::Header as HeaderValues;
+use questions::headers::HeaderTold;
 use questions::items::ItemTold;
 use recordings::FactsTold;
 use rules::FileHeader;
 use rules::Refusal;
+use rules::Spelling;
 use samples::ClockTold;
 use samples::Number;
 use samples::SampleTold;
+use words::Order;
 
 // How many rows, bytes or samples.
 #[repr(C)]
@@ -32,6 +37,19 @@ pub struct Counted {
 pub struct Header {
     pub refusal: u32,
     pub position: u64,
+    pub order: u32,
+    pub script: u32,
+    pub recordings: u32,
+}
+
+// All that the file header says: the spelling's number, the numbers of the version and the form, and as above.
+#[repr(C)]
+pub struct Heading {
+    pub refusal: u32,
+    pub position: u64,
+    pub spelling: u32,
+    pub version: u32,
+    pub form: u32,
     pub order: u32,
     pub script: u32,
     pub recordings: u32,
@@ -163,6 +181,59 @@ pub fn header_refused(r: Refusal) -> Header
         order: 0,
         script: 0,
         recordings: 0,
+    }
+}
+
+fn letter(order: Order) -> u32
+    ensures { λ r. ⌜ r ≡ letterOf order ⌝ }
+{
+    match order {
+        Order::Little => FileHeader::LITTLE,
+        Order::Big => FileHeader::BIG,
+    }
+}
+
+fn spelling_number(spelling: Spelling) -> u32
+    ensures { λ r. ⌜ r ≡ spellingNumber spelling ⌝ }
+{
+    match spelling {
+        Spelling::Spg => 0,
+        Spelling::Psg => 1,
+    }
+}
+
+fn heading_told(x: HeaderValues) -> Heading
+    ensures { λ a. ⌜ a ≡ flatHeading (value x) ⌝ }
+{
+    let spelling = x.spelling;
+    let order = x.order;
+    Heading {
+        refusal: 0,
+        position: 0,
+        spelling: spelling_number(spelling),
+        version: x.version,
+        form: x.form,
+        order: letter(order),
+        script: x.script,
+        recordings: x.recordings,
+    }
+}
+
+pub fn heading_of(a: HeaderTold) -> Heading
+    ensures { λ r. ⌜ r ≡ flatHeading (meaningH a) ⌝ }
+{
+    match a {
+        HeaderTold::Header(x) => heading_told(x),
+        HeaderTold::Refused(r) => Heading {
+            refusal: r.0,
+            position: r.1 as u64,
+            spelling: 0,
+            version: 0,
+            form: 0,
+            order: 0,
+            script: 0,
+            recordings: 0,
+        },
     }
 }
 

@@ -44,11 +44,14 @@ use Rattle.samples.specs.declared.Number.the-variants as Number
 use Rattle.samples.specs.declared.SampleTold.{SampleTold}
 use Rattle.samples.specs.declared.SampleTold.the-variants as SampleTold
 use Rattle.samples.specs.declared.Time.{Time}
-use Rattle.questions.specs.Meanings.{meaningF, meaningD, meaningI, meaningT, meaningC, meaningS}
-use Rattle.questions.specs.Questions.{factsOf, channelOf, patientItemOf, eventItemOf, clockOf, countOf, sampleOf}
+use Rattle.questions.specs.Meanings.{meaningH, meaningF, meaningD, meaningI, meaningT, meaningC, meaningS}
+use Rattle.questions.specs.Questions.{headerOf, factsOf, channelOf, patientItemOf, eventItemOf, clockOf, countOf, sampleOf}
 use Rattle.questions.specs.declared.channels.ChannelTold.{ChannelTold}
 use Rattle.questions.specs.declared.channels.ChannelTold.the-variants as ChannelTold
 use Rattle.questions.specs.declared.channels.Descriptor.{Descriptor}
+use Rattle.questions.specs.declared.headers.Header as Asked
+use Rattle.questions.specs.declared.headers.HeaderTold.{HeaderTold}
+use Rattle.questions.specs.declared.headers.HeaderTold.the-variants as HeaderTold
 use Rattle.questions.specs.declared.items.Entry.{Entry}
 use Rattle.questions.specs.declared.items.ItemTold.{ItemTold}
 use Rattle.questions.specs.declared.items.ItemTold.the-variants as ItemTold
@@ -59,17 +62,18 @@ use Rattle.turn.specs.Turn as Turn
 use Rattle.turn.specs.Turn.{Turns}
 use Rattle.rewrite.specs.Rewrite as Rewrite
 use Rattle.rewrite.specs.Rewrite.{rewrittenIn, Rewrites}
-use Rattle.answers.specs.Flat.{countedRows, countedBytes, flatFacts, flatChannel, flatItem, flatClock, flatCount, flatSample}
+use Rattle.answers.specs.Flat.{countedRows, countedBytes, flatHeading, flatFacts, flatChannel, flatItem, flatClock, flatCount, flatSample}
 use Rattle.answers.specs.declared.Channel.{Channel}
 use Rattle.answers.specs.declared.Clock.{Clock}
 use Rattle.answers.specs.declared.Counted.{Counted}
 use Rattle.answers.specs.declared.Facts.{Facts}
 use Rattle.answers.specs.declared.Header.{Header}
+use Rattle.answers.specs.declared.Heading.{Heading}
 use Rattle.answers.specs.declared.Item.{Item}
 use Rattle.answers.specs.declared.Sample.{Sample}
 use Rattle.psg.specs.Calls.{JudgeAnswers, TableAnswers, TurnAnswers, RewriteAnswers}
-use Rattle.demands.specs.Demands.{ofFile, ofTable, ofTurn, ofRewrite, ofQuestion, refusalOf, Refuses, Answered, KeepsRest, listedRows, wroteC, stoppedC, headerC, refusedC, flatJudged, TakenApart, Boundary, Accepted, headerOf, JudgesByRules}
-use Rattle.demands.proofs.Refusing.{of-file, table-refuses, table-keeps, turn-refuses, turn-keeps, rewrite-refuses, rewrite-keeps, Proper, proper-facts, proper-channel, proper-item, proper-clock, proper-count, proper-sample}
+use Rattle.demands.specs.Demands.{ofFile, ofTable, ofTurn, ofRewrite, ofQuestion, refusalOf, Refuses, Answered, KeepsRest, listedRows, wroteC, stoppedC, headerC, refusedC, flatJudged, TakenApart, Boundary, Accepted, headerJudged, JudgesByRules}
+use Rattle.demands.proofs.Refusing.{of-file, header-refused, table-refuses, table-keeps, turn-refuses, turn-keeps, rewrite-refuses, rewrite-keeps, Proper, proper-facts, proper-channel, proper-item, proper-clock, proper-count, proper-sample}
 use Rattle.demands.proofs.Viewing.{part-told}
 
 -- An answer and its numbers
@@ -170,6 +174,9 @@ listed = record { meaning = Table.meaning; tell = Listed.Rows; refuse = Listed.R
 abbrev written : Meant Permit.bytes Permit.refusal Written Counted
 written = record { meaning = Permit.meaning; tell = Written.Bytes; refuse = Written.Refused; flat = countedBytes; says = λ a. refusalOf (a .refusal) (a .position); tells = λ v. refl; refuses = λ r. refl; zero = λ v. refl; named = λ n p. refl }
 
+abbrev header : Meant {X = Asked.Header} value refusal HeaderTold Heading
+header = record { meaning = meaningH; tell = HeaderTold.Header; refuse = HeaderTold.Refused; flat = flatHeading; says = λ a. refusalOf (a .refusal) (a .position); tells = λ v. refl; refuses = λ r. refl; zero = λ v. refl; named = λ n p. refl }
+
 abbrev pub facts : Meant {X = Counts} value refusal FactsTold Facts
 facts = record { meaning = meaningF; tell = FactsTold.Facts; refuse = FactsTold.Refused; flat = flatFacts; says = λ a. refusalOf (a .refusal) (a .position); tells = λ v. refl; refuses = λ r. refl; zero = λ v. refl; named = λ n p. refl }
 
@@ -218,18 +225,12 @@ letter-some : (o : Order) → 1 ≤ letterOf o
 letter-some Little = omega arith
 letter-some Big = omega arith
 
-letter-one : (o p : Order) → letterOf o ≡ letterOf p → o ≡ p
-letter-one Little Little e = refl
-letter-one Little Big e = absurd (omega arith)
-letter-one Big Little e = absurd (omega arith)
-letter-one Big Big e = refl
-
-accepted-as : {s : List ℕ} {v : R.File} {t : List Event} → Accepted s v t → AcceptedAs s (headerOf s v)
+accepted-as : {s : List ℕ} {v : R.File} {t : List Event} → Accepted s v t → AcceptedAs s (headerJudged s v)
 accepted-as {v} {t} h = record { file = v; events = t; judged = h; order = refl; heading = refl; count = refl }
 
 -- what C is answered of an accepted file
-headed-by : (s : List ℕ) {a : Header} {v : R.File} {t : List Event} → JudgeAnswers s a → Accepted s v t → a ≡ headerC (headerOf s v)
-headed-by s {v} x h = x ∙ rw (h, letter-is s (headerOf s v) (accepted-as h))
+headed-by : (s : List ℕ) {a : Header} {v : R.File} {t : List Event} → JudgeAnswers s a → Accepted s v t → a ≡ headerC (headerJudged s v)
+headed-by s {v} x h = x ∙ rw (h, letter-is s (headerJudged s v) (accepted-as h))
 
 -- What is left of a buffer
 
@@ -278,7 +279,7 @@ module _ (s : List ℕ) (b : Bytes s) where
       go (refused n p) e = told (Judged.Refused (refusalOf n p)) e (x ∙ rw e) (is-refusal (refusalOf n p) refl)
       go (passed v l t) e =
           let h = e ∙ ap (λ (y : List ℕ). passed v y t) (nothing-left s b e) in
-          told (Judged.Accepted (headerOf s v)) (accepted-as h) (headed-by s x h) (is-value (ap (λ (y : Header). y .refusal) (headed-by s x h)))
+          told (Judged.Accepted (headerJudged s v)) (accepted-as h) (headed-by s x h) (is-value (ap (λ (y : Header). y .refusal) (headed-by s x h)))
 
   pub table-apart : (out out′ : List ℤ) (a : Counted) → TableAnswers s out out′ a → TakenApart s (Lists s out out′) Listed.Refused (λ c. countedRows (Table.meaning c)) ofTable (4 * length (listedRows (R.judge s))) (a .refusal) (a .position) a
   table-apart out out′ a x =
@@ -308,6 +309,7 @@ module _ (s : List ℕ) (b : Bytes s) where
     turn-keeps = λ out out′ a x. let y = turn-apart out out′ a x in kept (turn-keeps s b out out′ (y .told) (y .met)) (ends-written (y .told) (y .same));
     rewrite = rewrite-apart;
     rewrite-keeps = λ order out out′ a x. let y = rewrite-apart order out out′ a x in kept (rewrite-keeps s order out out′ (y .told) (y .met)) (ends-written (y .told) (y .same));
+    header = λ a x. by-meaning header s (either (headerOf s)) (λ c e. e) x (λ n p h. rw h) (λ n p e. of-file s ofFile 0 (λ n h. h) (refusalOf n p) (header-refused s (refusalOf n p) (sym e)));
     facts = λ i a x. by-meaning facts s (either (factsOf s i)) (λ c e. e) x (λ n p h. rw h) (asked (proper-facts s i));
     channel = λ i j a x. by-meaning channel s (either (channelOf s i j)) (λ c e. e) x (λ n p h. rw h) (asked (proper-channel s i j));
     patient-item = λ i j a x. by-meaning item s (either (patientItemOf s i j)) (λ c e. e) x (λ n p h. rw h) (asked (proper-item s Holder.Patient i j));
@@ -319,20 +321,18 @@ module _ (s : List ℕ) (b : Bytes s) where
   }
 
   -- accepted and refused exactly as the rules do
+  pub boundary-accepted : (a : Header) → JudgeAnswers s a → a .refusal ≡ 0 → (h : FileHeader) × AcceptedAs s h × (a ≡ headerC h)
+  boundary-accepted a x z = let y = judge-apart a x in go (y .told) (y .met) (y .same)
+    where
+      go : (j : Judged) → JudgedAs s j → a ≡ flatJudged j → (h : FileHeader) × AcceptedAs s h × (a ≡ headerC h)
+      go (Judged.Accepted h) m e = (h, m, e)
+      go (Judged.Refused r) m e = let i : r .0 ≡ 0 = ap (λ (y : Header). y .refusal) (sym e) ∙ z in absurd (omega (arith, of-file s ofFile 0 (λ n h. h) r m .nonzero))
+
   pub boundary-judges : (a : Header) → JudgeAnswers s a → JudgesByRules headerC refusedC s a
   boundary-judges a x =
       let y = judge-apart a x in
-      record { accepts = λ v t h. headed-by s x h; accepted = as-accepted (y .told) (y .met) (y .same); refuses = λ n p h. x ∙ rw h; refused = as-refused (y .told) (y .met) (y .same) }
+      record { accepts = λ v t h. headed-by s x h; refuses = λ n p h. x ∙ rw h; refused = as-refused (y .told) (y .met) (y .same) }
     where
-      as-accepted : (j : Judged) → JudgedAs s j → a ≡ flatJudged j → (h : FileHeader) → a ≡ headerC h → AcceptedAs s h
-      as-accepted (Judged.Accepted k) m e h i =
-          let o : k .order ≡ h .order = letter-one (k .order) (h .order) (ap (λ (z : Header). z .order) (sym e ∙ i)) in
-          let c : k .heading .script ≡ h .heading .script = ap (λ (z : Header). z .script) (sym e ∙ i) in
-          let n : k .count ≡ h .count = ap (λ (z : Header). z .recordings) (sym e ∙ i) in
-          let w : k ≡ h = λ u. record { order = o u; heading = record { script = c u }; count = n u } in
-          rw w at m
-      as-accepted (Judged.Refused r) m e h i = let z : r .0 ≡ 0 = ap (λ (y : Header). y .refusal) (sym e ∙ i) in absurd (omega (arith, of-file s ofFile 0 (λ n h. h) r m .nonzero))
-
       as-refused : (j : Judged) → JudgedAs s j → a ≡ flatJudged j → (n p : ℕ) → a ≡ refusedC (refusalOf n p) → R.judge s ≡ refused n p
       as-refused (Judged.Accepted k) m e n p i = let z : letterOf (k .order) ≡ 0 = ap (λ (y : Header). y .order) (sym e ∙ i) in absurd (omega (arith, letter-some (k .order)))
       as-refused (Judged.Refused r) m e n p i = m ∙ ap (λ (y : Header). refused (y .refusal) (y .position)) (sym e ∙ i)

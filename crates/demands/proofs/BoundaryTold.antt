@@ -5,9 +5,10 @@ use mathlib.Core.List.{List}
 use Prim.Native.Nat.{ℕ}
 use lib.ListN.{length}
 use Rattle.words.specs.Numbers.{Bytes}
+use Rattle.words.specs.declared.Order.{Order}
 use Rattle.walk.specs.Walk.{Event}
 use Rattle.rules.specs.Rules as R
-use Rattle.rules.specs.Reading.{Value, ChannelReading, reading}
+use Rattle.rules.specs.Reading.{Value, ChannelReading, Reading, reading}
 use Rattle.rules.specs.declared.Refusal.{Refusal}
 use Rattle.records.specs.declared.items.Holder.the-variants as Holder
 use Rattle.recordings.specs.Answers.{Answer, value, refusal}
@@ -18,13 +19,15 @@ use Rattle.questions.specs.declared.channels.Descriptor.{Descriptor}
 use Rattle.questions.proofs.Readings.{alike-value, facts-read, numbers-read, clock-read}
 use Rattle.questions.proofs.Texts.{channel-texts, item-text}
 use Rattle.questions.proofs.Views.{view-samples}
-use Rattle.answers.specs.Flat.{flatChannel}
+use Rattle.answers.specs.Flat.{spellingNumber, flatHeading, flatChannel}
+use Rattle.answers.specs.declared.Heading.{Heading}
 use Rattle.answers.specs.declared.View.{View}
 use Rattle.psg.specs.Calls.{ViewAnswers}
 use Rattle.demands.specs.Bits.{CalibrationIs, ChannelIs, SampleIs, SamplesAt}
-use Rattle.demands.specs.Demands.{Accepted, TellsC, countsC, entryC, timeC, BoundaryTells}
+use Rattle.demands.specs.Demands.{Accepted, headerRead, HeadingIs, TellsC, countsC, entryC, timeC, BoundaryTells}
 use Rattle.demands.proofs.Boundary.{Meant, facts, channel, item, clock, count, sample}
 use Rattle.demands.proofs.Floats.{calibration-bits, sample-bits}
+use Rattle.demands.proofs.Telling.{header-told}
 
 -- Answers that are alike: in two ways, behind a value of the reading, and with the first taken apart
 
@@ -43,6 +46,12 @@ module _ {Y E A : Type 0} (l : Meant {X = Y} value refusal E A) {X : Type 0} {P 
   tells : {m : Answer Y} {x : Answer X} → a ≡ l .flat m → Alike P m x → ((y : Y) (u : X) → P y u → Holds (l .flat (value y)) u) → TellsC (Holds a) (l .says a .0) (l .says a .1) x
   tells e (values {a = y} {b = u} p) f = (ap (λ (z : A). l .says z .0) e ∙ l .zero y, rw e (f y u p))
   tells e (refusals {n} {p = q}) f = (ap (λ (z : A). l .says z .0) e ∙ ap (λ (r : Refusal). r .0) (l .named n q), ap (λ (z : A). l .says z .1) e ∙ ap (λ (r : Refusal). r .1) (l .named n q))
+
+-- what C is answered of a header
+heading-is : (o : Order) (g : Reading) {a : Heading} → a ≡ flatHeading (value (headerRead o g)) → HeadingIs o g a
+unfolding R.decimal R.between R.allSpaces R.version R.form
+heading-is o g x =
+    rw x (record { accepted = refl; spg = λ e. ap spellingNumber e; psg = λ e. ap spellingNumber e; version = refl; form = refl; order = refl; script = refl; recordings = refl })
 
 -- An accepted file
 
@@ -77,6 +86,7 @@ module _ (s : List ℕ) (b : Bytes s) {v : R.File} {t : List Event} (h : Accepte
 
   pub boundary-tells : BoundaryTells s (reading v)
   boundary-tells = record {
+    header = λ a x. heading-is (R.orderOf s) (reading v) (x ∙ ap flatHeading (header-told s h));
     facts = λ i a x. tells facts (λ c. FactsAre (countsC c)) x (facts-read s b h i) (λ y u k. k);
     channel = λ i j a x. tells channel (ChannelIs s j) x (channel-told i j) (λ y u k. k);
     patient-item = λ i j a x. tells item (λ c. ItemIs s (entryC c)) x (item-text s b h i j Holder.Patient) (λ y u k. k);

@@ -10,7 +10,7 @@ use denote.Ref.{RefT}
 use lib.IntN.{ℤ}
 use lib.ListN.{length, take, drop}
 use lib.Seq.{take-at}
-use Rattle.words.specs.Numbers.{Bytes, bytesAt}
+use Rattle.words.specs.Numbers.{Bytes, bytesAt, other}
 use Rattle.words.specs.declared.Order.{Order}
 use Rattle.walk.specs.Walk.{Row, Event, refused, rows}
 use Rattle.rules.specs.Canonical.{rewritten, canonical}
@@ -38,14 +38,14 @@ use Rattle.samples.specs.declared.SampleTold.the-variants as SampleTold
 use Rattle.records.specs.declared.items.Holder.the-variants as Holder
 use Rattle.questions.specs.Contracts.{ViewAnswer}
 use Rattle.questions.specs.Tied.{recordingRead, channelRead}
-use Rattle.questions.specs.Meanings.{meaningF, meaningD, meaningI, meaningT, meaningC, meaningS}
+use Rattle.questions.specs.Meanings.{meaningH, meaningF, meaningD, meaningI, meaningT, meaningC, meaningS}
 use Rattle.questions.specs.Questions.{viewOf}
 use Rattle.questions.specs.declared.channels.ChannelTold.the-variants as ChannelTold
 use Rattle.questions.specs.declared.channels.Text.{Text}
 use Rattle.questions.specs.declared.items.ItemTold.the-variants as ItemTold
 use Rattle.questions.proofs.Texts.{channel-texts, item-text}
 use Rattle.questions.proofs.Views.{view-samples}
-use Rattle.questions.proofs.Unique.{facts-unique, channel-unique, patient-item-unique, event-item-unique, clock-unique, count-unique, sample-unique}
+use Rattle.questions.proofs.Unique.{header-unique, facts-unique, channel-unique, patient-item-unique, event-item-unique, clock-unique, count-unique, sample-unique}
 use Rattle.makers.specs.Makers.{firstMaker}
 use Rattle.permit.specs.Permit as Permit
 use Rattle.permit.specs.declared.Written.{Written}
@@ -56,16 +56,16 @@ use Rattle.turn.proofs.Demands.{turn-unique, turn-answers, turn-accepted, turn-
 use Rattle.rewrite.specs.Rewrite.{barrier, Rewrites}
 use Rattle.rewrite.proofs.Answers.{rewrites-refused}
 use Rattle.rewrite.proofs.Demands.{rewrite-unique, rewrite-answers, rewrite-accepted, rewrite-both}
-use Rattle.answers.specs.Flat.{countedRows, countedBytes}
+use Rattle.answers.specs.Flat.{countedRows, countedBytes, flatHeading}
 use Rattle.answers.specs.declared.Counted.{Counted}
 use Rattle.psg.specs.Calls.{TableAnswers}
-use Rattle.demands.specs.Demands.{ofFile, Demand-1, Accepted, HandsUp, TableHolds, Tells, WrittenAnew, Demand-2, SameEnd, SameNumbers, BoundarySame, Same, Demand-3}
+use Rattle.demands.specs.Demands.{ofFile, Demand-1, Accepted, HandsUp, TableHolds, Tells, WrittenAnew, Demand-2, headerRead, inOther, SameEnd, SameNumbers, BoundarySame, Same, Demand-3}
 use Rattle.demands.proofs.Agreeing.{agree-first, numbered-image}
-use Rattle.demands.proofs.Refusing.{of-file, table-refuses, table-keeps, turn-refuses, turn-keeps, rewrite-refuses, rewrite-keeps, question, proper-facts, proper-channel, proper-item, proper-clock, proper-count, proper-sample}
+use Rattle.demands.proofs.Refusing.{of-file, header-refused, table-refuses, table-keeps, turn-refuses, turn-keeps, rewrite-refuses, rewrite-keeps, question, proper-facts, proper-channel, proper-item, proper-clock, proper-count, proper-sample}
 use Rattle.demands.proofs.Samples.{recording-picked, view-words}
-use Rattle.demands.proofs.Telling.{channel-words, facts-told, channel-agrees, clock-told, count-told, sample-told}
+use Rattle.demands.proofs.Telling.{channel-words, header-told, facts-told, channel-agrees, clock-told, count-told, sample-told}
 use Rattle.demands.proofs.Viewing.{view-long, shown}
-use Rattle.demands.proofs.Boundary.{boundary, boundary-judges, table-apart, turn-apart, rewrite-apart}
+use Rattle.demands.proofs.Boundary.{boundary, boundary-accepted, boundary-judges, table-apart, turn-apart, rewrite-apart}
 use Rattle.demands.proofs.BoundaryTold.{boundary-tells}
 
 pub demand-1 : (s : List ℕ) → Bytes s → Demand-1 s
@@ -77,6 +77,7 @@ demand-1 s b = record {
   turn-keeps = turn-keeps s b;
   rewrite = λ order out out′ a x r i. rewrite-refuses s b order (length out) r (sym (ap Permit.meaning i) ∙ x .answer);
   rewrite-keeps = rewrite-keeps s;
+  header = λ a x r i. of-file s ofFile 0 (λ n h. h) r (header-refused s r (sym (ap meaningH i) ∙ x));
   facts = λ i a x. question s meaningF FactsTold.Refused (λ r. refl) (proper-facts s i) a x;
   channel = λ i j a x. question s meaningD ChannelTold.Refused (λ r. refl) (proper-channel s i j) a x;
   patient-item = λ i j a x. question s meaningI ItemTold.Refused (λ r. refl) (proper-item s Holder.Patient i j) a x;
@@ -95,6 +96,7 @@ hands-up s n p h = record {
   table = λ out out′ a x. table-unique s out out′ out a _ x (lists-refused s out h) .0;
   turn = λ out out′ a x. turn-unique s out out′ out a _ x (turns-refused s out h) .0;
   rewrite = λ order out out′ a x. rewrite-unique s order out out′ out a _ x (rewrites-refused s order out h) .0;
+  header = λ a x. header-unique s a _ x (rw h);
   facts = λ i a x. facts-unique s i a _ x (rw h);
   channel = λ i j a x. channel-unique s i j a _ x (rw h);
   patient-item = λ i j a x. patient-item-unique s i j a _ x (rw h);
@@ -117,6 +119,7 @@ described s {v} {t} h out out′ a room x =
 
 tells : (s : List ℕ) → Bytes s → {v : R.File} {t : List Event} → Accepted s v t → Tells s (reading v)
 tells s b h = record {
+  header = λ a x. x ∙ header-told s h;
   facts = λ i a x. x ∙ facts-told s b h i;
   channel = λ i j a x. rw x (channel-agrees s b h i j);
   texts = λ i j a x. rw x (channel-texts s b h i j);
@@ -156,15 +159,16 @@ pub demand-2 : (s : List ℕ) → Bytes s → Demand-2 s
 demand-2 s b = record {
   judges = λ a x. record {
     accepts = λ v t h. judge-accepted s a x h;
-    accepted = λ h i. rw i at x;
     refuses = λ n p h. judge-refused s a x h;
     refused = λ n p i. rw i at x;
   };
+  accepted = λ a x h i. rw i at x;
   refuses = hands-up s;
   lists = λ v t h out out′ a room x. described s h out out′ a room x;
   answers = λ v t h. tells s b h;
   rewrites = λ v t h order to names free out out′ a room x. written-anew s b h order to names free out out′ a room x a (rewrite-told s b h order to names free out out′ a room x);
   boundary-judges = boundary-judges s b;
+  boundary-accepted = boundary-accepted s b;
   boundary-lists = λ v t h out out′ a room x.
       let y = table-apart s b out out′ a x in
       let z = described s h out out′ (y .told) room (y .met) in
@@ -235,11 +239,17 @@ module _ (s : List ℕ) (b : Bytes s) {v : R.File} {t : List Event} (h : Accepte
   turned-bytes : Bytes s′
   turned-bytes = rw (turn-answers s h free b out out′ a room x .1) (turn-bytes s b h)
 
+  turned-header : {o : Order} → o ≡ other (R.orderOf s) → value (headerRead o (reading v)) ≡ value (inOther (headerRead (R.orderOf s) (reading v)))
+  turned-header e = ap (λ (o : Order). value (headerRead o (reading v))) e
+
   boundary-same : BoundarySame s s′
   boundary-same =
-      let e : R.judge s′ ≡ R.judge s = turn-accepted s h free b out out′ a room x .0 ∙ sym h in
+      let z = turn-accepted s h free b out out′ a room x in
+      let e : R.judge s′ ≡ R.judge s = z .0 ∙ sym h in
       record {
         table = boundary-table-same s s′ e;
+        header = λ a c x y. rw (x ∙ ap flatHeading (header-told s h), y ∙ ap flatHeading (header-told s′ (z .0) ∙ turned-header (z .2)))
+            (record { first = refl; second = refl; refusal = refl; position = refl; spelling = refl; version = refl; form = refl; script = refl; recordings = refl });
         facts = λ i a c x y. x ∙ (rw e) ∙ sym y;
         channel = λ i j a c x y. x ∙ (rw e) ∙ sym y;
         patient-item = λ i j a c x y. x ∙ (rw e) ∙ sym y;
@@ -271,6 +281,11 @@ module _ (s : List ℕ) (b : Bytes s) {v : R.File} {t : List Event} (h : Accepte
         long = y .1;
         order = y .2;
         table = table-same s s′ e;
+        header = λ a c x z. (
+          headerRead (R.orderOf s) (reading v),
+          header-unique s a _ x (sym (header-told s h)),
+          header-unique s′ c _ z (sym (header-told s′ (y .0) ∙ turned-header (y .2))),
+        );
         facts = λ i a c x y. facts-unique s i a c x (rw e at y);
         channel = λ i j a c x y. channel-unique s i j a c x (rw e at y);
         patient-item = λ i j a c x y. patient-item-unique s i j a c x (rw e at y);

@@ -19,7 +19,7 @@ use Rattle.judge.proofs.Accepted.{accepted-long}
 use Rattle.rows.proofs.Body.{silent-basicBody}
 use Rattle.rows.proofs.Lists.{silent-padding, silent-frameBody, silent-channelBody, silent-itemsBody}
 use Rattle.makers.specs.Makers.{firstMaker}
-use Rattle.demands.specs.Demands.{headerOf}
+use Rattle.demands.specs.Demands.{headerJudged}
 
 -- a walk that lists each row 16 bytes back
 module _ {A : Type 0} where
@@ -198,5 +198,5 @@ inside (row q x c s ∷ t) h at n l m p e = go (makerCode c) (inside t (h .1) at
 
 pub maker-inside : (s : List ℕ) → Bytes s → {v : File} {t : List Event} → judge s ≡ passed v [] t → (p : ℕ) → firstMaker (rows 0 t) ≡ some p → p ≤ length s
 maker-inside s b {v} {t} h p e =
-    let l = accepted-long s (headerOf s v) (record { file = v; events = t; judged = h; order = refl; heading = refl; count = refl }) in
+    let l = accepted-long s (headerJudged s v) (record { file = v; events = t; judged = h; order = refl; heading = refl; count = refl }) in
     inside t (backs (accepted s b h .plays) (back-file (length s))) 0 (length s) (omega (arith, tiled s b h)) (omega (arith, l)) p e

@@ -34,10 +34,10 @@ use Rattle.table.specs.declared.Listed.the-variants as Listed
 use Rattle.table.proofs.Answers.{rows-refusal}
 use Rattle.recordings.specs.Answers.{Answer, value, refusal, _>>=_, indexed, numbered}
 use Rattle.recordings.specs.Recordings.{judged, recordingOf}
-use Rattle.recordings.proofs.Chosen.{in-between}
+use Rattle.recordings.proofs.Chosen.{in-between, refusal-value}
 use Rattle.samples.specs.Frames.{frameOf, samplesOf}
 use Rattle.records.specs.declared.items.Holder.{Holder}
-use Rattle.questions.specs.Questions.{factsOf, channelOf, itemOf, itemIn, itemsOf, clockOf, countOf, sampleOf}
+use Rattle.questions.specs.Questions.{headerOf, headerTold, factsOf, channelOf, itemOf, itemIn, itemsOf, clockOf, countOf, sampleOf}
 use Rattle.bodies.specs.Orders.{sameOrder}
 use Rattle.makers.specs.Makers.{firstMaker}
 use Rattle.permit.specs.Permit as Permit
@@ -126,6 +126,14 @@ module _ (s : List ℕ) where
         go (passed v y t) e (Lettered.Names to) h =
             permit-refuses ofRewrite (or-right (ofFile 17) refl) (or-right (ofFile 18) refl) (length (rewritten to s)) room r (barrier (R.orderOf s) to (firstMaker (rows 0 t)))
             (λ p i. first-inside e p (barrier-some (sameOrder (R.orderOf s) to) (firstMaker (rows 0 t)) i)) h
+
+  -- the header: the file's alone
+  pub header-refused : (r : Refusal) → refusal (r .0) (r .1) ≡ headerOf s → R.judge s ≡ refused (r .0) (r .1)
+  header-refused r h = go (R.judge s) h
+    where
+      go : (x : Outcome R.File) → refusal (r .0) (r .1) ≡ headerTold (R.orderOf s) x → x ≡ refused (r .0) (r .1)
+      go (refused n p) h = cc
+      go (passed v l t) h = refusal-value h
 
   -- A question: every refusal on the way to its answer is the file's, or 19
 

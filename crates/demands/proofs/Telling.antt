@@ -28,12 +28,12 @@ use Rattle.recordings.proofs.Chosen.{indexed-one, numbered-one}
 use Rattle.samples.specs.Frames.{timeOf, Samples, numberIn, floatIn}
 use Rattle.samples.specs.declared.Number.{Number}
 use Rattle.samples.proofs.Bits.{a-pattern, a-float}
-use Rattle.questions.specs.Questions.{factsOf, channelOf, clockOf, countOf, sampleOf}
+use Rattle.questions.specs.Questions.{headerIn, headerOf, factsOf, channelOf, clockOf, countOf, sampleOf}
 use Rattle.questions.specs.Tied.{recordingRead, channelRead, frameRead, samplesRead, sampleRead}
 use Rattle.questions.specs.Values.{someNan, floatsOf, calibrationOf, descriptorOf}
 use Rattle.questions.specs.declared.channels.Calibration.the-variants as Calibration
 use Rattle.questions.proofs.Calibrated.{plain, patterns, floats}
-use Rattle.demands.specs.Demands.{Accepted, calibratedBy, valueTold, countsIn, timeIn, DescriptorTells, Agree, values, refusals}
+use Rattle.demands.specs.Demands.{Accepted, calibratedBy, valueTold, headerRead, countsIn, timeIn, DescriptorTells, Agree, values, refusals}
 use Rattle.demands.proofs.Agreeing.{agree-then, agree-on, agree-equal, numbered-image, image-value}
 use Rattle.demands.proofs.Samples.{numbers-small, Stand, recording-picked, frame-picked, samples-stand}
 
@@ -118,6 +118,12 @@ channel-told c p h = record {
 }
 
 -- The questions about an accepted file
+
+pub header-told : (s : List ℕ) {v : R.File} {t : List Event} → Accepted s v t → headerOf s ≡ value (headerRead (R.orderOf s) (reading v))
+header-told s {v} h =
+    let rs : List R.Recording = map (λ (p : R.Placed). p .recording) (v .recordings) in
+    let n : length (map recordingReading rs) ≡ length (v .recordings) = length-map rs recordingReading ∙ length-map (v .recordings) (λ (p : R.Placed). p .recording) in
+    rw h (ap (λ (k : ℕ). value (headerIn (R.orderOf s) (v .heading) k)) (sym n))
 
 module _ (s : List ℕ) (b : Bytes s) {v : R.File} {t : List Event} (h : Accepted s v t) (i : ℕ) where
   -- the words of a recording are those of its reading

@@ -23,6 +23,7 @@ use Rattle.rules.specs.Reading.{Value, whole, float, ChannelReading, FrameReadi
 use Rattle.rules.specs.Rules as R
 use Rattle.rules.specs.declared.FileHeader.{FileHeader}
 use Rattle.rules.specs.declared.Refusal.{Refusal}
+use Rattle.rules.specs.declared.Spelling.the-variants as Spelling
 use Rattle.records.specs.declared.items.Holder.the-variants as Holder
 use Rattle.header.specs.Letters.{lettered}
 use Rattle.header.specs.declared.Lettered.the-variants as Lettered
@@ -47,16 +48,20 @@ use Rattle.samples.specs.declared.Number.the-variants as Number
 use Rattle.samples.specs.declared.SampleTold.{SampleTold}
 use Rattle.samples.specs.declared.SampleTold.the-variants as SampleTold
 use Rattle.samples.specs.declared.Time.{Time}
-use Rattle.questions.specs.Contracts.{FactsAnswer, ChannelAnswer, PatientItemAnswer, EventItemAnswer, ClockAnswer, CountAnswer, SampleAnswer, ViewAnswer}
+use Rattle.questions.specs.Contracts.{HeaderAnswer, FactsAnswer, ChannelAnswer, PatientItemAnswer, EventItemAnswer, ClockAnswer, CountAnswer, SampleAnswer, ViewAnswer}
 use Rattle.questions.specs.Tied.{recordingRead, channelRead, itemRead, frameRead, samplesRead, sampleRead, Alike, FactsAre, TextsAre, ItemIs, ClockIs, ViewIs}
 use Rattle.questions.specs.Values.{textAt}
-use Rattle.questions.specs.Meanings.{meaningF, meaningD, meaningI, meaningT, meaningC, meaningS}
+use Rattle.questions.specs.Questions.{headerIn}
+use Rattle.questions.specs.Meanings.{meaningH, meaningF, meaningD, meaningI, meaningT, meaningC, meaningS}
 use Rattle.questions.specs.declared.channels.Calibration.{Calibration}
 use Rattle.questions.specs.declared.channels.Calibration.the-variants as Calibration
 use Rattle.questions.specs.declared.channels.ChannelTold.{ChannelTold}
 use Rattle.questions.specs.declared.channels.ChannelTold.the-variants as ChannelTold
 use Rattle.questions.specs.declared.channels.Descriptor.{Descriptor}
 use Rattle.questions.specs.declared.items.Entry.{Entry}
+use Rattle.questions.specs.declared.headers.Header as Asked
+use Rattle.questions.specs.declared.headers.HeaderTold.{HeaderTold}
+use Rattle.questions.specs.declared.headers.HeaderTold.the-variants as HeaderTold
 use Rattle.questions.specs.declared.items.ItemTold.{ItemTold}
 use Rattle.questions.specs.declared.items.ItemTold.the-variants as ItemTold
 use Rattle.makers.specs.Makers.{firstMaker}
@@ -65,16 +70,17 @@ use Rattle.permit.specs.declared.Written.{Written}
 use Rattle.permit.specs.declared.Written.the-variants as Written
 use Rattle.turn.specs.Turn.{Turns}
 use Rattle.rewrite.specs.Rewrite.{barrier, rewrittenIn, Rewrites}
-use Rattle.answers.specs.Flat.{countedRows, countedBytes, flatFacts, flatChannel, flatItem, flatClock, flatCount, flatSample}
+use Rattle.answers.specs.Flat.{countedRows, countedBytes, flatHeading, flatFacts, flatChannel, flatItem, flatClock, flatCount, flatSample}
 use Rattle.answers.specs.declared.Channel.{Channel}
 use Rattle.answers.specs.declared.Clock.{Clock}
 use Rattle.answers.specs.declared.Counted.{Counted}
 use Rattle.answers.specs.declared.Facts.{Facts}
 use Rattle.answers.specs.declared.Header.{Header}
+use Rattle.answers.specs.declared.Heading.{Heading}
 use Rattle.answers.specs.declared.Item.{Item}
 use Rattle.answers.specs.declared.Sample.{Sample}
 use Rattle.answers.specs.declared.View.{View}
-use Rattle.psg.specs.Calls.{JudgeAnswers, TableAnswers, TurnAnswers, RewriteAnswers, FactsAnswers, ChannelAnswers, PatientItemAnswers, EventItemAnswers, ClockAnswers, CountAnswers, SampleAnswers, ViewAnswers}
+use Rattle.psg.specs.Calls.{JudgeAnswers, TableAnswers, TurnAnswers, RewriteAnswers, HeaderAnswers, FactsAnswers, ChannelAnswers, PatientItemAnswers, EventItemAnswers, ClockAnswers, CountAnswers, SampleAnswers, ViewAnswers}
 use Rattle.demands.specs.Bits.{ChannelIs, SampleIs, SamplesAt}
 
 -- Demand 1: every call answers, with a value or with a refusal that document 01 gives for it; and a buffer keeps what the answer does not state
@@ -203,6 +209,7 @@ pub record Boundary (s : List ℕ) : Type 0 where
   pub rewrite : (order : ℕ) (out out′ : List ℕ) (a : Counted) → RewriteAnswers s order out out′ a →
       TakenApart s (Rewrites s order out out′) Written.Refused (λ b. countedBytes (Permit.meaning b)) ofRewrite (length (rewrittenIn (lettered order) s)) (a .refusal) (a .position) a
   pub rewrite-keeps : (order : ℕ) (out out′ : List ℕ) (a : Counted) → RewriteAnswers s order out out′ a → KeepsRest stoppedC wroteC 1 out out′ a
+  pub header : (a : Heading) → HeaderAnswers s a → TakenApart s (HeaderAnswer s) HeaderTold.Refused (λ b. flatHeading (meaningH b)) ofFile 0 (a .refusal) (a .position) a
   pub facts : (i : ℕ) (a : Facts) → FactsAnswers s i a → TakenApart s (FactsAnswer s i) FactsTold.Refused (λ b. flatFacts (meaningF b)) ofQuestion 0 (a .refusal) (a .position) a
   pub channel : (i j : ℕ) (a : Channel) → ChannelAnswers s i j a → TakenApart s (ChannelAnswer s i j) ChannelTold.Refused (λ b. flatChannel (meaningD b)) ofQuestion 0 (a .refusal) (a .position) a
   pub patient-item : (i j : ℕ) (a : Item) → PatientItemAnswers s i j a → TakenApart s (PatientItemAnswer s i j) ItemTold.Refused (λ b. flatItem (meaningI b)) ofQuestion 0 (a .refusal) (a .position) a
@@ -225,7 +232,8 @@ pub record Demand-1 (s : List ℕ) : Type 0 where
   -- rewrite, whatever the letter
   pub rewrite : (order : ℕ) (out out′ : List ℕ) (a : Written) → Rewrites s order out out′ a → Answered Written.Refused ofRewrite (length s) (length (rewrittenIn (lettered order) s)) a
   pub rewrite-keeps : (order : ℕ) (out out′ : List ℕ) (a : Written) → Rewrites s order out out′ a → KeepsRest Written.Refused Written.Bytes 1 out out′ a
-  -- the questions
+  -- the questions; about the header only the file is refused
+  pub header : (a : HeaderTold) → HeaderAnswer s a → Answered HeaderTold.Refused ofFile (length s) 0 a
   pub facts : (i : ℕ) (a : FactsTold) → FactsAnswer s i a → Answered FactsTold.Refused ofQuestion (length s) 0 a
   pub channel : (i j : ℕ) (a : ChannelTold) → ChannelAnswer s i j a → Answered ChannelTold.Refused ofQuestion (length s) 0 a
   pub patient-item : (i j : ℕ) (a : ItemTold) → PatientItemAnswer s i j a → Answered ItemTold.Refused ofQuestion (length s) 0 a
@@ -243,14 +251,13 @@ pub record Demand-1 (s : List ℕ) : Type 0 where
 abbrev pub Accepted : List ℕ → R.File → List Event → Type 0
 Accepted s v t = R.judge s ≡ passed v [] t
 
--- the header that `judge` answers: the order letter, the script and K
-abbrev pub headerOf : List ℕ → R.File → FileHeader
-headerOf s v = record { order = R.orderOf s; heading = record { script = v .heading .script }; count = length (v .recordings) }
+-- the header that `judge` answers: the order, the header's values and K
+abbrev pub headerJudged : List ℕ → R.File → FileHeader
+headerJudged s v = record { order = R.orderOf s; heading = record { spelling = v .heading .spelling; script = v .heading .script }; count = length (v .recordings) }
 
 pub record JudgesByRules {E : Type 0} (accept : FileHeader → E) (refuse : Refusal → E) (s : List ℕ) (a : E) : Type 0 where
-  -- accepted exactly when the rules accept
-  pub accepts : (v : R.File) (t : List Event) → Accepted s v t → a ≡ accept (headerOf s v)
-  pub accepted : (h : FileHeader) → a ≡ accept h → AcceptedAs s h
+  -- where they accept, the header of what they read
+  pub accepts : (v : R.File) (t : List Event) → Accepted s v t → a ≡ accept (headerJudged s v)
   -- refused exactly when they refuse, by their number and at their position
   pub refuses : (n p : ℕ) → R.judge s ≡ refused n p → a ≡ refuse (refusalOf n p)
   pub refused : (n p : ℕ) → a ≡ refuse (refusalOf n p) → R.judge s ≡ refused n p
@@ -260,6 +267,7 @@ pub record HandsUp (s : List ℕ) (n p : ℕ) : Type 0 where
   pub table : (out out′ : List ℤ) (a : Listed) → Lists s out out′ a → a ≡ Listed.Refused (refusalOf n p)
   pub turn : (out out′ : List ℕ) (a : Written) → Turns s out out′ a → a ≡ Written.Refused (refusalOf n p)
   pub rewrite : (order : ℕ) (out out′ : List ℕ) (a : Written) → Rewrites s order out out′ a → a ≡ Written.Refused (refusalOf n p)
+  pub header : (a : HeaderTold) → HeaderAnswer s a → a ≡ HeaderTold.Refused (refusalOf n p)
   pub facts : (i : ℕ) (a : FactsTold) → FactsAnswer s i a → a ≡ FactsTold.Refused (refusalOf n p)
   pub channel : (i j : ℕ) (a : ChannelTold) → ChannelAnswer s i j a → a ≡ ChannelTold.Refused (refusalOf n p)
   pub patient-item : (i j : ℕ) (a : ItemTold) → PatientItemAnswer s i j a → a ≡ ItemTold.Refused (refusalOf n p)
@@ -292,7 +300,10 @@ valueTold (Number.Whole z) = whole z
 valueTold (Number.Float v) = float (bitsOf v)
 valueTold (Number.Pattern n) = float n
 
--- M, F and T of a recording, and the clock of a frame
+-- the header of a file in this order; M, F and T of a recording, and the clock of a frame
+abbrev pub headerRead : Order → Reading → Asked.Header
+headerRead o g = headerIn o (g .heading) (length (g .recordings))
+
 abbrev pub countsIn : RecordingReading → Counts
 countsIn r = record { channels = length (r .channels); frames = length (r .frames); seconds = unsigned 4 (r .seconds) }
 
@@ -319,6 +330,7 @@ pub data Agree {A B : Type 0} (T : A → B → Type 0) : Answer A → Answer B �
 
 -- each question about a file with this reading answers what the reading says
 pub record Tells (s : List ℕ) (g : Reading) : Type 0 where
+  pub header : (a : HeaderTold) → HeaderAnswer s a → meaningH a ≡ value (headerRead (R.orderOf s) g)
   pub facts : (i : ℕ) (a : FactsTold) → FactsAnswer s i a → meaningF a ≡ (recordingRead g i >>= λ r. value (countsIn r))
   pub channel : (i j : ℕ) (a : ChannelTold) → ChannelAnswer s i j a → Agree DescriptorTells (channelRead g i j) (meaningD a)
   -- the bytes that a text names lie in the file, and are the reading's text
@@ -346,8 +358,20 @@ entryC a = record { code = a .code; text = textAt (a .text) (a .«text_length»)
 abbrev pub timeC : Clock → Time
 timeC a = record { hour = a .hour; minute = a .minute; second = a .second }
 
+-- of a file in this order
+pub record HeadingIs (o : Order) (g : Reading) (a : Heading) : Type 0 where
+  pub accepted : a .refusal ≡ 0
+  pub spg : g .heading .spelling ≡ Spelling.Spg → a .spelling ≡ 0
+  pub psg : g .heading .spelling ≡ Spelling.Psg → a .spelling ≡ 1
+  pub version : a .version ≡ 300
+  pub form : a .form ≡ 0
+  pub order : a .order ≡ letterOf o
+  pub script : a .script ≡ g .heading .script
+  pub recordings : a .recordings ≡ length (g .recordings)
+
 -- each question of C about a file with this reading answers what the reading says
 pub record BoundaryTells (s : List ℕ) (g : Reading) : Type 0 where
+  pub header : (a : Heading) → HeaderAnswers s a → HeadingIs (R.orderOf s) g a
   pub facts : (i : ℕ) (a : Facts) → FactsAnswers s i a → TellsC (FactsAre (countsC a)) (a .refusal) (a .position) (recordingRead g i)
   pub channel : (i j : ℕ) (a : Channel) → ChannelAnswers s i j a → TellsC (ChannelIs s j a) (a .refusal) (a .position) (channelRead g i j)
   pub patient-item : (i j : ℕ) (a : Item) → PatientItemAnswers s i j a → TellsC (ItemIs s (entryC a)) (a .refusal) (a .position) (itemRead Holder.Patient g i j)
@@ -377,6 +401,7 @@ pub record WrittenAnew {E : Type 0} (wrote : ℕ → E) (g : Reading) (to : Orde
 pub record Demand-2 (s : List ℕ) : Type 0 where
   -- accepted exactly when the rules accept, and refused by every call as they refuse
   pub judges : (a : Judged) → JudgedAs s a → JudgesByRules Judged.Accepted Judged.Refused s a
+  pub accepted : (a : Judged) → JudgedAs s a → (h : FileHeader) → a ≡ Judged.Accepted h → AcceptedAs s h
   pub refuses : (n p : ℕ) → R.judge s ≡ refused n p → HandsUp s n p
   -- the table, with room, is that of the rules' rows
   pub lists : (v : R.File) (t : List Event) → Accepted s v t → (out out′ : List ℤ) (a : Listed) → 4 * length (rows 0 t) ≤ length out → Lists s out out′ a → TableHolds Listed.Rows (rows 0 t) out′ a
@@ -387,6 +412,7 @@ pub record Demand-2 (s : List ℕ) : Type 0 where
       (out out′ : List ℕ) (a : Written) → length (rewritten to s) ≤ length out → Rewrites s order out out′ a → WrittenAnew Written.Bytes (reading v) to out′ a
   -- what C is answered
   pub boundary-judges : (a : Header) → JudgeAnswers s a → JudgesByRules headerC refusedC s a
+  pub boundary-accepted : (a : Header) → JudgeAnswers s a → a .refusal ≡ 0 → (h : FileHeader) × AcceptedAs s h × (a ≡ headerC h)
   pub boundary-lists : (v : R.File) (t : List Event) → Accepted s v t → (out out′ : List ℤ) (a : Counted) → 4 * length (rows 0 t) ≤ length out → TableAnswers s out out′ a → TableHolds wroteC (rows 0 t) out′ a
   pub boundary-answers : (v : R.File) (t : List Event) → Accepted s v t → BoundaryTells s (reading v)
   pub boundary-rewrites : (v : R.File) (t : List Event) → Accepted s v t → (order : ℕ) (to : Order) → lettered order ≡ Lettered.Names to → barrier (R.orderOf s) to (firstMaker (rows 0 t)) ≡ none →
@@ -408,6 +434,10 @@ pub record SameFront {E : Type 0} (n : ℕ) (a b : E) (out₁ out₂ : List ℕ)
   pub answer : a ≡ b
   pub front : take n out₁ ≡ take n out₂
 
+-- a header but for the order, which is the other one
+abbrev pub inOther : Asked.Header → Asked.Header
+inOther h = record { spelling = h .spelling; version = h .version; form = h .form; order = other (h .order); script = h .script; recordings = h .recordings }
+
 -- bytes of two files are the same words of so many bytes, each file's in its own order
 pub record SameWords (w : ℕ) (o o′ : Order) (xs xs′ : List ℕ) : Type 0 where
   pub words : List ℕ
@@ -424,9 +454,22 @@ pub record SameNumbers (g : Reading) (i k : ℕ) (file r file′ r′ : RefT (Li
   -- the same words, by the width of the channel's samples
   pub words : (c : ChannelReading) → channelRead g i k ≡ value c → SameWords (R.width (unsigned 4 (c .format))) (R.orderOf (file .now)) (R.orderOf (file′ .now)) (r .now) (r′ .now)
 
+-- two headers for C that differ in the order's letter alone
+pub record SameButOrder (o : Order) (a b : Heading) : Type 0 where
+  pub first : a .order ≡ letterOf o
+  pub second : b .order ≡ letterOf (other o)
+  pub refusal : a .refusal ≡ b .refusal
+  pub position : a .position ≡ b .position
+  pub spelling : a .spelling ≡ b .spelling
+  pub version : a .version ≡ b .version
+  pub form : a .form ≡ b .form
+  pub script : a .script ≡ b .script
+  pub recordings : a .recordings ≡ b .recordings
+
 -- what C is answered of the file s and of the file s′ that `turn` wrote of it
 pub record BoundarySame (s s′ : List ℕ) : Type 0 where
   pub table : (out out₁ out₂ : List ℤ) (a b : Counted) → TableAnswers s out out₁ a → TableAnswers s′ out out₂ b → SameEnd a b out₁ out₂
+  pub header : (a b : Heading) → HeaderAnswers s a → HeaderAnswers s′ b → SameButOrder (R.orderOf s) a b
   pub facts : (i : ℕ) (a b : Facts) → FactsAnswers s i a → FactsAnswers s′ i b → a ≡ b
   pub channel : (i j : ℕ) (a b : Channel) → ChannelAnswers s i j a → ChannelAnswers s′ i j b → a ≡ b
   pub patient-item : (i j : ℕ) (a b : Item) → PatientItemAnswers s i j a → PatientItemAnswers s′ i j b → a ≡ b
@@ -452,7 +495,8 @@ pub record Same (s : List ℕ) (g : Reading) (s′ : List ℕ) : Type 0 where
   pub order : R.orderOf s′ ≡ other (R.orderOf s)
   -- the same table: the answer, and the rows in the buffer
   pub table : (out out₁ out₂ : List ℤ) (a b : Listed) → Lists s out out₁ a → Lists s′ out out₂ b → SameEnd a b out₁ out₂
-  -- the same answer to each question
+  -- the same answer to each question; to the one about the header but for the order
+  pub header : (a b : HeaderTold) → HeaderAnswer s a → HeaderAnswer s′ b → (h : Asked.Header) × (a ≡ HeaderTold.Header h) × (b ≡ HeaderTold.Header (inOther h))
   pub facts : (i : ℕ) (a b : FactsTold) → FactsAnswer s i a → FactsAnswer s′ i b → a ≡ b
   pub channel : (i j : ℕ) (a b : ChannelTold) → ChannelAnswer s i j a → ChannelAnswer s′ i j b → a ≡ b
   pub patient-item : (i j : ℕ) (a b : ItemTold) → PatientItemAnswer s i j a → PatientItemAnswer s′ i j b → a ≡ b

@@ -6,13 +6,14 @@ ghost use Rattle.walk.specs.See.{Verdict};
 ghost use Rattle.rules.specs.Rules as R;
 ghost use Rattle.records.specs.Says.{resumed};
 ghost use Rattle.header.specs.Letters.{lettered};
-ghost use Rattle.header.specs.Opened.{nameTests, HeaderRead, refusalO};
+ghost use Rattle.header.specs.Opened.{spelledAs, nameTests, HeaderRead, refusalO};
 use records::Tested;
 use records::between;
 use records::same;
 use rules::FileHeader;
 use rules::Heading;
 use rules::Refusal;
+use rules::Spelling;
 use words::Order;
 use words::byte;
 
@@ -24,6 +25,12 @@ pub enum Opened {
 // The order that a letter names.
 pub enum Lettered {
     Names(Order),
+    Nothing,
+}
+
+// The spelling that the first eight bytes have.
+enum Spelled {
+    As(Spelling),
     Nothing,
 }
 
@@ -46,6 +53,18 @@ pub fn order_of(letter: u32) -> Lettered
         return Lettered::Names(Order::Big);
     }
     Lettered::Nothing
+}
+
+fn spelling_of(name: &[u8]) -> Spelled
+    ensures { λ a. ⌜ a ≡ spelledAs (now (name .entry)) ⌝ }
+{
+    if same(name, b"JSSR-SPG") {
+        return Spelled::As(Spelling::Spg);
+    }
+    if same(name, b"JSSR-PSG") {
+        return Spelled::As(Spelling::Psg);
+    }
+    Spelled::Nothing
 }
 
 fn script_ok(letter: u32) -> bool
@@ -98,14 +117,11 @@ fn count_of(s: &[u8]) -> u32
     value
 }
 
-// The identifier, the version and the form.
+// The version and the form.
 fn names_ok(s: &[u8]) -> Tested
     requires { ⌜ 32 ≤ length (now s) ⌝ }
     ensures { λ a. ⌜ ((K : Verdict R.FileHeader) → nameTests (now (s .entry)) K ≡ resumed a K) ⌝ }
 {
-    if !same(&s[FileHeader::IDENTIFIER..FileHeader::VERSION], b"JSSR-SPG") {
-        return Tested::Stop(Refusal(2, FileHeader::IDENTIFIER));
-    }
     if !same(&s[FileHeader::VERSION..FileHeader::FORM], b"000300") {
         return Tested::Stop(Refusal(3, FileHeader::VERSION));
     }
@@ -122,6 +138,10 @@ pub fn file_header(s: &[u8]) -> Opened
     if s.len() < FileHeader::LENGTH {
         return Opened::Stop(Refusal(1, 0));
     }
+    let spelled = spelling_of(&s[FileHeader::IDENTIFIER..FileHeader::VERSION]);
+    let Spelled::As(spelling) = spelled else {
+        return Opened::Stop(Refusal(2, FileHeader::IDENTIFIER));
+    };
     let names = names_ok(s);
     let Tested::Fine = names else {
         return Opened::Stop(records::of_test(names));
@@ -141,7 +161,7 @@ pub fn file_header(s: &[u8]) -> Opened
     if !spaces(&s[FileHeader::SPACES..FileHeader::LENGTH], 0) {
         return Opened::Stop(Refusal(8, FileHeader::SPACES));
     }
-    let heading = Heading { script };
+    let heading = Heading { spelling, script };
     Opened::Holds(FileHeader {
         order,
         heading,

@@ -81,7 +81,7 @@ accepted-unique s h k x y =
     let i : h .order ≡ k .order = cc in
     let j : headingOf (h .heading) ≡ headingOf (k .heading) = cc in
     let l : h .count ≡ k .count = cc in
-    λ n. record { order = i n; heading = record { script = j n .script }; count = l n }
+    λ n. record { order = i n; heading = record { spelling = j n .spelling; script = j n .script }; count = l n }
 
 pub judge-unique : (s : List ℕ) (a b : Judged) → JudgedAs s a → JudgedAs s b → a ≡ b
 judge-unique s (Judged.Accepted h) (Judged.Accepted k) x y = ap Judged.Accepted (accepted-unique s h k x y)
@@ -96,8 +96,8 @@ judge-unique s (Judged.Refused r) (Judged.Refused u) x y =
 pub judge-refused : (s : List ℕ) (a : Judged) {m p : ℕ} → JudgedAs s a → judge s ≡ refused m p → a ≡ Judged.Refused (record { 0 = m; 1 = p })
 judge-refused s a {m} {p} x e = judge-unique s a (Judged.Refused (record { 0 = m; 1 = p })) x e
 
-pub judge-accepted : (s : List ℕ) (a : Judged) {v : File} {t : List Event} → JudgedAs s a → judge s ≡ passed v [] t → a ≡ Judged.Accepted (record { order = orderOf s; heading = record { script = v .heading .script }; count = length (v .recordings) })
-judge-accepted s a {v} {t} x e = judge-unique s a (Judged.Accepted (record { order = orderOf s; heading = record { script = v .heading .script }; count = length (v .recordings) })) x (record { file = v; events = t; judged = e; order = refl; heading = refl; count = refl })
+pub judge-accepted : (s : List ℕ) (a : Judged) {v : File} {t : List Event} → JudgedAs s a → judge s ≡ passed v [] t → a ≡ Judged.Accepted (record { order = orderOf s; heading = record { spelling = v .heading .spelling; script = v .heading .script }; count = length (v .recordings) })
+judge-accepted s a {v} {t} x e = judge-unique s a (Judged.Accepted (record { order = orderOf s; heading = record { spelling = v .heading .spelling; script = v .heading .script }; count = length (v .recordings) })) x (record { file = v; events = t; judged = e; order = refl; heading = refl; count = refl })
 
 -- what the walk comes to over a file that is accepted
 went-whole : (n : ℕ) (x : Outcome File) {v : File} {t : List Event} → x ≡ passed v [] t → (y : Verdict File) → Told n x y → Holds (λ _ e. e ≤ n) y → y ≡ goes v n

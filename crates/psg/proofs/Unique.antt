@@ -7,12 +7,13 @@ use Prim.Native.Nat.{ℕ}
 use lib.IntN.{ℤ}
 use Rattle.answers.specs.Flat.{Leaves}
 use Rattle.psg.specs.Calls.{JudgeAnswers, TableAnswers, TurnAnswers, RewriteAnswers}
-use Rattle.psg.specs.Calls.{FactsAnswers, ChannelAnswers, PatientItemAnswers, EventItemAnswers, ClockAnswers, CountAnswers, SampleAnswers, ViewAnswers}
+use Rattle.psg.specs.Calls.{HeaderAnswers, FactsAnswers, ChannelAnswers, PatientItemAnswers, EventItemAnswers, ClockAnswers, CountAnswers, SampleAnswers, ViewAnswers}
 use Rattle.answers.specs.declared.Channel.{Channel}
 use Rattle.answers.specs.declared.Clock.{Clock}
 use Rattle.answers.specs.declared.Counted.{Counted}
 use Rattle.answers.specs.declared.Facts.{Facts}
 use Rattle.answers.specs.declared.Header.{Header}
+use Rattle.answers.specs.declared.Heading.{Heading}
 use Rattle.answers.specs.declared.Item.{Item}
 use Rattle.answers.specs.declared.Sample.{Sample}
 use Rattle.answers.specs.declared.View.{View}
@@ -27,6 +28,9 @@ only-leaves u v = (only (u .answers) (v .answers), only (u .holds) (v .holds))
 module _ (s : List ℕ) where
   pub psg-judge-unique : (a b : Header) → JudgeAnswers s a → JudgeAnswers s b → a ≡ b
   psg-judge-unique a b = only
+
+  pub psg-header-unique : (a b : Heading) → HeaderAnswers s a → HeaderAnswers s b → a ≡ b
+  psg-header-unique a b = only
 
   -- the calls that write
   pub psg-table-unique : (out out₁ out₂ : List ℤ) (a b : Counted) → TableAnswers s out out₁ a → TableAnswers s out out₂ b → (a ≡ b) × (out₁ ≡ out₂)

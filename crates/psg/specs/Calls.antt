@@ -10,13 +10,14 @@ use Rattle.rules.specs.Rules as R
 use Rattle.table.specs.Table as Table
 use Rattle.turn.specs.Turn as Turn
 use Rattle.rewrite.specs.Rewrite as Rewrite
-use Rattle.questions.specs.Questions.{factsOf, channelOf, patientItemOf, eventItemOf, clockOf, countOf, sampleOf, viewOf}
-use Rattle.answers.specs.Flat.{Leaves, countedRows, countedBytes, flatHeader, flatFacts, flatChannel, flatItem, flatClock, flatCount, flatSample, flatView}
+use Rattle.questions.specs.Questions.{headerOf, factsOf, channelOf, patientItemOf, eventItemOf, clockOf, countOf, sampleOf, viewOf}
+use Rattle.answers.specs.Flat.{Leaves, countedRows, countedBytes, flatHeader, flatHeading, flatFacts, flatChannel, flatItem, flatClock, flatCount, flatSample, flatView}
 use Rattle.answers.specs.declared.Channel.{Channel}
 use Rattle.answers.specs.declared.Clock.{Clock}
 use Rattle.answers.specs.declared.Counted.{Counted}
 use Rattle.answers.specs.declared.Facts.{Facts}
 use Rattle.answers.specs.declared.Header.{Header}
+use Rattle.answers.specs.declared.Heading.{Heading}
 use Rattle.answers.specs.declared.Item.{Item}
 use Rattle.answers.specs.declared.Sample.{Sample}
 use Rattle.answers.specs.declared.View.{View}
@@ -34,7 +35,10 @@ TurnAnswers s out out′ a = Leaves (countedBytes (Turn.answerOf s (length out))
 abbrev pub RewriteAnswers : List ℕ → ℕ → List ℕ → List ℕ → Counted → Type 0
 RewriteAnswers s c out out′ a = Leaves (countedBytes (Rewrite.answerOf s c (length out))) (Rewrite.afterwards s c out) a out′
 
--- the questions, about recording i
+-- the questions: about the header, and about recording i
+
+abbrev pub HeaderAnswers : List ℕ → Heading → Type 0
+HeaderAnswers s a = a ≡ flatHeading (headerOf s)
 
 abbrev pub FactsAnswers : List ℕ → ℕ → Facts → Type 0
 FactsAnswers s i a = a ≡ flatFacts (factsOf s i)

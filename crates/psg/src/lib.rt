@@ -1,12 +1,13 @@
 // What C and Rust link: each call takes a proved answer apart into a struct of numbers, and adds nothing.
 ghost use Rattle.psg.specs.Calls.{JudgeAnswers, TableAnswers, TurnAnswers, RewriteAnswers};
-ghost use Rattle.psg.specs.Calls.{FactsAnswers, ChannelAnswers, PatientItemAnswers, EventItemAnswers, ClockAnswers};
+ghost use Rattle.psg.specs.Calls.{HeaderAnswers, FactsAnswers, ChannelAnswers, PatientItemAnswers, EventItemAnswers, ClockAnswers};
 ghost use Rattle.psg.specs.Calls.{CountAnswers, SampleAnswers, ViewAnswers};
 use answers::Channel;
 use answers::Clock;
 use answers::Counted;
 use answers::Facts;
 use answers::Header;
+use answers::Heading;
 use answers::Item;
 use answers::Sample;
 use answers::View;
@@ -56,6 +57,13 @@ pub extern "C" fn psg_rewrite(file: &[u8], order: u8, out: &mut [u8]) -> Counted
 }
 
 // The questions, in the order of crate `questions`.
+#[no_mangle]
+pub extern "C" fn psg_header(file: &[u8]) -> Heading
+    ensures { λ a. ⌜ HeaderAnswers (now (file .entry)) a ⌝ }
+{
+    answers::heading_of(questions::header(file))
+}
+
 #[no_mangle]
 pub extern "C" fn psg_facts(file: &[u8], recording: usize) -> Facts
     ensures { λ a. ⌜ FactsAnswers (now (file .entry)) recording a ⌝ }

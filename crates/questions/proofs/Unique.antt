@@ -15,10 +15,12 @@ use Rattle.samples.specs.declared.SampleTold.{SampleTold}
 use Rattle.samples.specs.declared.SampleTold.the-variants as SampleTold
 use Rattle.samples.specs.declared.ClockTold.{ClockTold}
 use Rattle.samples.specs.declared.ClockTold.the-variants as ClockTold
-use Rattle.questions.specs.Contracts.{FactsAnswer, ChannelAnswer, PatientItemAnswer, EventItemAnswer, ClockAnswer, CountAnswer, SampleAnswer, ViewAnswer}
-use Rattle.questions.specs.Meanings.{meaningF, meaningD, meaningI, meaningT, meaningC, meaningS}
+use Rattle.questions.specs.Contracts.{HeaderAnswer, FactsAnswer, ChannelAnswer, PatientItemAnswer, EventItemAnswer, ClockAnswer, CountAnswer, SampleAnswer, ViewAnswer}
+use Rattle.questions.specs.Meanings.{meaningH, meaningF, meaningD, meaningI, meaningT, meaningC, meaningS}
 use Rattle.questions.specs.declared.channels.ChannelTold.{ChannelTold}
 use Rattle.questions.specs.declared.channels.ChannelTold.the-variants as ChannelTold
+use Rattle.questions.specs.declared.headers.HeaderTold.{HeaderTold}
+use Rattle.questions.specs.declared.headers.HeaderTold.the-variants as HeaderTold
 use Rattle.questions.specs.declared.items.ItemTold.{ItemTold}
 use Rattle.questions.specs.declared.items.ItemTold.the-variants as ItemTold
 
@@ -26,6 +28,10 @@ use Rattle.questions.specs.declared.items.ItemTold.the-variants as ItemT
 abbrev answer : {A E : Type 0} → (A → E) → (Refusal → E) → Answer A → E
 answer v u (value a) = v a
 answer v u (refusal n p) = u (record { 0 = n; 1 = p })
+
+header-back : (a : HeaderTold) → answer HeaderTold.Header HeaderTold.Refused (meaningH a) ≡ a
+header-back (HeaderTold.Header x) = refl
+header-back (HeaderTold.Refused r) = refl
 
 facts-back : (a : FactsTold) → answer FactsTold.Facts FactsTold.Refused (meaningF a) ≡ a
 facts-back (FactsTold.Facts x) = refl
@@ -52,6 +58,10 @@ sample-back (SampleTold.Value x) = refl
 sample-back (SampleTold.Refused r) = refl
 
 -- each question, of the definition that its `ensures` cites
+
+pub header-unique : (s : List ℕ) (a b : HeaderTold) → HeaderAnswer s a → HeaderAnswer s b → a ≡ b
+header-unique s a b = one meaningH (answer HeaderTold.Header HeaderTold.Refused) header-back
+
 module _ (s : List ℕ) (i : ℕ) where
   pub facts-unique : (a b : FactsTold) → FactsAnswer s i a → FactsAnswer s i b → a ≡ b
   facts-unique a b = one meaningF (answer FactsTold.Facts FactsTold.Refused) facts-back

@@ -8,10 +8,15 @@ use Rattle.recordings.specs.declared.FactsTold.{FactsTold}
 use Rattle.samples.specs.declared.ClockTold.{ClockTold}
 use Rattle.samples.specs.declared.CountTold.{CountTold}
 use Rattle.samples.specs.declared.SampleTold.{SampleTold}
-use Rattle.questions.specs.Meanings.{meaningF, meaningD, meaningI, meaningT, meaningC, meaningS}
-use Rattle.questions.specs.Questions.{factsOf, channelOf, patientItemOf, eventItemOf, clockOf, countOf, sampleOf, viewOf, Shows}
+use Rattle.questions.specs.Meanings.{meaningH, meaningF, meaningD, meaningI, meaningT, meaningC, meaningS}
+use Rattle.questions.specs.Questions.{headerOf, factsOf, channelOf, patientItemOf, eventItemOf, clockOf, countOf, sampleOf, viewOf, Shows}
 use Rattle.questions.specs.declared.channels.ChannelTold.{ChannelTold}
+use Rattle.questions.specs.declared.headers.HeaderTold.{HeaderTold}
 use Rattle.questions.specs.declared.items.ItemTold.{ItemTold}
+
+-- the header of the file s
+abbrev pub HeaderAnswer : List ℕ → HeaderTold → Type 0
+HeaderAnswer s a = meaningH a ≡ headerOf s
 
 -- of the file s: recording i, and in it channel, item or frame j; of a frame channel k, and its sample n
 module _ (s : List ℕ) (i : ℕ) where

@@ -16,9 +16,16 @@ use Rattle.samples.specs.declared.ClockTold.the-variants as ClockTold
 use Rattle.questions.specs.declared.channels.ChannelTold.{ChannelTold}
 use Rattle.questions.specs.declared.channels.ChannelTold.the-variants as ChannelTold
 use Rattle.questions.specs.declared.channels.Descriptor.{Descriptor}
+use Rattle.questions.specs.declared.headers.Header.{Header}
+use Rattle.questions.specs.declared.headers.HeaderTold.{HeaderTold}
+use Rattle.questions.specs.declared.headers.HeaderTold.the-variants as HeaderTold
 use Rattle.questions.specs.declared.items.Entry.{Entry}
 use Rattle.questions.specs.declared.items.ItemTold.{ItemTold}
 use Rattle.questions.specs.declared.items.ItemTold.the-variants as ItemTold
+
+abbrev pub meaningH : HeaderTold → Answer Header
+meaningH (HeaderTold.Header x) = value x
+meaningH (HeaderTold.Refused r) = refusal (r .0) (r .1)
 
 abbrev pub meaningF : FactsTold → Answer Counts
 meaningF (FactsTold.Facts x) = value x

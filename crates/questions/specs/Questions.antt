@@ -8,7 +8,8 @@ use lib.Dec.{eqb}
 use lib.ListN.{length, take}
 use denote.Ref.{RefT}
 use Rattle.words.specs.Numbers.{bytesAt}
-use Rattle.walk.specs.Walk.{pick}
+use Rattle.words.specs.declared.Order.{Order}
+use Rattle.walk.specs.Walk.{pick, Outcome, refused, passed}
 use Rattle.rules.specs.Rules as R
 use Rattle.records.specs.declared.items.Holder.{Holder}
 use Rattle.records.specs.declared.items.Holder.the-variants as Holder
@@ -21,7 +22,28 @@ use Rattle.samples.specs.declared.Time.{Time}
 use Rattle.questions.specs.Values.{textAt, descriptorOf, entryOf}
 use Rattle.questions.specs.declared.channels.Descriptor.{Descriptor}
 use Rattle.questions.specs.declared.channels.Text.{Text}
+use Rattle.questions.specs.declared.headers.Header.{Header}
 use Rattle.questions.specs.declared.items.Entry.{Entry}
+
+-- the header of a file in this order, with these values and K recordings; the version and the form are the numbers of their digits
+
+abbrev pub headerIn : Order → R.Heading → ℕ → Header
+headerIn o g k = record {
+  spelling = g .spelling;
+  version = R.countIs (R.decimal 0 R.version);
+  form = R.countIs (R.decimal 0 R.form);
+  order = o;
+  script = g .script;
+  recordings = k;
+}
+
+-- by the rules' outcome for a file in this order
+abbrev pub headerTold : Order → Outcome R.File → Answer Header
+headerTold o (refused n p) = refusal n p
+headerTold o (passed v r t) = value (headerIn o (v .heading) (length (v .recordings)))
+
+abbrev pub headerOf : List ℕ → Answer Header
+headerOf s = headerTold (R.orderOf s) (R.judge s)
 
 -- M, F and T
 

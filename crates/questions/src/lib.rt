@@ -1,25 +1,51 @@
 // Questions about a file: each judges the file itself, and answers values or the refusal.
 // Recordings, channels, items and frames are asked for from 1, samples from 0.
 pub mod channels;
+pub mod headers;
 pub mod items;
 
-ghost use Rattle.questions.specs.Contracts.{FactsAnswer, ChannelAnswer, PatientItemAnswer, EventItemAnswer};
+ghost use Rattle.questions.specs.Contracts.{HeaderAnswer, FactsAnswer, ChannelAnswer, PatientItemAnswer, EventItemAnswer};
 ghost use Rattle.questions.specs.Contracts.{ClockAnswer, CountAnswer, SampleAnswer, ViewAnswer};
 ghost use Rattle.questions.specs.Questions.{viewOf, PartIs};
 use crate::channels::ChannelTold;
 use crate::channels::Text;
+use crate::headers::Header;
+use crate::headers::HeaderTold;
 use crate::items::ItemTold;
+use judge::Judged;
 use recordings::FactsTold;
 use recordings::RecordingFound;
 use records::items::Holder;
 use rules::Channel;
 use rules::Channels;
+use rules::FileHeader;
 use rules::Refusal;
 use samples::ClockTold;
 use samples::CountTold;
 use samples::FrameFound;
 use samples::SampleTold;
 use samples::SamplesFound;
+
+// What the file header says.
+pub fn header(file: &[u8]) -> HeaderTold
+    ensures { λ a. ⌜ HeaderAnswer (now (file .entry)) a ⌝ }
+{
+    let judged = judge::judge(file);
+    let Judged::Accepted(h) = judged else {
+        return HeaderTold::Refused(judge::of_judged(judged));
+    };
+    let heading = h.heading;
+    let spelling = heading.spelling;
+    let order = h.order;
+    HeaderTold::Header(Header {
+        spelling,
+        version: FileHeader::VERSION_NUMBER,
+        form: FileHeader::FORM_NUMBER,
+        order,
+        script: heading.script,
+        recordings: h.count,
+    })
+}
 
 // How many channels and frames a recording has, and the seconds of a frame: M, F and T.
 pub fn facts(file: &[u8], recording: usize) -> FactsTold

@@ -30,6 +30,7 @@ use rules::Frames;
 use rules::Head;
 use rules::Heading;
 use rules::Recording;
+use rules::Spelling;
 use words::Order;
 
 // The measure of the recording from byte p on, which has these places.
@@ -79,13 +80,25 @@ fn digits(count: u32, d: &mut [u8])
     }
 }
 
+// The format's name, in the spelling that the file has.
+fn name(spelling: Spelling, d: &mut [u8])
+    requires { ⌜ length (now d) ≡ 8 ⌝ }
+    ensures { λ _. ⌜ now (d .exit) ≡ R.spelled spelling ⌝ }
+{
+    match spelling {
+        Spelling::Spg => copy_run(b"JSSR-SPG", d),
+        Spelling::Psg => copy_run(b"JSSR-PSG", d),
+    }
+}
+
 // The file header: K without leading zeros.
 fn header(to: Order, heading: Heading, count: u32, d: &mut [u8])
     requires { ⌜ HeaderFits (now d) heading count ⌝ }
     ensures { λ _. ⌜ now (d .exit) ≡ render to (C.headerEvents (headingOf heading) count) ⌝ }
 {
     let script = heading.script;
-    copy_run(b"JSSR-SPG", &mut d[..FileHeader::VERSION]);
+    let spelling = heading.spelling;
+    name(spelling, &mut d[..FileHeader::VERSION]);
     copy_run(b"000300", &mut d[FileHeader::VERSION..FileHeader::FORM]);
     copy_run(b"00", &mut d[FileHeader::FORM..FileHeader::ORDER]);
     d[FileHeader::ORDER] = letter(to);

@@ -14,10 +14,11 @@ use Rattle.walk.specs.Plays.{Plays, gives, checks, reads}
 use Rattle.walk.specs.Walk.{Event, size, _>>=_, _>>_}
 use Rattle.walk.proofs.Laws.{plays-bind, plays-give, size-append, zeros-length, by-split, by-check, by-read, plays-gave}
 use Rattle.rules.specs.Canonical.{sizeFor, multiplierFor, most, zeroes, recordOf, framesBytes, content, recordingHead, recordingEvents, digits, headerEvents, anew}
-use Rattle.rules.specs.Rules.{between, padding, padded, makerCode, sameBytes, identifier, version, form, allSpaces, decimal, countOf, countFits, countIs, isScript, Heading, FileHeader, fileHeader, span, lengthOf, Recording, Held, contentLimit, Placed, recording, recordings, File, Contents, contents, file, channels}
+use Rattle.rules.specs.Rules.{between, padding, padded, makerCode, sameBytes, version, form, allSpaces, decimal, countOf, countFits, countIs, isScript, spelled, spellingOf, Heading, FileHeader, fileHeader, span, lengthOf, Recording, Held, contentLimit, Placed, recording, recordings, File, Contents, contents, file, channels}
 use Rattle.rules.proofs.Renew.{and-true, and-both, record-size}
 use Rattle.rules.proofs.Renewed.{RecordingOk, recording-ok, Anew, recording-from}
 use Rattle.rules.proofs.Sized.{sized, Sized}
+use Rattle.rules.proofs.Spellings.{spells}
 
 -- A recording
 
@@ -170,17 +171,18 @@ digits-ok k h = go (ltb k 10) refl
           bytes = omega arith;
         })
 
-header-read : (g : Heading) (k n : ℕ) → HeaderOk g k → Digits k (digits k) → 32 ≤ n → Plays (headerEvents g k) (fileHeader n) (record { heading = g; count = countIs (countOf (digits k)) })
-unfolding headerEvents fileHeader identifier version form sameBytes allSpaces _>>=_ _>>_ between padding padded makerCode
+header-read : (g : Heading) (k n : ℕ) → HeaderOk g k → Digits k (digits k) → 32 ≤ n →
+    Plays (headerEvents g k) (fileHeader n) (record { heading = record { spelling = spellingOf (spelled (g .spelling)); script = g .script }; count = countIs (countOf (digits k)) })
+unfolding headerEvents fileHeader version form sameBytes allSpaces _>>=_ _>>_ between padding padded makerCode
 header-read g k n o d l =
     let c : countFits (countOf (digits k)) ≡ true = rw (d .count) (o .count) in
-    let b₁ : Bytes identifier = omega arith in
+    let w = spells (g .spelling) in
     let b₂ : Bytes version = omega arith in
     let b₃ : Bytes form = omega arith in
     let b₄ : Bytes (76 ∷ []) = omega arith in
     let b₅ : Bytes (replicate 10 32) = omega arith in
     let b₆ : Bytes (g .script ∷ []) = (o .byte, tt) in
-    checks (le-leb 32 n l) (reads refl b₁ (checks refl (reads refl b₂ (checks refl (reads refl b₃ (checks refl (reads refl b₄ (checks refl
+    checks (le-leb 32 n l) (reads (w .long) (w .bytes) (checks (w .one) (reads refl b₂ (checks refl (reads refl b₃ (checks refl (reads refl b₄ (checks refl
     (reads refl b₆ (checks (o .letter) (reads (d .long) (d .bytes) (checks c (reads refl b₅ (checks refl gives))))))))))))))
 
 pub header-plays : (g : Heading) (k n : ℕ) → HeaderOk g k → 32 ≤ n → Plays (headerEvents g k) (fileHeader n) (record { heading = g; count = k })
@@ -188,11 +190,11 @@ unfolding between padding padded makerCode
 header-plays g k n o l =
     let d = digits-ok k (leb-true k 64 (and-true (leb 1 k) _ (o .count) .1)) in
     let m : countIs (countOf (digits k)) ≡ k = ap countIs (d .count) in
-    rw m at (header-read g k n o d l)
+    rw (m, spells (g .spelling) .same) at (header-read g k n o d l)
 
 pub header-size : (g : Heading) (k : ℕ) → HeaderOk g k → size (headerEvents g k) ≡ 32
-unfolding headerEvents identifier version form size between padding padded makerCode
-header-size g k o = omega (arith, digits-ok k (leb-true k 64 (and-true (leb 1 k) _ (o .count) .1)) .long)
+unfolding headerEvents version form size between padding padded makerCode
+header-size g k o = omega (arith, spells (g .spelling) .long, digits-ok k (leb-true k 64 (and-true (leb 1 k) _ (o .count) .1)) .long)
 
 -- The file
 

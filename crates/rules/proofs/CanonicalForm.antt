@@ -17,7 +17,7 @@ use Rattle.walk.proofs.Laws.{by-parts, plays-gave, size-cleared}
 use Rattle.rules.specs.Canonical.{sizedHead, blanks, zeroes, numerals, rowOf, plainHead, recordOf, frameWritten, frameSize, frameEvents, framesBytes, framesHead, makerEvents, content, recordingHead, recordingEvents, digits, headerEvents, anew, canonical, rewritten, Canonical}
 use Rattle.rules.specs.CanonicalForm.{most, SizedAs, sizeAt, multiplierAt, lengthAt, signalsAt, makersLength, signalsTotal, recordingTotal, RecordingForm, RecordingsForm, CanonicalForm}
 use Rattle.rules.specs.Reading.{Reading, reading}
-use Rattle.rules.specs.Rules.{identifier, version, form, series, Head, span, lengthOf, Channel, sampleBytes, Frame, frame, Maker, Recording, Held, Placed, recording, recordings, between, Heading, fileHeader, File, Contents, contents, file, orderOf, judge}
+use Rattle.rules.specs.Rules.{spelled, version, form, series, Head, span, lengthOf, Channel, sampleBytes, Frame, frame, Maker, Recording, Held, Placed, recording, recordings, between, Heading, fileHeader, File, Contents, contents, file, orderOf, judge}
 use Rattle.rules.proofs.Asked.{recording-found}
 use Rattle.rules.proofs.Canon.{readings, recordingWritten, PlayedAnew, EachAnew, recordings-ok, file-ok, file-plays, total-low}
 use Rattle.rules.proofs.Chosen.{Opens, frameFilled, frame-chosen, front, shaped, Chosen, recording-chosen, shaped-anew, content-total}
@@ -29,6 +29,7 @@ use Rattle.rules.proofs.Renewed.{RecordingOk, recording-ok}
 use Rattle.rules.proofs.Reserve.{of-recording, reserve-zero}
 use Rattle.rules.proofs.Rewrite.{reading-words, rewrite-canonical, rewrite-bytes, canonical-unique, rewrite-itself, rewrite-same}
 use Rattle.rules.proofs.Sized.{sized, sized-as, sized-unique}
+use Rattle.rules.proofs.Spellings.{spells}
 use Rattle.rules.proofs.Turn.{accepted, is-render, judge-render}
 use Rattle.rules.proofs.Written.{parts, ends, gave-none, plain-is}
 
@@ -209,16 +210,16 @@ here-all s t e = record { behind = []; is = e ∙ sym (append-nil (render (order
 -- the first digit of K, and the first recording
 module _ (s : List ℕ) (g : Heading) (d : List ℕ) (t : List Event) (long : length d ≡ 4) (w : Here (orderOf s) s 0 (headerWith g d ++ t)) where
   digit-at : getD s 18 0 ≡ getD d 0 0
-  unfolding size identifier version form
-  digit-at = first d long (here-then (piece Text identifier ∷ piece Text version ∷ piece Text form ∷ piece Letter (76 ∷ []) ∷ piece Text (g .script ∷ []) ∷ []) _ w refl)
+  unfolding size version form
+  digit-at = first d long (here-then (piece Text (spelled (g .spelling)) ∷ piece Text version ∷ piece Text form ∷ piece Letter (76 ∷ []) ∷ piece Text (g .script ∷ []) ∷ []) _ w (omega (arith, spells (g .spelling) .long)))
     where
       first : (b : List ℕ) → length b ≡ 4 → {u : List Event} → Here (orderOf s) s 18 (piece Text b ∷ u) → getD s 18 0 ≡ getD b 0 0
       first [] h v = absurd (omega arith)
       first (b ∷ bs) h {u} v = here-byte b bs u v
 
   recordings-at : Here (orderOf s) s 32 t
-  unfolding size identifier version form
-  recordings-at = here-then (headerWith g d) t w (omega arith)
+  unfolding size version form
+  recordings-at = here-then (headerWith g d) t w (omega (arith, spells (g .spelling) .long))
 
 -- events that are in canonical form are those of the contents written anew
 file-known : (s : List ℕ) (n : ℕ) {t : List Event} {v : File} → Plays t (file n) v → s ≡ render (orderOf s) t → CanonicalForm s v t → t ≡ anew (contents v)

@@ -7,6 +7,7 @@ pub mod Flip
 pub mod Sized
 pub mod Renew
 pub mod Renewed
+pub mod Spellings
 pub mod Canon
 pub mod Places
 pub mod Asked

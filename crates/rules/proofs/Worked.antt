@@ -3,6 +3,7 @@
 use mathlib.Core.Path.{_≡_, refl}
 use mathlib.Core.Bool.{Bool, true, false}
 use mathlib.Core.List.{List, [], _∷_}
+use mathlib.Core.Option.{Option, none, some}
 use lib.ListN.{length}
 use Rattle.words.specs.Numbers.{other, word, wordIn, ordered, bytesOf, bytesIn}
 use Rattle.words.specs.Values.{signed}
@@ -10,10 +11,12 @@ use lib.IntN.{negsuc}
 use Rattle.words.specs.declared.Order.{Order}
 use Rattle.words.specs.declared.Order.the-variants.{Little, Big}
 use Rattle.walk.specs.Walk.{Row, Outcome, refused, passed, swap, laid, _>>=_, _>>_, logged, run, rows, render}
-use Rattle.rules.specs.Rules.{File, zeros, padding, series, between, sameBytes, identifier, version, form, allSpaces, decimal, countOf, fileHeader, lengthOf, head, admit, padded, fixed, leap, monthDays, daysIn, dated, isMains, basicBody, isType, rateOk, channelBody, channelsBody, channels, keywords, isIn, patientCode, eventCode, item, itemBytes, itemList, itemsBody, items, width, samplesOf, all, sampleBytes, numberList, samples, frameBody, frame, framesBody, frames, makerCode, next, part, delimiter, descriptions, signals, recordingBody, recording, recordings, file, orderOf, whole, judge}
+use Rattle.rules.specs.Rules.{File, zeros, padding, series, between, sameBytes, spelled, isSpelling, spellingOf, version, form, allSpaces, decimal, countOf, fileHeader, lengthOf, head, admit, padded, fixed, leap, monthDays, daysIn, dated, isMains, basicBody, isType, rateOk, channelBody, channelsBody, channels, keywords, isIn, patientCode, eventCode, item, itemBytes, itemList, itemsBody, items, width, samplesOf, all, sampleBytes, numberList, samples, frameBody, frame, framesBody, frames, makerCode, next, part, delimiter, descriptions, signals, recordingBody, recording, recordings, file, orderOf, whole, judge}
+use Rattle.rules.specs.declared.Spelling.{Spelling}
+use Rattle.rules.specs.declared.Spelling.the-variants as Spelling
 use Rattle.rules.specs.Canonical.{multiplierFor, sizeFor}
 use Rattle.rules.specs.Turned.{turned}
-use Rattle.rules.specs.Worked.{WorkedValues, WorkedPeriods, WorkedRefusals, smallestIn, smallest, with, withPeriod, row, listing}
+use Rattle.rules.specs.Worked.{WorkedValues, WorkedPeriods, WorkedRefusals, smallestIn, smallest, with, respelled, withPeriod, row, listing}
 
 -- 24 bits, all set, are -1 in either order
 all-set : (o : Order) → signed 3 (wordIn o (255 ∷ 255 ∷ 255 ∷ [])) ≡ negsuc 0
@@ -51,6 +54,10 @@ abbrev isAccepted : Outcome File → Bool
 isAccepted (refused n p) = false
 isAccepted (passed v r t) = true
 
+abbrev spellingIn : Outcome File → Option Spelling
+spellingIn (refused n p) = none
+spellingIn (passed v r t) = some (v .heading .spelling)
+
 -- the smallest file in an order: its length, and that it is accepted with its rows
 pub record Smallest (o : Order) : Type 0 where
   pub bytes : length (smallestIn o) ≡ 562
@@ -64,17 +71,21 @@ record Files : Type 0 where
   turns : turned smallest ≡ smallestIn Big
   leap : isAccepted (judge (with 80 (208 ∷ 7 ∷ 0 ∷ 0 ∷ 2 ∷ 0 ∷ 0 ∷ 0 ∷ 29 ∷ []))) ≡ true
   period : isAccepted (judge (withPeriod (96 ∷ 174 ∷ 10 ∷ []))) ≡ true
+  spelling : spellingIn (judge smallest) ≡ some Spelling.Spg
+  respelling : spellingIn (judge respelled) ≡ some Spelling.Psg
   refusals : WorkedRefusals judge
 
 files : Files
-unfolding zeros padding series between sameBytes identifier version form allSpaces decimal countOf fileHeader lengthOf head admit padded fixed leap monthDays daysIn dated isMains basicBody isType rateOk channelBody channelsBody channels keywords isIn patientCode eventCode item itemBytes itemList itemsBody items width samplesOf all sampleBytes numberList samples frameBody frame framesBody frames makerCode next part delimiter descriptions signals recordingBody recording recordings file orderOf whole judge swap laid _>>=_ _>>_ logged run rows ordered word bytesOf wordIn bytesIn smallestIn smallest listing row other render turned
+unfolding zeros padding series between sameBytes spelled isSpelling spellingOf version form allSpaces decimal countOf fileHeader lengthOf head admit padded fixed leap monthDays daysIn dated isMains basicBody isType rateOk channelBody channelsBody channels keywords isIn patientCode eventCode item itemBytes itemList itemsBody items width samplesOf all sampleBytes numberList samples frameBody frame framesBody frames makerCode next part delimiter descriptions signals recordingBody recording recordings file orderOf whole judge swap laid _>>=_ _>>_ logged run rows ordered word bytesOf wordIn bytesIn smallestIn smallest listing row other render turned
 files = record {
   little = record { bytes = refl; accepted = refl; listed = refl };
   big = record { bytes = refl; accepted = refl; listed = refl };
   turns = refl;
   leap = refl;
   period = refl;
-  refusals = record { one = refl; two = refl; three = refl; four = refl; five = refl; six = refl; seven = refl; eight = refl; nine = refl; ten = refl; eleven = refl; twelve = refl; thirteen = refl; fourteen = refl; fifteen = refl; sixteen = refl; period = refl; leap = refl };
+  spelling = refl;
+  respelling = refl;
+  refusals = record { one = refl; two = refl; spelling = refl; three = refl; four = refl; five = refl; six = refl; seven = refl; eight = refl; nine = refl; ten = refl; eleven = refl; twelve = refl; thirteen = refl; fourteen = refl; fifteen = refl; sixteen = refl; period = refl; leap = refl };
 }
 
 pub smallest-accepted : (o : Order) → Smallest o
@@ -89,6 +100,10 @@ leap-accepted = files .leap
 
 pub period-accepted : isAccepted (judge (withPeriod (96 ∷ 174 ∷ 10 ∷ []))) ≡ true
 period-accepted = files .period
+
+-- either spelling is accepted, and is kept as what it is
+pub spellings-kept : (spellingIn (judge smallest) ≡ some Spelling.Spg) × (spellingIn (judge respelled) ≡ some Spelling.Psg)
+spellings-kept = (files .spelling, files .respelling)
 
 pub worked-refusals : WorkedRefusals judge
 worked-refusals = files .refusals

@@ -13,6 +13,8 @@ use lib.ListN.{length, getD}
 use Rattle.words.specs.Numbers.{letterOf}
 use Rattle.words.specs.declared.Order.{Order}
 use Rattle.words.specs.declared.Order.the-variants.{Little, Big}
+use Rattle.rules.specs.declared.Spelling.{Spelling}
+use Rattle.rules.specs.declared.Spelling.the-variants as Spelling
 use Rattle.walk.specs.Walk.{pick, Letter, Padding, Walk, give, refuse, check, number, read, list, _>>=_, _>>_, Outcome, refused, passed, run, require, num, text, reserve}
 
 -- one step each
@@ -59,10 +61,18 @@ sameBytes [] (y ∷ ys) = false
 sameBytes (x ∷ xs) [] = false
 sameBytes (x ∷ xs) (y ∷ ys) = eqb x y && sameBytes xs ys
 
--- JSSR-SPG, 000300, 00
-unfoldable pub identifier : List ℕ
-identifier = 74 ∷ 83 ∷ 83 ∷ 82 ∷ 45 ∷ 83 ∷ 80 ∷ 71 ∷ []
+-- the eight bytes of a spelling: JSSR-SPG, JSSR-PSG
+unfoldable pub spelled : Spelling → List ℕ
+spelled Spelling.Spg = 74 ∷ 83 ∷ 83 ∷ 82 ∷ 45 ∷ 83 ∷ 80 ∷ 71 ∷ []
+spelled Spelling.Psg = 74 ∷ 83 ∷ 83 ∷ 82 ∷ 45 ∷ 80 ∷ 83 ∷ 71 ∷ []
 
+unfoldable pub isSpelling : List ℕ → Bool
+isSpelling bs = sameBytes bs (spelled Spelling.Spg) || sameBytes bs (spelled Spelling.Psg)
+
+unfoldable pub spellingOf : List ℕ → Spelling
+spellingOf bs = pick (sameBytes bs (spelled Spelling.Spg)) Spelling.Spg Spelling.Psg
+
+-- 000300, 00
 unfoldable pub version : List ℕ
 version = 48 ∷ 48 ∷ 48 ∷ 51 ∷ 48 ∷ 48 ∷ []
 
@@ -100,6 +110,7 @@ isScript b = eqb b 83 || eqb b 74 || eqb b 69 || eqb b 85
 
 -- what the header says of the whole file, besides the order and K
 pub record Heading : Type 0 where
+  pub spelling : Spelling
   pub script : ℕ
 
 pub record FileHeader : Type 0 where
@@ -110,7 +121,7 @@ unfoldable pub fileHeader : ℕ → Walk FileHeader
 fileHeader size = do
   require (leb 32 size) 1 0
   id ← text 8
-  require (sameBytes id identifier) 2 8
+  require (isSpelling id) 2 8
   v ← text 6
   require (sameBytes v version) 3 6
   f ← text 2
@@ -123,7 +134,7 @@ fileHeader size = do
   require (countFits (countOf digits)) 7 4
   spaces ← text 10
   require (allSpaces spaces) 8 10
-  give (record { heading = record { script = getD script 0 0 }; count = countIs (countOf digits) })
+  give (record { heading = record { spelling = spellingOf id; script = getD script 0 0 }; count = countIs (countOf digits) })
 
 -- A record's first 16 bytes
 

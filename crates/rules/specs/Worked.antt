@@ -10,7 +10,8 @@ use Rattle.words.specs.declared.Order.the-variants.{Little, Big}
 use Rattle.words.specs.Numbers.{letterOf, wordIn, bytesIn}
 use Rattle.words.specs.Values.{signed}
 use Rattle.walk.specs.Walk.{Row, Outcome, refused}
-use Rattle.rules.specs.Rules.{File, lengthOf, samplesOf, identifier, version, form}
+use Rattle.rules.specs.Rules.{File, lengthOf, samplesOf, spelled, version, form}
+use Rattle.rules.specs.declared.Spelling.the-variants as Spelling
 use Rattle.rules.specs.Canonical.{multiplierFor, sizeFor}
 
 -- the twelve that form the proved table, each by its number in document 01
@@ -47,7 +48,7 @@ head o size code serial = bytesIn o 4 size ++ (bytesIn o 4 code ++ (bytesIn o 4 
 
 unfoldable pub smallestIn : Order → List ℕ
 smallestIn o =
-    identifier ++ (version ++ (form ++ (letterOf o ∷ 83 ∷ 49 ∷ 32 ∷ 32 ∷ 32 ∷ replicate 10 32))) ++
+    spelled Spelling.Spg ++ (version ++ (form ++ (letterOf o ∷ 83 ∷ 49 ∷ 32 ∷ 32 ∷ 32 ∷ replicate 10 32))) ++
     (head o 530 10 1 ++
     (head o 128 100 0 ++ (bytesIn o 4 1 ++ (bytesIn o 4 1 ++ (bytesIn o 4 1 ++ zeros 100))) ++
     (head o 288 120 0 ++ (bytesIn o 4 1 ++ (bytesIn o 4 256 ++ zeros 8)) ++
@@ -81,6 +82,10 @@ listing =
 abbrev pub with : ℕ → List ℕ → List ℕ
 with at bs = take at smallest ++ (bs ++ drop (at + length bs) smallest)
 
+-- in the other spelling
+abbrev pub respelled : List ℕ
+respelled = with 5 (80 ∷ 83 ∷ [])
+
 -- its channel has a period, these bytes of microseconds
 abbrev pub withPeriod : List ℕ → List ℕ
 withPeriod period = with 228 ((1 ∷ 0 ∷ 0 ∷ 0 ∷ 4 ∷ 0 ∷ 0 ∷ 0 ∷ 1 ∷ 0 ∷ 0 ∷ 0 ∷ []) ++ period)
@@ -88,6 +93,8 @@ withPeriod period = with 228 ((1 ∷ 0 ∷ 0 ∷ 0 ∷ 4 ∷ 0 ∷ 0 ∷ 0 ∷ 1
 pub record WorkedRefusals (judge : List ℕ → Outcome File) : Type 0 where
   pub one : judge (take 31 smallest) ≡ refused 1 0
   pub two : judge (with 7 (70 ∷ [])) ≡ refused 2 0
+  -- JSSR-SSG: of neither spelling
+  pub spelling : judge (with 6 (83 ∷ [])) ≡ refused 2 0
   pub three : judge (with 13 (49 ∷ [])) ≡ refused 3 8
   pub four : judge (with 15 (49 ∷ [])) ≡ refused 4 14
   pub five : judge (with 16 (77 ∷ [])) ≡ refused 5 16

@@ -4,8 +4,15 @@ use words::Order;
 // A refusal: document 01's number, and the position in the file.
 pub struct Refusal(pub u32, pub usize);
 
+// The spelling of the format's name in the first eight bytes: the standard's, or the society's abbreviation.
+pub enum Spelling {
+    Spg,
+    Psg,
+}
+
 // What the file header says of the whole file, besides the order and K.
 pub struct Heading {
+    pub spelling: Spelling,
     pub script: u32,
 }
 
@@ -32,6 +39,11 @@ impl FileHeader {
     pub const COUNT: usize = 18;
 
     pub const SPACES: usize = 22;
+
+    // The version and the form that are read, as numbers.
+    pub const VERSION_NUMBER: u32 = 300;
+
+    pub const FORM_NUMBER: u32 = 0;
 
     // The letters of the two orders, L and B.
     pub const LITTLE: u32 = 76;

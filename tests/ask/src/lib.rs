@@ -5,7 +5,7 @@ mod lent;
 
 pub use lent::{marked, Answer, Lent};
 
-use psg::{Calibration, Channel, FloatBits, Item, Text};
+use psg::{Calibration, Channel, FloatBits, Heading, Item, Text};
 use second::lines::joined;
 use second::refusal::Refusal;
 
@@ -53,6 +53,7 @@ fn bytes(
 fn question(file: &[u8], op: &str, args: &[u64]) -> Option<Result<String, psg::Refusal>> {
     let args: Vec<usize> = args.iter().map(|&arg| arg as usize).collect();
     Some(match (op, &args[..]) {
+        ("header", &[]) => psg::header(file).map(header),
         ("facts", &[r]) => psg::facts(file, r).map(|f| joined(&[f.channels, f.frames, f.seconds])),
         ("channel", &[r, c]) => psg::channel(file, r, c).map(channel),
         ("patient_item", &[r, i]) => psg::patient_item(file, r, i).map(item),
@@ -63,6 +64,17 @@ fn question(file: &[u8], op: &str, args: &[u64]) -> Option<Result<String, psg::R
         ("sample", &[r, f, c, s]) => psg::sample(file, r, f, c, s).map(sample),
         _ => return None,
     })
+}
+
+fn header(h: Heading) -> String {
+    joined(&[
+        h.spelling.number() as usize,
+        h.version as usize,
+        h.form as usize,
+        h.order.letter().into(),
+        h.script.into(),
+        h.recordings,
+    ])
 }
 
 /// Where the part stands in the file, by its address, and its length.

@@ -1,5 +1,6 @@
 //! Answers to the questions of a corpus, in its form.
 
+use crate::header::{decimal, Header, FORM, VERSION};
 use crate::lines::{answer_line, joined, listed, written, Desk, Question};
 use crate::model::{Calibration, Channel, Item, Sample, Span};
 use crate::questions;
@@ -21,6 +22,7 @@ pub fn answer(file: &[u8], op: &str, args: &[u64]) -> Option<Result<String, Refu
         ("table", &[room]) => {
             table(file, room).map(|rows| listed(rows.len(), rows.iter().flatten()))
         }
+        ("header", &[]) => questions::header(file).map(|header| header_values(&header)),
         ("facts", &[r]) => questions::facts(file, r)
             .map(|facts| joined(&[facts.channels, facts.frames, facts.seconds])),
         ("channel", &[r, c]) => questions::channel(file, r, c).map(|c| channel_values(&c)),
@@ -34,6 +36,17 @@ pub fn answer(file: &[u8], op: &str, args: &[u64]) -> Option<Result<String, Refu
         ("turn", &[room]) => turn(file, room).map(|out| written(&out)),
         _ => return None,
     })
+}
+
+fn header_values(header: &Header) -> String {
+    joined(&[
+        header.spelling.number(),
+        decimal(VERSION),
+        decimal(FORM),
+        usize::from(header.order.letter()),
+        usize::from(header.script),
+        header.recordings,
+    ])
 }
 
 fn span_values(span: Span) -> String {

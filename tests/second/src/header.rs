@@ -5,7 +5,7 @@ use crate::refusal::{self, require, Refusal};
 
 pub const LENGTH: usize = 32;
 pub const IDENTIFIER_AT: usize = 0;
-pub const IDENTIFIER: &[u8; 8] = b"JSSR-SPG";
+pub const IDENTIFIER_LENGTH: usize = 8;
 pub const VERSION_AT: usize = 8;
 pub const VERSION: &[u8; 6] = b"000300";
 pub const FORM_AT: usize = 14;
@@ -18,8 +18,49 @@ pub const RECORDINGS_LENGTH: usize = 4;
 pub const MOST_RECORDINGS: usize = 64;
 pub const SPACES_AT: usize = 22;
 
+/// Which of the two identifiers stands there: as the standard spells it, or by
+/// the society's abbreviation.
+#[derive(Clone, Copy, Debug, PartialEq, Eq)]
+pub enum Spelling {
+    Spg,
+    Psg,
+}
+
+impl Spelling {
+    pub const ALL: [Spelling; 2] = [Spelling::Spg, Spelling::Psg];
+
+    pub fn from_identifier(field: &[u8]) -> Option<Spelling> {
+        let mut all = Spelling::ALL.into_iter();
+        all.find(|spelling| spelling.identifier() == field)
+    }
+
+    pub fn identifier(self) -> &'static [u8; IDENTIFIER_LENGTH] {
+        match self {
+            Spelling::Spg => b"JSSR-SPG",
+            Spelling::Psg => b"JSSR-PSG",
+        }
+    }
+
+    /// How an answer line names it.
+    pub fn number(self) -> usize {
+        match self {
+            Spelling::Spg => 0,
+            Spelling::Psg => 1,
+        }
+    }
+
+    pub fn other(self) -> Spelling {
+        match self {
+            Spelling::Spg => Spelling::Psg,
+            Spelling::Psg => Spelling::Spg,
+        }
+    }
+}
+
+/// What may differ from file to file; version and form are fixed.
 #[derive(Clone, Copy, Debug, PartialEq, Eq)]
 pub struct Header {
+    pub spelling: Spelling,
     pub order: Order,
     pub script: u8,
     pub recordings: usize,
@@ -28,7 +69,9 @@ pub struct Header {
 /// Judges the header; each refusal stands at its field's first byte.
 pub fn judge(file: &[u8]) -> Result<Header, Refusal> {
     require(file.len() >= LENGTH, refusal::FILE_SHORT, 0)?;
-    fixed(file, IDENTIFIER_AT, IDENTIFIER, refusal::IDENTIFIER)?;
+    let identifier = &file[IDENTIFIER_AT..IDENTIFIER_AT + IDENTIFIER_LENGTH];
+    let spelling = Spelling::from_identifier(identifier)
+        .ok_or(Refusal::new(refusal::IDENTIFIER, IDENTIFIER_AT))?;
     fixed(file, VERSION_AT, VERSION, refusal::VERSION)?;
     fixed(file, FORM_AT, FORM, refusal::FORM)?;
     let order = Order::from_letter(file[ORDER_AT]).ok_or(Refusal::new(refusal::ORDER, ORDER_AT))?;
@@ -39,16 +82,17 @@ pub fn judge(file: &[u8]) -> Result<Header, Refusal> {
     let spaces = &file[SPACES_AT..LENGTH];
     require(all_spaces(spaces), refusal::SPACES, SPACES_AT)?;
     Ok(Header {
+        spelling,
         order,
         script,
         recordings,
     })
 }
 
-/// The canonical header: no leading zeros.
+/// The canonical header: the spelling is kept, no leading zeros.
 pub fn canonical(header: &Header) -> [u8; LENGTH] {
     let mut out = [b' '; LENGTH];
-    out[IDENTIFIER_AT..VERSION_AT].copy_from_slice(IDENTIFIER);
+    out[IDENTIFIER_AT..VERSION_AT].copy_from_slice(header.spelling.identifier());
     out[VERSION_AT..FORM_AT].copy_from_slice(VERSION);
     out[FORM_AT..ORDER_AT].copy_from_slice(FORM);
     out[ORDER_AT] = header.order.letter();
@@ -69,11 +113,15 @@ fn all_spaces(bytes: &[u8]) -> bool {
 /// K: one or more digits, then only spaces, with a value from 1 to 64.
 fn recordings(field: &[u8]) -> Option<usize> {
     let digits = field.iter().take_while(|b| b.is_ascii_digit()).count();
-    let value = field[..digits]
-        .iter()
-        .fold(0, |value, digit| 10 * value + usize::from(digit - b'0'));
+    let value = decimal(&field[..digits]);
     let passes = all_spaces(&field[digits..]) && (1..=MOST_RECORDINGS).contains(&value);
     passes.then_some(value)
+}
+
+/// The number that digits write.
+pub fn decimal(digits: &[u8]) -> usize {
+    let join = |value, digit: &u8| 10 * value + usize::from(digit - b'0');
+    digits.iter().fold(0, join)
 }
 
 #[cfg(test)]
@@ -104,13 +152,41 @@ mod tests {
 
     #[test]
     fn a_canonical_header_is_accepted() {
-        let header = Header {
-            order: Order::Big,
-            script: b'U',
-            recordings: 12,
-        };
-        let bytes = canonical(&header);
-        assert_eq!(&bytes, b"JSSR-SPG00030000BU12            ");
-        assert_eq!(judge(&bytes), Ok(header));
+        let written: [(Spelling, &[u8; LENGTH]); 2] = [
+            (Spelling::Spg, b"JSSR-SPG00030000BU12            "),
+            (Spelling::Psg, b"JSSR-PSG00030000BU12            "),
+        ];
+        for (spelling, expected) in written {
+            let header = Header {
+                spelling,
+                order: Order::Big,
+                script: b'U',
+                recordings: 12,
+            };
+            let bytes = canonical(&header);
+            assert_eq!(&bytes, expected);
+            assert_eq!(judge(&bytes), Ok(header));
+        }
+    }
+
+    #[test]
+    fn spellings_have_an_identifier_and_a_number_each() {
+        for spelling in Spelling::ALL {
+            assert_eq!(
+                Spelling::from_identifier(spelling.identifier()),
+                Some(spelling)
+            );
+            assert_eq!(Spelling::ALL[spelling.number()], spelling);
+            assert_eq!(spelling.other().other(), spelling);
+            assert_ne!(spelling.other(), spelling);
+        }
+        for field in [&b"JSSR-SP"[..], b"JSSR-PSG0", b""] {
+            assert_eq!(Spelling::from_identifier(field), None);
+        }
+    }
+
+    #[test]
+    fn version_and_form_as_numbers() {
+        assert_eq!((decimal(VERSION), decimal(FORM)), (300, 0));
     }
 }

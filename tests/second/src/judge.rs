@@ -31,6 +31,7 @@ pub fn judge(file: &[u8]) -> Result<Model, Refusal> {
     }
     require(at == file.len(), refusal::BYTES_AFTER, at)?;
     Ok(Model {
+        spelling: header.spelling,
         order: header.order,
         script: header.script,
         recordings,

@@ -1,6 +1,6 @@
 //! A second, independent reader of the JSSR PSG common format, version 000300
 //! (signal-channel form, frame data, one file), written from document 01 and
-//! request 2 of document 02, and used to test another implementation.
+//! requests 2 and 3 of document 02, and used to test another implementation.
 
 pub mod ask;
 pub mod bytes;

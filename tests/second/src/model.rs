@@ -1,6 +1,7 @@
 //! What an accepted file holds: its reading, with the position of every part.
 
 use crate::bytes::Order;
+use crate::header::{Header, Spelling};
 use crate::record::{frames, Format, Kind, Rate, HEAD};
 use std::rc::Rc;
 
@@ -30,6 +31,7 @@ pub struct Span {
 
 #[derive(Clone, Debug)]
 pub struct Model {
+    pub spelling: Spelling,
     pub order: Order,
     pub script: u8,
     pub recordings: Vec<Recording>,
@@ -38,6 +40,15 @@ pub struct Model {
 }
 
 impl Model {
+    pub fn header(&self) -> Header {
+        Header {
+            spelling: self.spelling,
+            order: self.order,
+            script: self.script,
+            recordings: self.recordings.len(),
+        }
+    }
+
     pub fn first_maker(&self) -> Option<&Record> {
         self.records.iter().find(|r| r.kind == Kind::Maker)
     }

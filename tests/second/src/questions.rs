@@ -1,14 +1,20 @@
-//! Questions about one recording, channel, item, frame or sample. Recordings,
-//! channels, items and frames are asked for from 1, samples from 0; whatever is
-//! outside is refused with 19, after the file's own refusals.
+//! Questions about the header, and about one recording, channel, item, frame or
+//! sample. Recordings, channels, items and frames are asked for from 1, samples
+//! from 0; whatever is outside is refused with 19, after the file's own refusals.
 
 use crate::bytes::Order;
+use crate::header::Header;
 use crate::judge::judge;
 use crate::model::{Channel, Frame, Item, Model, Sample, Slot, Span};
 use crate::record::Format;
 use crate::refusal::{self, Refusal};
 
 const OUTSIDE: Refusal = Refusal::new(refusal::QUESTION, 0);
+
+/// The header's values. Nothing is outside its range.
+pub fn header(file: &[u8]) -> Result<Header, Refusal> {
+    Ok(judge(file)?.header())
+}
 
 /// A recording's M, F and T.
 #[derive(Clone, Copy, Debug, PartialEq, Eq)]

@@ -94,8 +94,7 @@ impl Writer<'_> {
     fn write(&mut self, model: &Model) {
         let header = Header {
             order: self.order,
-            script: model.script,
-            recordings: model.recordings.len(),
+            ..model.header()
         };
         self.out.extend(header::canonical(&header));
         for recording in &model.recordings {

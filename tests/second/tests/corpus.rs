@@ -2,11 +2,11 @@
 
 use second::bytes::Order;
 use second::corpus;
-use second::header::{self, RECORDINGS_AT, SCRIPTS};
+use second::header::{self, Spelling, IDENTIFIER_LENGTH, RECORDINGS_AT, SCRIPTS};
 use second::judge::judge;
 use second::model::{Channel, Model, Recording};
 use second::record::{self, frames, Format, Kind, Rate, HEAD, MICROSECONDS};
-use second::refusal::{Refusal, DISAGREEMENT};
+use second::refusal::{Refusal, DISAGREEMENT, IDENTIFIER};
 use std::collections::BTreeSet;
 use std::fs;
 use std::path::{Path, PathBuf};
@@ -42,6 +42,10 @@ fn files(folder: &Path) -> Vec<Vec<u8>> {
     bins.map(|path| fs::read(path).unwrap()).collect()
 }
 
+fn spelling(file: &[u8]) -> Option<Spelling> {
+    Spelling::from_identifier(file.get(..IDENTIFIER_LENGTH)?)
+}
+
 #[test]
 fn the_archive_is_small_and_answered() {
     assert!(fs::metadata(archive()).unwrap().len() <= MOST_PACKED);
@@ -57,7 +61,8 @@ fn every_question_is_answered_and_refused() {
     let answered = fs::read_to_string(folder.join("questions.ans")).unwrap();
     let mut found = BTreeSet::new();
     for (asked, answered) in asked.lines().zip(answered.lines()) {
-        let op = asked.split(' ').nth(1).unwrap();
+        let mut words = asked.split(' ');
+        let (file, op) = (words.next().unwrap(), words.next().unwrap());
         let mut words = answered.split(' ');
         match (words.next(), words.next()) {
             (Some("refused"), Some(number)) => {
@@ -65,14 +70,18 @@ fn every_question_is_answered_and_refused() {
                 found.insert(format!("refused {number}"));
             }
             _ => {
+                let spelling = spelling(&fs::read(folder.join(file)).unwrap());
                 found.insert(format!("{op} ok"));
+                found.insert(format!("{op} ok {spelling:?}"));
             }
         }
     }
-    let ops = "table facts channel patient_item event_item clock count sample rewrite turn";
+    let ops = "table header facts channel patient_item event_item clock count sample rewrite turn";
     for op in ops.split(' ') {
-        for end in ["ok", "refused"] {
-            assert!(found.contains(&format!("{op} {end}")), "{op} {end}");
+        assert!(found.contains(&format!("{op} refused")), "{op} refused");
+        for spelling in Spelling::ALL.map(Some) {
+            let ok = format!("{op} ok {spelling:?}");
+            assert!(found.contains(&ok), "{ok}");
         }
     }
     assert!(found.contains("view ok") && !found.contains("view refused"));
@@ -89,18 +98,21 @@ fn every_refusal_and_every_form_is_there() {
             Err(refusal) => {
                 shown.insert(format!("refused {}", refusal.number));
                 shown.extend(too_few_seconds(&file, refusal).map(str::to_string));
+                shown.extend(neither_spelling(&file, refusal));
             }
             Ok(model) => shown.extend(forms(&file, &model)),
         }
     }
     let mut wanted: Vec<String> = (1..=16).map(|number| format!("refused {number}")).collect();
     wanted.extend([Order::Little, Order::Big].map(|order| format!("{order:?}")));
+    wanted.extend(Spelling::ALL.map(|spelling| format!("{spelling:?}")));
     wanted.extend(SCRIPTS.map(|script| format!("script {script}")));
     wanted.extend(Format::ALL.map(|format| format!("{format:?}")));
     let named = "one recording, several recordings, zeros before K, inherited 120, inherited 130, a 200, no 200, \
         items, an empty 130, maker before 140, maker behind 140, hertz, a period that divides, \
         a period that does not divide, 256 Hz, no samples, several frames, padding of a frame, padding of a 140, \
-        padding of a recording, no padding, 14 at seconds, 14 at seconds and an inherited 120";
+        padding of a recording, no padding, 14 at seconds, 14 at seconds and an inherited 120, \
+        2 for JSSR-SSG, 2 for JSSR-PPG, 2 for JSSR-SGP, 2 for JSSR-PSP, 2 for jssr-psg";
     wanted.extend(named.split(", ").map(str::to_string));
     for form in wanted {
         assert!(shown.contains(&form), "{form}");
@@ -110,6 +122,7 @@ fn every_refusal_and_every_form_is_there() {
 /// What an accepted file shows.
 fn forms(file: &[u8], model: &Model) -> BTreeSet<String> {
     let mut shown = BTreeSet::from([
+        format!("{:?}", model.spelling),
         format!("{:?}", model.order),
         format!("script {}", model.script),
     ]);
@@ -167,6 +180,12 @@ fn too_few_seconds(file: &[u8], refusal: Refusal) -> Option<&'static str> {
         (true, true) => Some("14 at seconds"),
         (true, false) => Some("14 at seconds and an inherited 120"),
     }
+}
+
+/// What stands where neither spelling does.
+fn neither_spelling(file: &[u8], refusal: Refusal) -> Option<String> {
+    let identifier = String::from_utf8_lossy(file.get(..IDENTIFIER_LENGTH)?);
+    (refusal.number == IDENTIFIER).then(|| format!("2 for {identifier}"))
 }
 
 /// Which records it holds, and where makers' records stand.

@@ -2,15 +2,16 @@
 
 use second::bytes::Order;
 use second::generate::{self, Field, Sheet};
+use second::header::{Header, Spelling, IDENTIFIER_LENGTH};
 use second::judge::judge;
 use second::model::{Calibration, Channel, Item, Model, Recording, Span};
-use second::questions::sample_at;
+use second::questions::{self, sample_at};
 use second::record::{Kind, Rate, MICROSECONDS};
-use second::refusal::Refusal;
+use second::refusal::{Refusal, IDENTIFIER};
 use second::rewrite::rewrite;
 use second::table::table;
 use second::turn::turn;
-use std::collections::BTreeMap;
+use std::collections::{BTreeMap, BTreeSet};
 
 const SEED: u64 = 7;
 const VALID: u64 = 3000;
@@ -128,10 +129,42 @@ fn both_canonical_files_are_each_other_turned() {
     }
 }
 
+/// The same file by the other spelling.
+fn respelt(file: &[u8]) -> Vec<u8> {
+    let spelling = Spelling::from_identifier(&file[..IDENTIFIER_LENGTH]);
+    let other = spelling.expect("a valid file").other();
+    [other.identifier(), &file[IDENTIFIER_LENGTH..]].concat()
+}
+
+#[test]
+fn both_spellings_are_frequent_and_all_else_is_the_same_by_either() {
+    let mut times = [0; 2];
+    for sheet in valid_files() {
+        let file = sheet.bytes;
+        let other = respelt(&file);
+        let header = questions::header(&file).expect("a valid file");
+        times[header.spelling.number()] += 1;
+        let expected = Header {
+            spelling: header.spelling.other(),
+            ..header
+        };
+        assert_eq!(questions::header(&other), Ok(expected));
+        assert_eq!(table(&other, ROOM), table(&file, ROOM));
+        let respell = |out: Result<Vec<u8>, Refusal>| out.map(|out| respelt(&out));
+        assert_eq!(turn(&other, ROOM), respell(turn(&file, ROOM)));
+        for order in [Order::Little, Order::Big] {
+            let rewritten = |file| rewrite(file, letter(order), ROOM);
+            assert_eq!(rewritten(&other), respell(rewritten(&file)));
+        }
+    }
+    assert!(times.iter().all(|times| *times >= VALID / 3), "{times:?}");
+}
+
 /// A file's reading as text: everything but sizes, multipliers, frame length,
 /// reserve, byte order and positions.
 fn reading(file: &[u8], model: &Model) -> String {
-    let mut all = format!("{} {}\n", model.script, model.recordings.len());
+    let mut all = format!("{:?} {}", model.spelling, model.script);
+    all.push_str(&format!(" {}\n", model.recordings.len()));
     for recording in &model.recordings {
         all.push_str(&recording_reading(file, model.order, recording));
     }
@@ -314,16 +347,23 @@ fn named_places() -> Vec<String> {
 fn every_refusal_is_met_at_every_place() {
     let mut places: BTreeMap<String, usize> = BTreeMap::new();
     let mut numbers: BTreeMap<u8, usize> = BTreeMap::new();
+    let mut identifiers: BTreeSet<Vec<u8>> = BTreeSet::new();
     for index in 0..ANY {
         let sheet = generate::file(SEED, index);
         if let Err(refusal) = judge(&sheet.bytes) {
             *numbers.entry(refusal.number).or_default() += 1;
             *places.entry(place_of(&sheet, refusal)).or_default() += 1;
+            if refusal.number == IDENTIFIER {
+                identifiers.insert(sheet.bytes[..IDENTIFIER_LENGTH].to_vec());
+            }
         }
     }
     for number in 1..=16 {
         let times = numbers.get(&number).copied().unwrap_or(0);
         assert!(times >= 100, "{number}: only {times}");
+    }
+    for identifier in generate::NO_IDENTIFIERS {
+        assert!(identifiers.contains(&identifier[..]), "{identifier:?}");
     }
     for place in named_places() {
         let times = places.get(&place).copied().unwrap_or(0);

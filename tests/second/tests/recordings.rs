@@ -2,7 +2,8 @@
 
 mod common;
 
-use common::{Pen, PENS};
+use common::{spelled, Pen, PENS};
+use second::header::Spelling;
 use second::judge::judge;
 use second::model::{Calibration, Sample, Span};
 use second::questions;
@@ -352,6 +353,32 @@ fn rewriting_drops_padding_zeros_of_k_and_reserve() {
         ];
         let plain = pen.file(&[pen.recording(1, 0, &parts)]);
         assert_eq!(rewrite(&file, letter(pen), 562), Ok(plain));
+    }
+}
+
+#[test]
+fn the_spelling_is_kept_beside_makers_padding_and_k() {
+    const PSG: &[u8; 8] = b"JSSR-PSG";
+    for pen in PENS {
+        let other = u64::from(pen.0.other().letter());
+        for file in [two(pen), padded(pen), with_makers(pen)] {
+            let mut spelt = spelled(&file, PSG);
+            let kept = |out: Result<Vec<u8>, Refusal>| out.map(|out| spelled(&out, PSG));
+            assert_eq!(turn(&spelt, u64::MAX), kept(turn(&file, u64::MAX)));
+            for letter in [letter(pen), other] {
+                let expected = kept(rewrite(&file, letter, u64::MAX));
+                assert_eq!(rewrite(&spelt, letter, u64::MAX), expected);
+            }
+            let header = questions::header(&spelt).expect("a valid file");
+            assert_eq!(header.spelling, Spelling::Psg);
+            let count = judge(&file).expect("a valid file").recordings.len();
+            assert_eq!(header.recordings, count);
+            // More zeros before K are dropped, the spelling is not.
+            spelt[18..22].copy_from_slice(format!("{count:04}").as_bytes());
+            assert_eq!(questions::header(&spelt), Ok(header));
+            let expected = kept(rewrite(&file, letter(pen), u64::MAX));
+            assert_eq!(rewrite(&spelt, letter(pen), u64::MAX), expected);
+        }
     }
 }
 

@@ -2,7 +2,8 @@
 
 mod common;
 
-use common::{Pen, PENS};
+use common::{spelled, Pen, PENS};
+use second::ask::answer;
 use second::judge::judge;
 use second::listing::listing;
 use second::model::{Sample, Span};
@@ -130,6 +131,101 @@ fn header_refusals() {
         let mut file = PENS[0].smallest();
         file[at] = byte;
         assert_eq!(judge(&file).err(), refused(number, position));
+    }
+}
+
+const SPELLINGS: [&[u8; 8]; 2] = [b"JSSR-SPG", b"JSSR-PSG"];
+
+#[test]
+fn either_spelling_is_accepted_and_kept() {
+    for pen in PENS {
+        let file = pen.smallest();
+        for identifier in SPELLINGS {
+            let other = spelled(&file, identifier);
+            let kept = |out: Result<Vec<u8>, Refusal>| out.map(|out| spelled(&out, identifier));
+            assert_eq!(listing(&other), LISTING);
+            assert_eq!(turn(&other, 562), kept(turn(&file, 562)));
+            for letter in *b"LB" {
+                let rewritten = |file| rewrite(file, u64::from(letter), 562);
+                assert_eq!(rewritten(&other), kept(rewritten(&file)));
+            }
+        }
+    }
+}
+
+#[test]
+fn the_headers_values() {
+    let header = |file: &[u8]| answer(file, "header", &[]);
+    let values = "0 300 0 76 69 1".to_string();
+    assert_eq!(header(&PENS[0].smallest()), Some(Ok(values)));
+    for pen in PENS {
+        for (spelling, identifier) in SPELLINGS.iter().enumerate() {
+            let mut file = spelled(&pen.smallest(), identifier);
+            for script in *b"SJEU" {
+                file[17] = script;
+                let values = format!("{spelling} 300 0 {} {script} 1", pen.0.letter());
+                assert_eq!(header(&file), Some(Ok(values)));
+            }
+        }
+    }
+}
+
+#[test]
+fn the_headers_question_has_the_files_refusals_alone() {
+    for identifier in SPELLINGS {
+        let mut file = spelled(&PENS[0].smallest(), identifier);
+        assert_eq!(answer(&file, "header", &[1]), None);
+        for (length, number, at) in [(31, 1, 0), (40, 10, 32), (561, 10, 32)] {
+            let cut = &file[..length];
+            assert_eq!(questions::header(cut).err(), refused(number, at));
+        }
+        file.push(0);
+        assert_eq!(questions::header(&file).err(), refused(16, 562));
+    }
+}
+
+#[test]
+fn neither_spelling_is_2() {
+    let near: [&[u8; 8]; 14] = [
+        b"JSSR-SSG",
+        b"JSSR-PPG",
+        b"JSSR-SGP",
+        b"JSSR-PGS",
+        b"JSSR-PSP",
+        b"JSSR-PSS",
+        b"jssr-psg",
+        b"jssr-spg",
+        b"JSSR-psg",
+        b"JSSR PSG",
+        b"JSSRPSG ",
+        b" JSSRSPG",
+        b"SPG-JSSR",
+        b"JSSR-PS\0",
+    ];
+    let mut others: Vec<[u8; 8]> = near.map(|identifier| *identifier).to_vec();
+    for identifier in SPELLINGS {
+        for bit in 0..64 {
+            let mut other = *identifier;
+            other[bit / 8] ^= 1 << (bit % 8);
+            others.push(other);
+        }
+    }
+    for other in others {
+        let mut file = spelled(&PENS[0].smallest(), &other);
+        let expected = refused(2, 0);
+        assert_eq!(judge(&file).err(), expected, "{other:?}");
+        assert_eq!(questions::header(&file).err(), expected);
+        assert_eq!(turn(&file, 0).err(), expected);
+        assert_eq!(rewrite(&file, 0, 0).err(), expected);
+        // Before the version; a file under 32 bytes is refused before that.
+        file[8] = b'X';
+        assert_eq!(judge(&file).err(), expected);
+        assert_eq!(judge(&file[..31]).err(), refused(1, 0));
+    }
+    for identifier in SPELLINGS {
+        let mut file = spelled(&PENS[0].smallest(), identifier);
+        file[8] = b'X';
+        assert_eq!(judge(&file).err(), refused(3, 8));
     }
 }
 

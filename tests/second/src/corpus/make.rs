@@ -3,9 +3,9 @@
 
 use crate::ask::answer;
 use crate::bytes::Order;
-use crate::generate::{self, questions, Question};
+use crate::generate::{self, questions, Question, HEADER};
 use crate::judge::judge;
-use crate::lines::{answer_line, joined};
+use crate::lines::answer_line;
 use crate::listing::{self, listing};
 use crate::random::Random;
 use crate::refusal;
@@ -39,12 +39,17 @@ pub fn make(seed: u64, count: u64, folder: &Path) -> io::Result<()> {
         // Not the sequence that the file itself was drawn from.
         for Question { op, args } in about(&file, &mut Random::new(!seed, index)) {
             let line = answer_line(answer(&file, op, &args).expect("a question that is known"));
-            asked.push_str(&format!("{name} {op} {}\n", joined(&args)));
+            asked.push_str(&question_line(&name, op, &args));
             answered.push_str(&format!("{line}\n"));
         }
     }
     fs::write(folder.join("questions.ask"), asked)?;
     fs::write(folder.join("questions.ans"), answered)
+}
+
+fn question_line(name: &str, op: &str, args: &[u64]) -> String {
+    let args: String = args.iter().map(|arg| format!(" {arg}")).collect();
+    format!("{name} {op}{args}\n")
 }
 
 /// The first files of the seed that are small enough, and of whose verdict there are not too many; each with its index.
@@ -73,12 +78,13 @@ fn chosen(seed: u64, count: u64) -> Vec<(u64, Vec<u8>)> {
     files
 }
 
-/// The calls that write, then some of the questions.
+/// The calls that write, then what is asked of the header and some of the other questions.
 fn about(file: &[u8], random: &mut Random) -> Vec<Question> {
     let percent = judge(file).map_or(100, |_| KEPT_PERCENT);
     let mut all = writing(file);
     let drawn = questions(file, random);
-    all.extend(drawn.into_iter().filter(|_| random.chance(percent)));
+    let kept = |question: &Question| *question == HEADER || random.chance(percent);
+    all.extend(drawn.into_iter().filter(kept));
     all
 }
 

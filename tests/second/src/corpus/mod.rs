@@ -9,8 +9,9 @@ use std::fs;
 use std::io;
 use std::path::{Path, PathBuf};
 
-/// The names of a corpus' question lines; `count` and `view` may stand apart.
-const QUESTIONS: [&str; 2] = ["questions", "questions-old"];
+/// The names of a corpus' question lines; `count` and `view` may stand apart,
+/// and so may those of request 3, `header`.
+const QUESTIONS: [&str; 3] = ["questions", "questions-old", "questions-3"];
 
 #[derive(Clone, Debug, Default, PartialEq, Eq)]
 pub struct Comparison {

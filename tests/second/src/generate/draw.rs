@@ -5,7 +5,7 @@ use super::plan::{
     OverviewPlan, PartPlan, RecordingPlan,
 };
 use crate::bytes::Order;
-use crate::header;
+use crate::header::{self, Spelling};
 use crate::listing;
 use crate::random::Random;
 use crate::record::{self, frames, items};
@@ -166,6 +166,7 @@ fn draw_file(random: &mut Random, shape: &Shape) -> FilePlan {
         holding = Some(now);
     }
     FilePlan {
+        spelling: random.pick(&Spelling::ALL),
         order: random.pick(&[Order::Little, Order::Big]),
         script: random.pick(header::SCRIPTS),
         digits: digits(random, count),

@@ -7,7 +7,8 @@ mod plan;
 mod questions;
 mod sheet;
 
-pub use questions::{questions, Question};
+pub use damage::NO_IDENTIFIERS;
+pub use questions::{questions, Question, HEADER};
 pub use sheet::{Field, Sheet};
 
 use crate::random::Random;

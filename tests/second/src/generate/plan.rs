@@ -2,11 +2,12 @@
 //! (texts, reserve, samples, makers' bodies) is drawn when the plan is written.
 
 use crate::bytes::Order;
-use crate::header;
+use crate::header::{self, Spelling};
 use crate::record::{channel, channels, frame, frames, items, overview};
 use crate::record::{Format, Kind, Rate, HEAD};
 
 pub struct FilePlan {
+    pub spelling: Spelling,
     pub order: Order,
     pub script: u8,
     pub digits: [u8; header::RECORDINGS_LENGTH],

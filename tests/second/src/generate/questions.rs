@@ -4,10 +4,17 @@ use crate::judge::judge;
 use crate::model::Recording;
 use crate::random::Random;
 
+#[derive(Clone, Debug, PartialEq, Eq)]
 pub struct Question {
     pub op: &'static str,
     pub args: Vec<u64>,
 }
+
+/// The one question without an argument.
+pub const HEADER: Question = Question {
+    op: "header",
+    args: Vec::new(),
+};
 
 /// The first number of a range, and how many there are.
 type Range = (u64, u64);
@@ -34,7 +41,7 @@ fn any(random: &mut Random) -> u64 {
 
 /// What is asked about a file. A refused file has one recording with one of each.
 pub fn questions(file: &[u8], random: &mut Random) -> Vec<Question> {
-    let mut drawn = Vec::new();
+    let mut drawn = vec![HEADER];
     match judge(file) {
         Err(_) => {
             for (op, ranges) in ranges(1, None, random) {
@@ -55,7 +62,7 @@ pub fn questions(file: &[u8], random: &mut Random) -> Vec<Question> {
     drawn
 }
 
-/// Each question, with the ranges of its arguments in a recording.
+/// Each other question, with the ranges of its arguments in a recording.
 fn ranges(
     recordings: u64,
     recording: Option<&Recording>,

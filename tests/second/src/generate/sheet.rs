@@ -154,7 +154,7 @@ impl Sheet {
     }
 
     fn header(&mut self, plan: &FilePlan) {
-        self.raw(header::IDENTIFIER);
+        self.raw(plan.spelling.identifier());
         self.raw(header::VERSION);
         self.raw(header::FORM);
         self.raw(&[plan.order.letter(), plan.script]);

@@ -113,4 +113,9 @@ impl Pen {
     }
 }
 
+/// The file with another identifier.
+pub fn spelled(file: &[u8], identifier: &[u8; 8]) -> Vec<u8> {
+    [identifier, &file[8..]].concat()
+}
+
 pub const PENS: [Pen; 2] = [Pen(Order::Little), Pen(Order::Big)];

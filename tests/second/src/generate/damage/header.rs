@@ -6,6 +6,26 @@ use crate::generate::sheet::{write, Sheet};
 use crate::header;
 use crate::random::Random;
 
+/// Nearly one of the two spellings: part of each, other letters, another place.
+pub const NO_IDENTIFIERS: [&[u8; header::IDENTIFIER_LENGTH]; 16] = [
+    b"JSSR-SSG",
+    b"JSSR-PPG",
+    b"JSSR-SGP",
+    b"JSSR-PGS",
+    b"JSSR-GSP",
+    b"JSSR-GPS",
+    b"JSSR-PSP",
+    b"JSSR-SPS",
+    b"jssr-spg",
+    b"jssr-psg",
+    b"JSSR_SPG",
+    b"JSSR PSG",
+    b"JSSRSPG ",
+    b" JSSRPSG",
+    b"JSSR-PS\0",
+    b"PSG-JSSR",
+];
+
 pub fn wrong_header(random: &mut Random) -> Sheet {
     const FIELDS: usize = 7;
     let mut sheet = valid(random);
@@ -16,6 +36,16 @@ pub fn wrong_header(random: &mut Random) -> Sheet {
             spoil_header(random, &mut sheet.bytes, later);
         }
     }
+    sheet
+}
+
+/// Neither spelling, but nearly one.
+pub fn wrong_identifier(random: &mut Random) -> Sheet {
+    let plan = small_plan(random);
+    let mut sheet = write(random, &plan);
+    let other = random.pick(&NO_IDENTIFIERS);
+    let end = header::IDENTIFIER_AT + other.len();
+    sheet.bytes[header::IDENTIFIER_AT..end].copy_from_slice(other);
     sheet
 }
 
@@ -37,9 +67,9 @@ pub fn wrong_recording_count(random: &mut Random) -> Sheet {
 
 fn spoil_header(random: &mut Random, bytes: &mut [u8], field: usize) {
     match field {
-        0 => spoil_text(random, bytes, header::IDENTIFIER_AT, b"JSSR-PSG"),
-        1 => spoil_text(random, bytes, header::VERSION_AT, b"000200"),
-        2 => spoil_text(random, bytes, header::FORM_AT, b"01"),
+        0 => spoil_text(random, bytes, header::IDENTIFIER_AT, &NO_IDENTIFIERS),
+        1 => spoil_text(random, bytes, header::VERSION_AT, &[b"000200"]),
+        2 => spoil_text(random, bytes, header::FORM_AT, &[b"01"]),
         3 => bytes[header::ORDER_AT] = random.pick(b"lbLB X\0M"),
         4 => bytes[header::SCRIPT_AT] = random.pick(b"sjeuSJEU AT\0"),
         5 => spoil_digits(random, bytes),
@@ -50,13 +80,19 @@ fn spoil_header(random: &mut Random, bytes: &mut [u8], field: usize) {
     }
 }
 
-/// Another text, or one byte changed.
-fn spoil_text(random: &mut Random, bytes: &mut [u8], at: usize, other: &[u8]) {
-    let field = &mut bytes[at..at + other.len()];
+/// One of the other texts, or one bit changed.
+fn spoil_text<const N: usize>(
+    random: &mut Random,
+    bytes: &mut [u8],
+    at: usize,
+    others: &[&[u8; N]],
+) {
+    let field = &mut bytes[at..at + N];
     if random.chance(30) {
+        let other = random.pick(others);
         field.copy_from_slice(other);
     } else {
-        field[random.below(other.len())] ^= 1 << random.below(8);
+        field[random.below(N)] ^= 1 << random.below(8);
     }
 }
 

@@ -9,6 +9,8 @@ mod noise;
 mod padding;
 mod parts;
 
+pub use header::NO_IDENTIFIERS;
+
 use super::draw::{self, Shape, SMALL};
 use super::plan::{FilePlan, RecordingPlan};
 use super::sheet::{write, Sheet};
@@ -20,6 +22,7 @@ type Damage = fn(&mut Random) -> Sheet;
 /// Every damage, with its weight.
 const DAMAGES: &[(usize, Damage)] = &[
     (9, header::wrong_header),
+    (4, header::wrong_identifier),
     (2, header::short_file),
     (20, field::wrong_head_field),
     (4, field::wrong_head),
