@@ -358,7 +358,7 @@ entryC a = record { code = a .code; text = textAt (a .text) (a .«text_length»)
 abbrev pub timeC : Clock → Time
 timeC a = record { hour = a .hour; minute = a .minute; second = a .second }
 
--- of a file in this order
+-- what C is answered of the header of a file in this order: the spelling 0 is JSSR-SPG, 1 JSSR-PSG
 pub record HeadingIs (o : Order) (g : Reading) (a : Heading) : Type 0 where
   pub accepted : a .refusal ≡ 0
   pub spg : g .heading .spelling ≡ Spelling.Spg → a .spelling ≡ 0
@@ -456,6 +456,7 @@ pub record SameNumbers (g : Reading) (i k : ℕ) (file r file′ r′ : RefT (Li
 
 -- two headers for C that differ in the order's letter alone
 pub record SameButOrder (o : Order) (a b : Heading) : Type 0 where
+  -- a's is that of o, b's that of the other
   pub first : a .order ≡ letterOf o
   pub second : b .order ≡ letterOf (other o)
   pub refusal : a .refusal ≡ b .refusal
