@@ -1,8 +1,9 @@
 //! Answers to the questions of a corpus, in its form.
 
-use crate::header::{decimal, Header, FORM, VERSION};
+use crate::header::{decimal, Form, VERSION};
+use crate::judge::judge;
 use crate::lines::{answer_line, joined, listed, written, Desk, Question};
-use crate::model::{Calibration, Channel, Item, Sample, Span};
+use crate::model::{Calibration, Item, Model, Sample, Span, Sub};
 use crate::questions;
 use crate::refusal::Refusal;
 use crate::rewrite::rewrite;
@@ -22,10 +23,16 @@ pub fn answer(file: &[u8], op: &str, args: &[u64]) -> Option<Result<String, Refu
         ("table", &[room]) => {
             table(file, room).map(|rows| listed(rows.len(), rows.iter().flatten()))
         }
-        ("header", &[]) => questions::header(file).map(|header| header_values(&header)),
+        ("header", &[]) => judge(file).map(|model| header_values(&model)),
         ("facts", &[r]) => questions::facts(file, r)
             .map(|facts| joined(&[facts.channels, facts.frames, facts.seconds])),
-        ("channel", &[r, c]) => questions::channel(file, r, c).map(|c| channel_values(&c)),
+        ("channel", &[r, c]) => questions::channel(file, r, c).map(|c| sub_values(&c)),
+        ("montage_count", &[r]) if Form::Electrodes.is_read() => {
+            questions::montage_count(file, r).map(|n| n.to_string())
+        }
+        ("montage", &[r, c]) if Form::Electrodes.is_read() => {
+            questions::montage(file, r, c).map(|c| sub_values(&c))
+        }
         ("patient_item", &[r, i]) => questions::patient_item(file, r, i).map(|i| item_values(&i)),
         ("event_item", &[r, i]) => questions::event_item(file, r, i).map(|i| item_values(&i)),
         ("clock", &[r, f]) => questions::clock(file, r, f).map(|clock| joined(&clock)),
@@ -38,14 +45,14 @@ pub fn answer(file: &[u8], op: &str, args: &[u64]) -> Option<Result<String, Refu
     })
 }
 
-fn header_values(header: &Header) -> String {
+fn header_values(model: &Model) -> String {
     joined(&[
-        header.spelling.number(),
+        model.spelling.number(),
         decimal(VERSION),
-        decimal(FORM),
-        usize::from(header.order.letter()),
-        usize::from(header.script),
-        header.recordings,
+        model.form.number(),
+        usize::from(model.order.letter()),
+        usize::from(model.script),
+        model.recordings.len(),
     ])
 }
 
@@ -64,24 +71,28 @@ fn sample_values(sample: Sample) -> String {
     }
 }
 
-fn channel_values(channel: &Channel) -> String {
+/// The values of a channel or an electrode; of a montage channel G1 and G2 too,
+/// before the texts.
+fn sub_values(sub: &Sub) -> String {
     let first = joined(&[
-        channel.number,
-        channel.flags,
-        channel.channel_type,
-        channel.format.number(),
-        channel.rate_field,
+        sub.number,
+        sub.flags,
+        sub.channel_type,
+        sub.format,
+        sub.rate,
     ]);
-    let calibration = match channel.calibration {
+    let calibration = match sub.calibration {
         Calibration::Whole(values) => format!("0 {}", joined(&values)),
         Calibration::Float(bits) => format!("1 {}", joined(&bits)),
     };
-    let last = joined(&[
-        channel.calibration_frequency,
-        channel.filter_low,
-        channel.filter_high,
-        channel.sensitivity,
-    ]);
-    let texts = [channel.label, channel.unit, channel.comment].map(span_values);
-    format!("{first} {calibration} {last} {}", joined(&texts))
+    let others = [
+        sub.calibration_frequency,
+        sub.filter_low,
+        sub.filter_high,
+        sub.sensitivity,
+    ];
+    let leads = sub.leads.iter().flatten().copied();
+    let last: Vec<i32> = others.into_iter().chain(leads).collect();
+    let texts = [sub.label, sub.unit, sub.comment].map(span_values);
+    format!("{first} {calibration} {} {}", joined(&last), joined(&texts))
 }

@@ -1,6 +1,7 @@
 //! The file header: 32 bytes of ASCII.
 
 use crate::bytes::Order;
+use crate::record::Kind;
 use crate::refusal::{self, require, Refusal};
 
 pub const LENGTH: usize = 32;
@@ -9,7 +10,7 @@ pub const IDENTIFIER_LENGTH: usize = 8;
 pub const VERSION_AT: usize = 8;
 pub const VERSION: &[u8; 6] = b"000300";
 pub const FORM_AT: usize = 14;
-pub const FORM: &[u8; 2] = b"00";
+pub const FORM_LENGTH: usize = 2;
 pub const ORDER_AT: usize = 16;
 pub const SCRIPT_AT: usize = 17;
 pub const SCRIPTS: &[u8; 4] = b"SJEU";
@@ -57,7 +58,82 @@ impl Spelling {
     }
 }
 
-/// What may differ from file to file; version and form are fixed.
+/// How the signals are recorded: by channels, or by single electrodes against a
+/// common point.
+#[derive(Clone, Copy, Debug, PartialEq, Eq)]
+pub enum Form {
+    Channels,
+    Electrodes,
+}
+
+impl Form {
+    /// The forms that are read. All that depends on the feature asks here.
+    pub const READ: &'static [Form] = if cfg!(feature = "electrodes") {
+        &[Form::Channels, Form::Electrodes]
+    } else {
+        &[Form::Channels]
+    };
+
+    pub fn is_read(self) -> bool {
+        Form::READ.contains(&self)
+    }
+
+    pub fn from_field(field: &[u8]) -> Option<Form> {
+        let mut read = Form::READ.iter().copied();
+        read.find(|form| form.field() == field)
+    }
+
+    pub fn field(self) -> &'static [u8; FORM_LENGTH] {
+        match self {
+            Form::Channels => b"00",
+            Form::Electrodes => b"01",
+        }
+    }
+
+    pub fn number(self) -> usize {
+        decimal(self.field())
+    }
+
+    pub fn other(self) -> Form {
+        match self {
+            Form::Channels => Form::Electrodes,
+            Form::Electrodes => Form::Channels,
+        }
+    }
+
+    /// The record that lists its channels or electrodes.
+    pub fn list(self) -> Kind {
+        match self {
+            Form::Channels => Kind::Channels,
+            Form::Electrodes => Kind::Electrodes,
+        }
+    }
+
+    /// The records of a recording, in their order; makers' records stand between.
+    pub fn parts(self) -> &'static [Kind] {
+        match self {
+            Form::Channels => &[
+                Kind::Overview,
+                Kind::Channels,
+                Kind::Patient,
+                Kind::Events,
+                Kind::Frames,
+                Kind::Delimiter,
+            ],
+            Form::Electrodes => &[
+                Kind::Overview,
+                Kind::Electrodes,
+                Kind::Patient,
+                Kind::Events,
+                Kind::Montage,
+                Kind::Frames,
+                Kind::Delimiter,
+            ],
+        }
+    }
+}
+
+/// What may differ from file to file, beside the form; the version is fixed.
 #[derive(Clone, Copy, Debug, PartialEq, Eq)]
 pub struct Header {
     pub spelling: Spelling,
@@ -67,13 +143,15 @@ pub struct Header {
 }
 
 /// Judges the header; each refusal stands at its field's first byte.
-pub fn judge(file: &[u8]) -> Result<Header, Refusal> {
+pub fn judge(file: &[u8]) -> Result<(Form, Header), Refusal> {
     require(file.len() >= LENGTH, refusal::FILE_SHORT, 0)?;
     let identifier = &file[IDENTIFIER_AT..IDENTIFIER_AT + IDENTIFIER_LENGTH];
     let spelling = Spelling::from_identifier(identifier)
         .ok_or(Refusal::new(refusal::IDENTIFIER, IDENTIFIER_AT))?;
-    fixed(file, VERSION_AT, VERSION, refusal::VERSION)?;
-    fixed(file, FORM_AT, FORM, refusal::FORM)?;
+    let version = &file[VERSION_AT..VERSION_AT + VERSION.len()];
+    require(version == VERSION, refusal::VERSION, VERSION_AT)?;
+    let form = Form::from_field(&file[FORM_AT..FORM_AT + FORM_LENGTH])
+        .ok_or(Refusal::new(refusal::FORM, FORM_AT))?;
     let order = Order::from_letter(file[ORDER_AT]).ok_or(Refusal::new(refusal::ORDER, ORDER_AT))?;
     let script = file[SCRIPT_AT];
     require(SCRIPTS.contains(&script), refusal::SCRIPT, SCRIPT_AT)?;
@@ -81,29 +159,31 @@ pub fn judge(file: &[u8]) -> Result<Header, Refusal> {
     let recordings = recordings(digits).ok_or(Refusal::new(refusal::RECORDINGS, RECORDINGS_AT))?;
     let spaces = &file[SPACES_AT..LENGTH];
     require(all_spaces(spaces), refusal::SPACES, SPACES_AT)?;
-    Ok(Header {
+    let header = Header {
         spelling,
         order,
         script,
         recordings,
-    })
+    };
+    Ok((form, header))
 }
 
-/// The canonical header: the spelling is kept, no leading zeros.
+/// The canonical header of the channel form.
 pub fn canonical(header: &Header) -> [u8; LENGTH] {
+    canonical_in(Form::Channels, header)
+}
+
+/// The canonical header: spelling and form are kept, no leading zeros.
+pub fn canonical_in(form: Form, header: &Header) -> [u8; LENGTH] {
     let mut out = [b' '; LENGTH];
     out[IDENTIFIER_AT..VERSION_AT].copy_from_slice(header.spelling.identifier());
     out[VERSION_AT..FORM_AT].copy_from_slice(VERSION);
-    out[FORM_AT..ORDER_AT].copy_from_slice(FORM);
+    out[FORM_AT..ORDER_AT].copy_from_slice(form.field());
     out[ORDER_AT] = header.order.letter();
     out[SCRIPT_AT] = header.script;
     let digits = header.recordings.to_string();
     out[RECORDINGS_AT..RECORDINGS_AT + digits.len()].copy_from_slice(digits.as_bytes());
     out
-}
-
-fn fixed(file: &[u8], at: usize, content: &[u8], number: u8) -> Result<(), Refusal> {
-    require(&file[at..at + content.len()] == content, number, at)
 }
 
 fn all_spaces(bytes: &[u8]) -> bool {
@@ -163,9 +243,11 @@ mod tests {
                 script: b'U',
                 recordings: 12,
             };
-            let bytes = canonical(&header);
-            assert_eq!(&bytes, expected);
-            assert_eq!(judge(&bytes), Ok(header));
+            assert_eq!(&canonical(&header), expected);
+            for form in Form::READ {
+                let bytes = canonical_in(*form, &header);
+                assert_eq!(judge(&bytes), Ok((*form, header)));
+            }
         }
     }
 
@@ -187,6 +269,27 @@ mod tests {
 
     #[test]
     fn version_and_form_as_numbers() {
-        assert_eq!((decimal(VERSION), decimal(FORM)), (300, 0));
+        assert_eq!(decimal(VERSION), 300);
+        assert_eq!((Form::Channels.number(), Form::Electrodes.number()), (0, 1));
+    }
+
+    #[test]
+    fn any_other_form_is_4() {
+        let header = Header {
+            spelling: Spelling::Spg,
+            order: Order::Little,
+            script: b'E',
+            recordings: 1,
+        };
+        for field in [
+            b"02", b"10", b"11", b"99", b" 0", b" 1", b"0 ", b"1 ", b"0\0",
+        ] {
+            let mut bytes = canonical(&header);
+            bytes[FORM_AT..ORDER_AT].copy_from_slice(field);
+            let refused = Err(Refusal::new(refusal::FORM, FORM_AT));
+            assert_eq!(judge(&bytes), refused, "{field:?}");
+        }
+        let electrodes = canonical_in(Form::Electrodes, &header);
+        assert_eq!(judge(&electrodes).is_ok(), Form::Electrodes.is_read());
     }
 }

@@ -4,21 +4,23 @@
 //! before 14), children, padding. Samples are stepped over.
 
 use crate::bytes::Order;
-use crate::header;
+use crate::header::{self, Form};
 use crate::model::{
     Calibration, Channel, Frame, FrameBlock, Item, Model, Overview, Record, Recording, Slot, Span,
+    Sub,
 };
 use crate::record::{self, channel, channels, frame, frames, items, overview};
-use crate::record::{Area, Extent, Format, Kind, Rate, HEAD};
+use crate::record::{Area, Extent, Format, Kind, Subs, HEAD};
 use crate::refusal::{self, require, Refusal};
 use std::ops::RangeInclusive;
 use std::rc::Rc;
 
 /// Judges the file: its whole reading, or the first refusal.
 pub fn judge(file: &[u8]) -> Result<Model, Refusal> {
-    let header = header::judge(file)?;
+    let (form, header) = header::judge(file)?;
     let mut walk = Walk {
         file,
+        form,
         order: header.order,
         records: Vec::new(),
     };
@@ -32,6 +34,7 @@ pub fn judge(file: &[u8]) -> Result<Model, Refusal> {
     require(at == file.len(), refusal::BYTES_AFTER, at)?;
     Ok(Model {
         spelling: header.spelling,
+        form,
         order: header.order,
         script: header.script,
         recordings,
@@ -39,23 +42,37 @@ pub fn judge(file: &[u8]) -> Result<Model, Refusal> {
     })
 }
 
-// What may follow in the first recording, which holds its own 120 and 130, and
-// in a later one. 200 may be absent in each.
-const FIRST_AFTER_OVERVIEW: &[Kind] = &[Kind::Channels];
-const FIRST_AFTER_CHANNELS: &[Kind] = &[Kind::Patient];
-const LATER_AFTER_OVERVIEW: &[Kind] = &[Kind::Channels, Kind::Patient, Kind::Events, Kind::Frames];
-const LATER_AFTER_CHANNELS: &[Kind] = &[Kind::Patient, Kind::Events, Kind::Frames];
-const AFTER_PATIENT: &[Kind] = &[Kind::Events, Kind::Frames];
+/// Whether a recording may lack such a record. 120, 320 and 130 are inherited then,
+/// so the first recording holds its own; 200 and 350 are not.
+fn may_be_absent(kind: Kind, first: bool) -> bool {
+    match kind {
+        Kind::Events | Kind::Montage => true,
+        Kind::Channels | Kind::Electrodes | Kind::Patient => !first,
+        _ => false,
+    }
+}
+
+/// What may follow a record of this kind: the kinds behind it, up to the first that
+/// may not be absent.
+fn following(form: Form, kind: Kind, first: bool) -> &'static [Kind] {
+    let parts = form.parts();
+    let at = parts.iter().position(|part| *part == kind);
+    let rest = &parts[at.expect("a kind of the form") + 1..];
+    let absent = rest.iter().take_while(|kind| may_be_absent(**kind, first));
+    &rest[..=absent.count()]
+}
 
 /// The walk over the file, with every record met so far.
 struct Walk<'a> {
     file: &'a [u8],
+    form: Form,
     order: Order,
     records: Vec<Record>,
 }
 
 /// The way through the records that one recording holds.
 struct Inside {
+    first: bool,
     at: usize,
     end: usize,
     parts: Vec<Record>,
@@ -137,6 +154,7 @@ impl Walk<'_> {
         let record = self.head(at, self.file.len(), &[Kind::Recording])?;
         self.enter(&record, serial)?;
         let mut inside = Inside {
+            first: earlier.is_none(),
             at: at + HEAD,
             end: record.end(),
             parts: Vec::new(),
@@ -154,7 +172,8 @@ impl Walk<'_> {
         Ok(recording)
     }
 
-    /// 100, 120, 130, 200, 140 and the delimiter, with makers' records between.
+    /// 100, 120 or 320, 130, 200, 350, 140 and the delimiter, with makers' records
+    /// between.
     fn parts(
         &mut self,
         record: Record,
@@ -164,22 +183,18 @@ impl Walk<'_> {
         let part = self.part(inside, &[Kind::Overview])?;
         let overview = self.overview(&part)?;
 
-        let (after_overview, after_channels) = match earlier {
-            None => (FIRST_AFTER_OVERVIEW, FIRST_AFTER_CHANNELS),
-            Some(_) => (LATER_AFTER_OVERVIEW, LATER_AFTER_CHANNELS),
-        };
-        let mut part = self.part_or_makers(inside, after_overview)?;
-        let own_channels = part.kind == Kind::Channels;
+        let mut part = self.part_behind(inside, Kind::Overview)?;
+        let own_channels = part.kind == self.form.list();
         let channels = if own_channels {
             let own = self.channels(&part, &overview)?;
-            part = self.part_or_makers(inside, after_channels)?;
+            part = self.part_behind(inside, part.kind)?;
             Rc::new(own)
         } else {
             Rc::clone(&nearest(earlier).channels)
         };
         let patient = if part.kind == Kind::Patient {
             let own = self.items(&part, record::is_patient_code)?;
-            part = self.part_or_makers(inside, AFTER_PATIENT)?;
+            part = self.part_behind(inside, part.kind)?;
             Rc::new(own)
         } else {
             Rc::clone(&nearest(earlier).patient)
@@ -187,22 +202,28 @@ impl Walk<'_> {
         let mut events = Vec::new();
         if part.kind == Kind::Events {
             events = self.items(&part, record::is_event_code)?;
-            part = self.part_or_makers(inside, &[Kind::Frames])?;
+            part = self.part_behind(inside, part.kind)?;
+        }
+        let mut montage = Vec::new();
+        if part.kind == Kind::Montage {
+            montage = self.subs(&part, None, channels.len())?;
+            part = self.part_behind(inside, part.kind)?;
         }
         if !own_channels {
-            // An inherited 120 can be held against 100 only now.
+            // An inherited list can be held against 100 only now.
             let agrees = overview.channels as usize == channels.len();
             let field = overview.at + overview::CHANNELS;
             require(agrees, refusal::DISAGREEMENT, field)?;
         }
         let block = self.frame_block(&part, &overview, &channels)?;
-        self.part_or_makers(inside, &[Kind::Delimiter])?;
+        self.part_behind(inside, part.kind)?;
         Ok(Recording {
             record,
             overview,
             channels,
             patient,
             events,
+            montage,
             block,
             parts: std::mem::take(&mut inside.parts),
         })
@@ -217,8 +238,10 @@ impl Walk<'_> {
         Ok(part)
     }
 
-    /// The same, past the makers' records that may stand before it.
-    fn part_or_makers(&mut self, inside: &mut Inside, allowed: &[Kind]) -> Result<Record, Refusal> {
+    /// The next record that may follow one of this kind, past the makers' records
+    /// that may stand before it.
+    fn part_behind(&mut self, inside: &mut Inside, kind: Kind) -> Result<Record, Refusal> {
+        let allowed = following(self.form, kind, inside.first);
         let with_makers = [allowed, &[Kind::Maker]].concat();
         loop {
             let part = self.part(inside, &with_makers)?;
@@ -266,57 +289,92 @@ impl Walk<'_> {
         Ok([year, month, day])
     }
 
+    /// The channels of a 120, or the electrodes of a 320.
     fn channels(&mut self, part: &Record, overview: &Overview) -> Result<Vec<Channel>, Refusal> {
+        // No lead stands in these, so that no electrode is asked for.
+        let subs = self.subs(part, Some(overview.channels), 0)?;
+        let channels = subs.into_iter().map(Channel::new);
+        let judged = "its format and rate were judged";
+        Ok(channels.map(|channel| channel.expect(judged)).collect())
+    }
+
+    /// The subs of a 120, a 320 or a 350: `counted` is what their count has to agree
+    /// with, `electrodes` how many of them a lead may name.
+    fn subs(
+        &mut self,
+        part: &Record,
+        counted: Option<i32>,
+        electrodes: usize,
+    ) -> Result<Vec<Sub>, Refusal> {
         let count_at = part.at + channels::COUNT;
         let count = self.within(count_at, 1..=record::MOST_CHANNELS)?;
-        let agrees = count == overview.channels;
+        let agrees = counted.is_none_or(|counted| count == counted);
         require(agrees, refusal::DISAGREEMENT, count_at)?;
         let fits = part.length == channels::FIRST + channel::LENGTH * count as usize;
         require(fits, refusal::DISAGREEMENT, count_at)?;
         let sub_size = channel::LENGTH as i32;
         self.within(part.at + channels::SUB_SIZE, sub_size..=sub_size)?;
 
+        let subs = part.kind.subs().expect("a list of subs");
         let mut list = Vec::new();
         let mut at = part.at + channels::FIRST;
         for serial in 1..=count {
-            let sub = self.head(at, part.end(), &[Kind::Channel])?;
+            let sub = self.head(at, part.end(), &[subs.kind])?;
             self.enter(&sub, serial)?;
-            list.push(self.channel(at)?);
+            list.push(self.sub(at, subs, electrodes)?);
             at = sub.end();
         }
         Ok(list)
     }
 
-    fn channel(&self, at: usize) -> Result<Channel, Refusal> {
+    fn sub(&self, at: usize, subs: &Subs, electrodes: usize) -> Result<Sub, Refusal> {
+        let number = self.field(at + channel::NUMBER, subs.is_number)?;
         let flags = self.number(at + channel::FLAGS);
-        let channel_type = self.field(at + channel::TYPE, record::is_type)?;
-        let format_at = at + channel::FORMAT;
-        let format = Format::from_number(self.number(format_at))
-            .ok_or(Refusal::new(refusal::VALUE, format_at))?;
-        let rate_field = self.number(at + channel::RATE);
-        let rate = Rate::from_fields(flags, channel_type, rate_field)
-            .ok_or(Refusal::new(refusal::VALUE, at + channel::RATE))?;
+        let channel_type = self.field(at + channel::TYPE, subs.is_type)?;
+        let format = self.field(at + channel::FORMAT, subs.is_format)?;
+        let is_rate = |rate| (subs.is_rate)(flags, channel_type, rate);
+        let rate = self.field(at + channel::RATE, is_rate)?;
         let calibration = channel::CALIBRATION.map(|offset| self.number(at + offset));
-        Ok(Channel {
+        // 0 where the kind has a reserve area in its place.
+        let number_or_zero = |offset| {
+            if subs.kind.has_number(offset) {
+                self.number(at + offset)
+            } else {
+                0
+            }
+        };
+        Ok(Sub {
             at,
-            number: self.number(at + channel::NUMBER),
+            number,
             flags,
             channel_type,
             format,
-            rate_field,
             rate,
-            calibration: match format {
-                Format::Float32 => Calibration::Float(calibration.map(|bits| bits as u32)),
+            calibration: match Format::from_number(format) {
+                Some(Format::Float32) => Calibration::Float(calibration.map(|bits| bits as u32)),
                 _ => Calibration::Whole(calibration),
             },
-            calibration_frequency: self.number(at + channel::CALIBRATION_FREQUENCY),
+            calibration_frequency: number_or_zero(channel::CALIBRATION_FREQUENCY),
             filter_low: self.number(at + channel::FILTER_LOW),
             filter_high: self.number(at + channel::FILTER_HIGH),
-            sensitivity: self.number(at + channel::SENSITIVITY),
+            sensitivity: number_or_zero(channel::SENSITIVITY),
+            leads: self.leads(at, subs.kind, electrodes)?,
             label: span(at, channel::LABEL),
             unit: span(at, channel::UNIT),
             comment: span(at, channel::COMMENT),
         })
+    }
+
+    /// G1 and G2, where the kind has them.
+    fn leads(&self, at: usize, kind: Kind, electrodes: usize) -> Result<Option<[i32; 2]>, Refusal> {
+        let [first, second] = channel::LEADS;
+        if !kind.has_number(first) {
+            return Ok(None);
+        }
+        let is_lead = |value| record::is_lead(value, electrodes);
+        let first = self.field(at + first, is_lead)?;
+        let second = self.field(at + second, is_lead)?;
+        Ok(Some([first, second]))
     }
 
     fn items(&self, part: &Record, is_code: fn(i32) -> bool) -> Result<Vec<Item>, Refusal> {

@@ -1,6 +1,7 @@
 //! A second, independent reader of the JSSR PSG common format, version 000300
 //! (signal-channel form, frame data, one file), written from document 01 and
-//! requests 2 and 3 of document 02, and used to test another implementation.
+//! requests 2 and 3 of document 02, and used to test another implementation. With
+//! the feature `electrodes` it reads the electrode form of request 1 too.
 
 pub mod ask;
 pub mod bytes;

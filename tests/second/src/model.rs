@@ -1,7 +1,7 @@
 //! What an accepted file holds: its reading, with the position of every part.
 
 use crate::bytes::Order;
-use crate::header::{Header, Spelling};
+use crate::header::{Form, Header, Spelling};
 use crate::record::{frames, Format, Kind, Rate, HEAD};
 use std::rc::Rc;
 
@@ -32,6 +32,7 @@ pub struct Span {
 #[derive(Clone, Debug)]
 pub struct Model {
     pub spelling: Spelling,
+    pub form: Form,
     pub order: Order,
     pub script: u8,
     pub recordings: Vec<Recording>,
@@ -58,12 +59,14 @@ impl Model {
 pub struct Recording {
     pub record: Record,
     pub overview: Overview,
-    /// The 120 that holds here: its own, or the nearest earlier one.
+    /// The 120 or 320 that holds here: its own, or the nearest earlier one.
     pub channels: Rc<Vec<Channel>>,
     /// The 130 that holds here.
     pub patient: Rc<Vec<Item>>,
     /// Empty too when the recording has no 200: that one is not inherited.
     pub events: Vec<Item>,
+    /// Empty when the recording has no 350: that one is not inherited either.
+    pub montage: Vec<Sub>,
     pub block: FrameBlock,
     /// The records it holds, makers' records and the delimiter included.
     pub parts: Vec<Record>,
@@ -95,25 +98,46 @@ pub struct Overview {
     pub comment: Span,
 }
 
-/// 125.
+/// 125, 325 or 355: the fields as they stand.
 #[derive(Clone, Copy, Debug, PartialEq, Eq)]
-pub struct Channel {
+pub struct Sub {
     pub at: usize,
     pub number: i32,
     pub flags: i32,
     pub channel_type: i32,
-    pub format: Format,
-    /// The rate field as it stands, and what it means.
-    pub rate_field: i32,
-    pub rate: Rate,
+    pub format: i32,
+    pub rate: i32,
     pub calibration: Calibration,
+    /// 0 for an electrode, which has none.
     pub calibration_frequency: i32,
     pub filter_low: i32,
     pub filter_high: i32,
+    /// 0 for an electrode, which has none.
     pub sensitivity: i32,
+    /// G1 and G2, of a montage channel alone.
+    pub leads: Option<[i32; 2]>,
     pub label: Span,
     pub unit: Span,
     pub comment: Span,
+}
+
+/// 125 or 325, with what its format and rate mean.
+#[derive(Clone, Copy, Debug, PartialEq, Eq)]
+pub struct Channel {
+    pub sub: Sub,
+    pub format: Format,
+    pub rate: Rate,
+}
+
+impl Channel {
+    /// The channel of a sub, if its fields pass.
+    pub fn new(sub: Sub) -> Option<Channel> {
+        Some(Channel {
+            sub,
+            format: Format::from_number(sub.format)?,
+            rate: Rate::from_fields(sub.flags, sub.channel_type, sub.rate)?,
+        })
+    }
 }
 
 /// CAL, CAL AD, Offset AD and Offset CAL; floats as their bits.

@@ -5,13 +5,13 @@
 use crate::bytes::Order;
 use crate::header::Header;
 use crate::judge::judge;
-use crate::model::{Channel, Frame, Item, Model, Sample, Slot, Span};
+use crate::model::{Frame, Item, Model, Sample, Slot, Span, Sub};
 use crate::record::Format;
 use crate::refusal::{self, Refusal};
 
 const OUTSIDE: Refusal = Refusal::new(refusal::QUESTION, 0);
 
-/// The header's values. Nothing is outside its range.
+/// The header's values, beside the form. Nothing is outside its range.
 pub fn header(file: &[u8]) -> Result<Header, Refusal> {
     Ok(judge(file)?.header())
 }
@@ -34,10 +34,23 @@ pub fn facts(file: &[u8], recording: u64) -> Result<Facts, Refusal> {
     })
 }
 
-pub fn channel(file: &[u8], recording: u64, channel: u64) -> Result<Channel, Refusal> {
+/// A channel, or an electrode, of the list that holds for the recording.
+pub fn channel(file: &[u8], recording: u64, channel: u64) -> Result<Sub, Refusal> {
     let model = judge(file)?;
     let recording = nth(&model.recordings, recording)?;
-    nth(&recording.channels, channel).copied()
+    Ok(nth(&recording.channels, channel)?.sub)
+}
+
+/// How many montage channels the recording has: none without a 350.
+pub fn montage_count(file: &[u8], recording: u64) -> Result<usize, Refusal> {
+    let model = judge(file)?;
+    Ok(nth(&model.recordings, recording)?.montage.len())
+}
+
+pub fn montage(file: &[u8], recording: u64, channel: u64) -> Result<Sub, Refusal> {
+    let model = judge(file)?;
+    let recording = nth(&model.recordings, recording)?;
+    nth(&recording.montage, channel).copied()
 }
 
 /// An item of the 130 that holds for the recording.

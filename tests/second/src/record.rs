@@ -26,8 +26,12 @@ pub enum Kind {
     Overview,
     Channels,
     Channel,
+    Electrodes,
+    Electrode,
     Patient,
     Events,
+    Montage,
+    MontageChannel,
     Frames,
     Frame,
     Maker,
@@ -91,24 +95,43 @@ pub mod overview {
     };
 }
 
-/// 120: the list of channels.
+/// 120, 320 and 350: the lists of channels, electrodes and montage channels have
+/// one form.
 pub mod channels {
     use super::*;
     pub const COUNT: usize = 16;
     pub const SUB_SIZE: usize = 20;
     pub const FIRST: usize = 32;
-    pub const RULES: Rules = Rules {
-        code: 120,
-        extent: Extent::AtLeast(FIRST as i64),
-        multiplied: false,
-        numbers: &[COUNT, SUB_SIZE],
-        reserve: &[(24, 8)],
-    };
+    pub const RULES: Rules = rules(120);
+    pub const ELECTRODES_RULES: Rules = rules(320);
+    pub const MONTAGE_RULES: Rules = rules(350);
+
+    const fn rules(code: i32) -> Rules {
+        Rules {
+            code,
+            extent: Extent::AtLeast(FIRST as i64),
+            multiplied: false,
+            numbers: &[COUNT, SUB_SIZE],
+            reserve: &[(24, 8)],
+        }
+    }
 }
 
-/// 125: one channel's descriptor.
+/// What a list of subs holds, and the tests on a sub's fields.
+pub struct Subs {
+    pub kind: Kind,
+    pub is_number: fn(i32) -> bool,
+    pub is_type: fn(i32) -> bool,
+    pub is_format: fn(i32) -> bool,
+    /// Of flags, type and rate.
+    pub is_rate: fn(i32, i32, i32) -> bool,
+}
+
+/// 125, 325 and 355: the descriptors of a channel, an electrode and a montage
+/// channel have one form, but for which fields there are and how they are tested.
 pub mod channel {
     use super::*;
+    /// Of an electrode, its code.
     pub const NUMBER: usize = 16;
     pub const FLAGS: usize = 20;
     pub const TYPE: usize = 24;
@@ -123,28 +146,65 @@ pub mod channel {
     pub const NUMBERS_END: usize = 68;
     pub const LABEL: Area = (72, 16);
     pub const UNIT: Area = (88, 16);
+    /// G1 and G2.
+    pub const LEADS: [usize; 2] = [104, 108];
     pub const COMMENT: Area = (196, 60);
     pub const LENGTH: usize = 256;
-    pub const RULES: Rules = Rules {
-        code: 125,
-        extent: Extent::Fixed(LENGTH as i32),
-        multiplied: false,
-        numbers: &[
-            NUMBER,
-            FLAGS,
-            TYPE,
-            FORMAT,
-            RATE,
-            CALIBRATION[0],
-            CALIBRATION[1],
-            CALIBRATION[2],
-            CALIBRATION[3],
-            CALIBRATION_FREQUENCY,
-            FILTER_LOW,
-            FILTER_HIGH,
-            SENSITIVITY,
-        ],
-        reserve: &[(68, 4), (104, 92)],
+
+    /// Those that all have, then those of a channel and a montage channel, then
+    /// those of a montage channel.
+    const NUMBERS: &[usize] = &[
+        NUMBER,
+        FLAGS,
+        TYPE,
+        FORMAT,
+        RATE,
+        CALIBRATION[0],
+        CALIBRATION[1],
+        CALIBRATION[2],
+        CALIBRATION[3],
+        FILTER_LOW,
+        FILTER_HIGH,
+        CALIBRATION_FREQUENCY,
+        SENSITIVITY,
+        LEADS[0],
+        LEADS[1],
+    ];
+    pub const RULES: Rules = rules(125, 13, &[(68, 4), (104, 92)]);
+    pub const ELECTRODE_RULES: Rules = rules(325, 11, &[(52, 4), (64, 8), (104, 92)]);
+    pub const MONTAGE_RULES: Rules = rules(355, 15, &[(68, 4), (112, 84)]);
+
+    /// With the first `numbers` of the number fields.
+    const fn rules(code: i32, numbers: usize, reserve: &'static [Area]) -> Rules {
+        Rules {
+            code,
+            extent: Extent::Fixed(LENGTH as i32),
+            multiplied: false,
+            numbers: NUMBERS.split_at(numbers).0,
+            reserve,
+        }
+    }
+
+    pub const SUBS: Subs = Subs {
+        kind: Kind::Channel,
+        is_number: |_| true,
+        is_type,
+        is_format: |format| Format::from_number(format).is_some(),
+        is_rate: |flags, kind, rate| Rate::from_fields(flags, kind, rate).is_some(),
+    };
+    pub const ELECTRODE_SUBS: Subs = Subs {
+        kind: Kind::Electrode,
+        is_number: |code| code >= 0,
+        is_type: |kind| is_type(kind) || kind == PROCESSED,
+        ..SUBS
+    };
+    /// Of a montage channel G1 and G2 alone are judged, beside the head.
+    pub const MONTAGE_SUBS: Subs = Subs {
+        kind: Kind::MontageChannel,
+        is_number: |_| true,
+        is_type: |_| true,
+        is_format: |_| true,
+        is_rate: |_, _, _| true,
     };
 }
 
@@ -237,6 +297,10 @@ impl Kind {
             Kind::Overview => &overview::RULES,
             Kind::Channels => &channels::RULES,
             Kind::Channel => &channel::RULES,
+            Kind::Electrodes => &channels::ELECTRODES_RULES,
+            Kind::Electrode => &channel::ELECTRODE_RULES,
+            Kind::Montage => &channels::MONTAGE_RULES,
+            Kind::MontageChannel => &channel::MONTAGE_RULES,
             Kind::Patient => &items::PATIENT_RULES,
             Kind::Events => &items::EVENT_RULES,
             Kind::Frames => &frames::RULES,
@@ -244,6 +308,21 @@ impl Kind {
             Kind::Maker => &maker::RULES,
             Kind::Delimiter => &delimiter::RULES,
         }
+    }
+
+    /// The subs of a record that lists any.
+    pub const fn subs(self) -> Option<&'static Subs> {
+        match self {
+            Kind::Channels => Some(&channel::SUBS),
+            Kind::Electrodes => Some(&channel::ELECTRODE_SUBS),
+            Kind::Montage => Some(&channel::MONTAGE_SUBS),
+            _ => None,
+        }
+    }
+
+    /// Whether a number field stands at this offset.
+    pub fn has_number(self, offset: usize) -> bool {
+        self.rules().numbers.contains(&offset)
     }
 
     /// Whether a record with this code is of this kind.
@@ -282,6 +361,20 @@ pub fn is_event_code(code: i32) -> bool {
 
 pub fn is_type(value: i32) -> bool {
     (0..=18).contains(&value) || value == 20
+}
+
+/// The type of a signal that was processed when it was recorded.
+pub const PROCESSED: i32 = 101;
+
+/// Whether G1 or G2 names an electrode by its serial, the earth by 0, or (its high
+/// 16 bits 1 to 3) a processed potential, whose low bits are free.
+pub fn is_lead(value: i32, electrodes: usize) -> bool {
+    let (high, low) = (value as u32 >> 16, value as u32 & 0xffff);
+    match high {
+        0 => low as usize <= electrodes,
+        1..=3 => true,
+        _ => false,
+    }
 }
 
 /// Days of a month (1 to 12) in the Gregorian calendar.
@@ -421,6 +514,60 @@ mod tests {
         assert_eq!(Rate::from_fields(-1, 3, i32::MAX), longest);
         assert_eq!(Rate::from_fields(1, 0, -1), None);
         assert_eq!(Rate::from_fields(0, 0, i32::MIN), None);
+    }
+
+    #[test]
+    fn leads() {
+        for lead in [0, 1, 3, 0x1_0000, 0x1_0004, 0x2_ffff, 0x3_0000, 0x3_ffff] {
+            assert!(is_lead(lead, 3), "{lead:#x}");
+        }
+        for lead in [
+            4,
+            128,
+            0xffff,
+            0x4_0000,
+            0x4_0001,
+            0x7fff_0001,
+            -1,
+            i32::MIN,
+        ] {
+            assert!(!is_lead(lead, 3), "{lead:#x}");
+        }
+        assert!(is_lead(128, 128) && !is_lead(129, 128) && !is_lead(2, 1));
+    }
+
+    #[test]
+    fn the_fields_and_the_reserve_of_a_sub_fill_it_once() {
+        for kind in [Kind::Channel, Kind::Electrode, Kind::MontageChannel] {
+            let rules = kind.rules();
+            let numbers = HEAD_NUMBERS.iter().chain(rules.numbers);
+            let texts = [channel::LABEL, channel::UNIT, channel::COMMENT];
+            let mut areas: Vec<Area> = numbers.map(|offset| (*offset, 4)).collect();
+            areas.extend(texts.iter().chain(rules.reserve));
+            areas.sort();
+            let mut end = 0;
+            for (offset, length) in areas {
+                assert_eq!(offset, end, "{kind:?}");
+                end = offset + length;
+            }
+            assert_eq!(end, channel::LENGTH);
+        }
+    }
+
+    #[test]
+    fn which_sub_has_which_fields() {
+        let has = |kind: Kind| {
+            [
+                channel::CALIBRATION_FREQUENCY,
+                channel::SENSITIVITY,
+                channel::LEADS[0],
+                channel::LEADS[1],
+            ]
+            .map(|offset| kind.has_number(offset))
+        };
+        assert_eq!(has(Kind::Channel), [true, true, false, false]);
+        assert_eq!(has(Kind::Electrode), [false; 4]);
+        assert_eq!(has(Kind::MontageChannel), [true; 4]);
     }
 
     #[test]

@@ -4,7 +4,7 @@ use crate::bytes::Order;
 use crate::header::{self, Header};
 use crate::judge::judge;
 use crate::model::{Frame, FrameBlock, Model, Record, Recording};
-use crate::record::{self, channel, channels, frame, frames, Kind, HEAD};
+use crate::record::{self, channel, channels, frame, frames, Kind, Subs, HEAD};
 use crate::refusal::{self, require_room, Refusal};
 use crate::turn::{items_in, refuse_makers, reverse_item, reverse_numbers, reverse_samples};
 
@@ -96,7 +96,7 @@ impl Writer<'_> {
             order: self.order,
             ..model.header()
         };
-        self.out.extend(header::canonical(&header));
+        self.out.extend(header::canonical_in(model.form, &header));
         for recording in &model.recordings {
             self.recording(recording);
         }
@@ -113,9 +113,11 @@ impl Writer<'_> {
     }
 
     fn part(&mut self, recording: &Recording, part: &Record) {
+        if let Some(subs) = part.kind.subs() {
+            return self.list(part, subs);
+        }
         match part.kind {
             Kind::Maker => self.copy(part.at, part.length),
-            Kind::Channels => self.channels(part),
             Kind::Patient | Kind::Events => self.items(recording, part),
             Kind::Frames => self.block(&recording.block),
             _ => {
@@ -124,10 +126,10 @@ impl Writer<'_> {
         }
     }
 
-    fn channels(&mut self, part: &Record) {
+    fn list(&mut self, part: &Record, subs: &Subs) {
         let at = self.fixed_part(part, part.length);
         for sub in (channels::FIRST..part.length).step_by(channel::LENGTH) {
-            self.settle(at + sub, Kind::Channel);
+            self.settle(at + sub, subs.kind);
         }
     }
 

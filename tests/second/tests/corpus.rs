@@ -1,4 +1,7 @@
-//! What the project's own corpus (tests/corpus, made by tests/corpus.sh) has to show, and that this program answers it.
+//! What the project's own corpus (tests/corpus, made by tests/corpus.sh) has to show, and that this program answers it. It is of
+//! the forms that the library reads.
+
+#![cfg(not(feature = "electrodes"))]
 
 use second::bytes::Order;
 use second::corpus;

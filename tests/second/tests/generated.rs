@@ -2,9 +2,9 @@
 
 use second::bytes::Order;
 use second::generate::{self, Field, Sheet};
-use second::header::{Header, Spelling, IDENTIFIER_LENGTH};
+use second::header::{Form, Header, Spelling, IDENTIFIER_LENGTH};
 use second::judge::judge;
-use second::model::{Calibration, Channel, Item, Model, Recording, Span};
+use second::model::{Item, Model, Recording, Span, Sub};
 use second::questions::{self, sample_at};
 use second::record::{Kind, Rate, MICROSECONDS};
 use second::refusal::{Refusal, IDENTIFIER};
@@ -163,7 +163,7 @@ fn both_spellings_are_frequent_and_all_else_is_the_same_by_either() {
 /// A file's reading as text: everything but sizes, multipliers, frame length,
 /// reserve, byte order and positions.
 fn reading(file: &[u8], model: &Model) -> String {
-    let mut all = format!("{:?} {}", model.spelling, model.script);
+    let mut all = format!("{:?} {:?} {}", model.spelling, model.form, model.script);
     all.push_str(&format!(" {}\n", model.recordings.len()));
     for recording in &model.recordings {
         all.push_str(&recording_reading(file, model.order, recording));
@@ -185,7 +185,10 @@ fn recording_reading(file: &[u8], order: Order, recording: &Recording) -> String
         text(overview.comment),
     );
     for channel in recording.channels.iter() {
-        all.push_str(&channel_reading(channel, text));
+        all.push_str(&sub_reading(&channel.sub, text));
+    }
+    for channel in &recording.montage {
+        all.push_str(&sub_reading(channel, text));
     }
     let items = |items: &[Item]| -> Vec<(i32, Vec<u8>)> {
         items
@@ -213,24 +216,23 @@ fn recording_reading(file: &[u8], order: Order, recording: &Recording) -> String
     all
 }
 
-fn channel_reading(channel: &Channel, text: impl Fn(Span) -> Vec<u8>) -> String {
-    let calibration: Calibration = channel.calibration;
+fn sub_reading(sub: &Sub, text: impl Fn(Span) -> Vec<u8>) -> String {
     format!(
         "{:?} {:?} {:?} {:?}\n",
         [
-            channel.number,
-            channel.flags,
-            channel.channel_type,
-            channel.format.number(),
-            channel.rate_field,
-            channel.calibration_frequency,
-            channel.filter_low,
-            channel.filter_high,
-            channel.sensitivity,
+            sub.number,
+            sub.flags,
+            sub.channel_type,
+            sub.format,
+            sub.rate,
+            sub.calibration_frequency,
+            sub.filter_low,
+            sub.filter_high,
+            sub.sensitivity,
         ],
-        calibration,
-        [channel.label, channel.unit].map(&text),
-        text(channel.comment),
+        sub.calibration,
+        sub.leads,
+        [sub.label, sub.unit, sub.comment].map(&text),
     )
 }
 
@@ -257,11 +259,11 @@ fn at_field(number: u8, field: Field) -> String {
     format!("{number} at {field:?}")
 }
 
-/// Whether the recording around a position has no 120 before it.
+/// Whether the recording around a position has no 120 or 320 before it.
 fn inherits(sheet: &Sheet, at: usize) -> bool {
     let before = sheet.records.iter().filter(|record| record.at < at);
     let mut parts = before.rev().take_while(|r| r.kind != Kind::Recording);
-    !parts.any(|record| record.kind == Kind::Channels)
+    !parts.any(|record| matches!(record.kind, Kind::Channels | Kind::Electrodes))
 }
 
 fn inherited(at: String) -> String {
@@ -278,11 +280,9 @@ fn at_file_end(number: u8) -> String {
 
 /// Every refusal of a field or a padding, with its place.
 fn named_places() -> Vec<String> {
-    const RECORDS: [Kind; 10] = [
+    const SHARED: &[Kind] = &[
         Kind::Recording,
         Kind::Overview,
-        Kind::Channels,
-        Kind::Channel,
         Kind::Patient,
         Kind::Events,
         Kind::Frames,
@@ -290,8 +290,14 @@ fn named_places() -> Vec<String> {
         Kind::Maker,
         Kind::Delimiter,
     ];
+    const LISTS: &[Kind] = &[Kind::Channels, Kind::Electrodes, Kind::Montage];
+    // The lists of the forms that are read, and their subs.
+    let in_a_form = |kind: &Kind| Form::READ.iter().any(|form| form.parts().contains(kind));
+    let lists: Vec<Kind> = LISTS.iter().copied().filter(in_a_form).collect();
+    let subs = lists.iter().filter_map(|list| list.subs());
+    let subs: Vec<Kind> = subs.map(|subs| subs.kind).collect();
     let mut all = Vec::new();
-    for kind in RECORDS {
+    for kind in [SHARED, &lists[..], &subs[..]].concat() {
         all.push(at_field(9, Field::Code(kind)));
         all.push(at_field(10, Field::Size(kind)));
         all.push(at_field(11, Field::Multiplier(kind)));
@@ -310,17 +316,26 @@ fn named_places() -> Vec<String> {
         Field::Minute,
         Field::Second,
         Field::Mains,
-        Field::SubCount,
-        Field::SubSize,
-        Field::Type,
-        Field::Format,
-        Field::Rate,
         Field::Seconds,
         Field::ClockHour,
         Field::ClockMinute,
         Field::ClockSecond,
     ];
     all.extend(values.map(|field| at_field(13, field)));
+    for kind in &lists {
+        all.push(at_field(13, Field::SubCount(*kind)));
+        all.push(at_field(13, Field::SubSize(*kind)));
+        all.push(at_field(14, Field::SubCount(*kind)));
+    }
+    // Of a montage channel these are not judged.
+    for kind in subs.into_iter().filter(|k| *k != Kind::MontageChannel) {
+        let fields = [Field::Type(kind), Field::Format(kind), Field::Rate(kind)];
+        all.extend(fields.map(|field| at_field(13, field)));
+    }
+    if Form::Electrodes.is_read() {
+        let fields = [Field::ElectrodeCode, Field::Lead1, Field::Lead2];
+        all.extend(fields.map(|field| at_field(13, field)));
+    }
     for kind in [Kind::Patient, Kind::Events] {
         all.push(at_field(10, Field::ItemSize(kind)));
         all.push(at_field(13, Field::ItemCode(kind)));
@@ -329,7 +344,6 @@ fn named_places() -> Vec<String> {
     }
     let disagreements = [
         Field::ChannelCount,
-        Field::SubCount,
         Field::Seconds,
         Field::FrameLength,
         Field::FrameCount,

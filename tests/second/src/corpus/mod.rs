@@ -3,6 +3,7 @@
 pub mod make;
 
 use crate::ask::answer_to;
+use crate::header::Form;
 use crate::lines::Desk;
 use crate::listing::listing;
 use std::fs;
@@ -11,7 +12,10 @@ use std::path::{Path, PathBuf};
 
 /// The names of a corpus' question lines; `count` and `view` may stand apart,
 /// and so may those of request 3, `header`.
-const QUESTIONS: [&str; 3] = ["questions", "questions-old", "questions-3"];
+const QUESTIONS: &[&str] = &["questions", "questions-old", "questions-3"];
+
+/// The lines of request 1, `montage_count` and `montage`.
+const MONTAGE_QUESTIONS: &str = "questions-1";
 
 #[derive(Clone, Debug, Default, PartialEq, Eq)]
 pub struct Comparison {
@@ -28,6 +32,9 @@ pub fn compare(folder: &Path) -> io::Result<Comparison> {
     }
     for name in QUESTIONS {
         compare_questions(folder, name, &mut comparison)?;
+    }
+    if Form::Electrodes.is_read() {
+        compare_questions(folder, MONTAGE_QUESTIONS, &mut comparison)?;
     }
     Ok(comparison)
 }

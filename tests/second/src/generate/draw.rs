@@ -2,14 +2,14 @@
 
 use super::plan::{
     ChannelPlan, ChannelsPlan, FilePlan, FramePlan, FramesPlan, ItemPlan, ItemsPlan, MakerPlan,
-    OverviewPlan, PartPlan, RecordingPlan,
+    MontagePlan, OverviewPlan, PartPlan, RecordingPlan,
 };
 use crate::bytes::Order;
-use crate::header::{self, Spelling};
+use crate::header::{self, Form, Spelling};
 use crate::listing;
 use crate::random::Random;
 use crate::record::{self, frames, items};
-use crate::record::{Format, Kind, HEAD, MICROSECONDS, PERIOD_FLAG};
+use crate::record::{Format, Kind, HEAD, MICROSECONDS, PERIOD_FLAG, PROCESSED};
 
 /// How large and of what sort a file is drawn. Counts are the most of each.
 #[derive(Clone, Copy)]
@@ -23,8 +23,11 @@ pub struct Shape {
     pub samples: i32,
     /// The chance of a maker's record at each place, in percent.
     pub makers: usize,
-    /// The chance that a later recording inherits its 120, in percent.
+    /// The chance that a later recording inherits its 120 or 320, in percent.
     pub inherits: usize,
+    /// The chance of a 350 in a recording of electrodes, in percent.
+    pub montages: usize,
+    pub montage_channels: i32,
     /// Every multiplier is 2 or more.
     pub padded: bool,
     /// The length of the file at most.
@@ -40,6 +43,8 @@ pub const SMALL: Shape = Shape {
     samples: 6,
     makers: 0,
     inherits: 60,
+    montages: 50,
+    montage_channels: 2,
     padded: false,
     bytes: 4096,
 };
@@ -57,11 +62,13 @@ impl Shape {
             },
             72..=78 => Shape {
                 channels: 10,
+                montage_channels: 10,
                 recordings: (1, 2),
                 ..small
             },
             79..=85 => Shape {
                 items: 40,
+                montage_channels: 10,
                 recordings: (1, 2),
                 ..small
             },
@@ -101,6 +108,7 @@ impl Shape {
             },
             2 => Shape {
                 items: items::MOST,
+                montage_channels: 100,
                 ..small
             },
             3 => Shape {
@@ -121,11 +129,21 @@ pub fn draw_any(random: &mut Random) -> FilePlan {
     draw_shaped(random, &shape)
 }
 
-/// A valid file of this shape; a simpler one when the shape is hard to meet.
+/// A valid file of this shape, in any form that is read.
 pub fn draw_shaped(random: &mut Random, shape: &Shape) -> FilePlan {
+    let form = match Form::READ {
+        // Nothing is left to chance.
+        [only] => *only,
+        read => random.pick(read),
+    };
+    draw_formed(random, shape, form)
+}
+
+/// A valid file of this shape; a simpler one when the shape is hard to meet.
+pub fn draw_formed(random: &mut Random, shape: &Shape, form: Form) -> FilePlan {
     const TRIES: usize = 4;
     for _ in 0..TRIES {
-        let plan = draw_file(random, shape);
+        let plan = draw_file(random, shape, form);
         if plan.length() <= shape.bytes {
             return plan;
         }
@@ -136,9 +154,10 @@ pub fn draw_shaped(random: &mut Random, shape: &Shape) -> FilePlan {
         text: 6,
         frames: 2,
         samples: 4,
+        montage_channels: 1,
         ..*shape
     };
-    draw_file(random, &lesser)
+    draw_file(random, &lesser, form)
 }
 
 /// K's field: its digits, often behind zeros, then spaces.
@@ -156,17 +175,18 @@ pub fn digits(random: &mut Random, recordings: usize) -> [u8; header::RECORDINGS
     field
 }
 
-fn draw_file(random: &mut Random, shape: &Shape) -> FilePlan {
+fn draw_file(random: &mut Random, shape: &Shape, form: Form) -> FilePlan {
     let count = random.between(shape.recordings.0, shape.recordings.1) as usize;
     let mut recordings = Vec::new();
     let mut holding = None;
     for _ in 0..count {
-        let (recording, now) = draw_recording(random, shape, holding.as_ref());
+        let (recording, now) = draw_recording(random, shape, form, holding.as_ref());
         recordings.push(recording);
         holding = Some(now);
     }
     FilePlan {
         spelling: random.pick(&Spelling::ALL),
+        form,
         order: random.pick(&[Order::Little, Order::Big]),
         script: random.pick(header::SCRIPTS),
         digits: digits(random, count),
@@ -184,6 +204,7 @@ struct Holding {
 fn draw_recording(
     random: &mut Random,
     shape: &Shape,
+    form: Form,
     earlier: Option<&Holding>,
 ) -> (RecordingPlan, Holding) {
     let inherited = earlier.filter(|_| random.chance(shape.inherits));
@@ -192,7 +213,7 @@ fn draw_recording(
             channels: earlier.channels.clone(),
             seconds: draw_other_seconds(random, shape, earlier),
         },
-        None => draw_holding(random, shape),
+        None => draw_holding(random, shape, form),
     };
     let count = random.between(1, shape.frames);
     let channels = holding.channels.len() as i32;
@@ -200,6 +221,7 @@ fn draw_recording(
     let mut parts = vec![PartPlan::Overview(draw_overview(random, channels, count))];
     if inherited.is_none() {
         parts.push(PartPlan::Channels(ChannelsPlan {
+            kind: form.list(),
             count: channels,
             channels: holding.channels.clone(),
         }));
@@ -209,6 +231,9 @@ fn draw_recording(
     }
     if random.chance(50) {
         parts.push(PartPlan::Items(draw_items(random, shape, Kind::Events)));
+    }
+    if form == Form::Electrodes && random.chance(shape.montages) {
+        parts.push(PartPlan::Montage(draw_montage(random, shape, channels)));
     }
     let block = draw_frames(random, shape, &holding, count);
     parts.push(PartPlan::Frames(block));
@@ -306,10 +331,24 @@ fn draw_seconds(random: &mut Random) -> i32 {
     }
 }
 
-fn draw_holding(random: &mut Random, shape: &Shape) -> Holding {
-    if random.chance(5) {
-        return draw_recorder(random);
+fn draw_holding(random: &mut Random, shape: &Shape, form: Form) -> Holding {
+    let mut holding = if random.chance(5) {
+        draw_recorder(random)
+    } else {
+        draw_channels(random, shape)
+    };
+    if form == Form::Electrodes {
+        for channel in &mut holding.channels {
+            // Rate 0 is for type OFF alone.
+            if channel.rate > 0 && random.chance(20) {
+                channel.channel_type = PROCESSED;
+            }
+        }
     }
+    holding
+}
+
+fn draw_channels(random: &mut Random, shape: &Shape) -> Holding {
     let seconds = draw_seconds(random);
     let count = random.between(1, shape.channels);
     let channels = (0..count)
@@ -432,6 +471,29 @@ fn draw_item_code(random: &mut Random, kind: Kind) -> i32 {
         Kind::Patient => random.pick(&PATIENT),
         _ if random.chance(50) => random.pick(&EVENTS),
         _ => random.between(4096, 65_535) | BIT_12,
+    }
+}
+
+fn draw_montage(random: &mut Random, shape: &Shape, electrodes: i32) -> MontagePlan {
+    let count = random.between(1, shape.montage_channels);
+    let mut lead = || draw_lead(random, electrodes);
+    MontagePlan {
+        count,
+        leads: (0..count).map(|_| [lead(), lead()]).collect(),
+    }
+}
+
+/// The earth, an electrode, the last one often, or a processed potential of any.
+fn draw_lead(random: &mut Random, electrodes: i32) -> i32 {
+    match random.below(6) {
+        0 => 0,
+        1 => electrodes,
+        2 | 3 => random.between(1, electrodes),
+        _ => {
+            let any = random.between(0, 0xffff);
+            let low = random.pick(&[0, electrodes, electrodes + 1, 0xffff, any]);
+            random.between(1, 3) << 16 | low
+        }
     }
 }
 

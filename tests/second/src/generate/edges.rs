@@ -1,6 +1,7 @@
 //! The values on both sides of each rule's edges.
 
 use super::sheet::{Field, Place, Sheet};
+use crate::header::Form;
 use crate::random::Random;
 use crate::record::{self, Extent, Kind};
 
@@ -63,10 +64,12 @@ fn code(random: &mut Random, kind: Kind, now: i32) -> i32 {
         0, 10, 100, 120, 125, 130, 140, 145, 200, 1, 99, 101, 110, 121, 131, 141, 146, 150, 155,
         160, 165, 201,
     ];
+    const ELECTRODE_FORM: [i32; 4] = [320, 325, 350, 355];
     const MAKERS: [i32; 6] = [1023, 1024, 1025, 4096, 65_536, i32::MAX];
     match random.below(4) {
         0 => random.pick(&MAKERS),
         1 if kind != Kind::Maker => now.wrapping_add(random.pick(&[-1, 1, 256])),
+        _ if Form::Electrodes.is_read() => random.pick(&[&CODES[..], &ELECTRODE_FORM].concat()),
         _ => random.pick(&CODES),
     }
 }
@@ -109,7 +112,7 @@ fn edges(field: Field, now: i32) -> Vec<i32> {
     let near: Vec<i32> = steps.iter().map(|step| now.wrapping_add(*step)).collect();
     let own: &[i32] = match field {
         Field::DataForm => &[0, 2, 3, 256],
-        Field::ChannelCount | Field::SubCount => &[-1, 0, 1, 127, 128, 129],
+        Field::ChannelCount | Field::SubCount(_) => &[-1, 0, 1, 127, 128, 129],
         Field::TotalFrames => &[-1, 0, 1, 999_999, 1_000_000, 1_000_001],
         Field::Year => &[-1, 0, 1, 1900, 2000, 2023, 9999, 10_000],
         Field::Month => &[-1, 0, 1, 2, 4, 12, 13],
@@ -119,11 +122,30 @@ fn edges(field: Field, now: i32) -> Vec<i32> {
         Field::Minute | Field::Second => &[-1, 0, 58, 59, 60, 61, 256],
         Field::ClockMinute | Field::ClockSecond => &[-1, 0, 58, 59, 60, 61, 256, 0x8000],
         Field::Mains => &[-1, 0, 1, 49, 50, 51, 55, 59, 60, 61, 100],
-        Field::SubSize => &[-1, 0, 16, 255, 257, 512],
-        Field::Flags => &[-2, -1, 0, 1, 2, 3],
-        Field::Type => &[-1, 0, 17, 18, 19, 20, 21],
-        Field::Format => &[-1, 0, 1, 2, 3, 4, 5],
-        Field::Rate => &[
+        Field::SubSize(_) => &[-1, 0, 16, 255, 257, 512],
+        Field::ElectrodeCode => &[-1, 0, 1, 23, -0x8000, i32::MIN],
+        Field::Lead1 | Field::Lead2 => &[
+            -1,
+            0,
+            1,
+            2,
+            3,
+            4,
+            0xffff,
+            0x1_0000,
+            0x3_ffff,
+            0x4_0000,
+            0x4_0001,
+            0x7fff_0001,
+            i32::MIN,
+        ],
+        Field::Flags(_) => &[-2, -1, 0, 1, 2, 3],
+        Field::Type(_) if Form::Electrodes.is_read() => {
+            &[-1, 0, 17, 18, 19, 20, 21, 100, 101, 101, 102]
+        }
+        Field::Type(_) => &[-1, 0, 17, 18, 19, 20, 21],
+        Field::Format(_) => &[-1, 0, 1, 2, 3, 4, 5],
+        Field::Rate(_) => &[
             -1,
             0,
             1,

@@ -2,12 +2,13 @@
 //! (texts, reserve, samples, makers' bodies) is drawn when the plan is written.
 
 use crate::bytes::Order;
-use crate::header::{self, Spelling};
+use crate::header::{self, Form, Spelling};
 use crate::record::{channel, channels, frame, frames, items, overview};
 use crate::record::{Format, Kind, Rate, HEAD};
 
 pub struct FilePlan {
     pub spelling: Spelling,
+    pub form: Form,
     pub order: Order,
     pub script: u8,
     pub digits: [u8; header::RECORDINGS_LENGTH],
@@ -29,6 +30,7 @@ pub enum PartPlan {
     Overview(OverviewPlan),
     Channels(ChannelsPlan),
     Items(ItemsPlan),
+    Montage(MontagePlan),
     Frames(FramesPlan),
     Maker(MakerPlan),
     Delimiter,
@@ -45,6 +47,8 @@ pub struct OverviewPlan {
 
 #[derive(Clone)]
 pub struct ChannelsPlan {
+    /// `Kind::Channels` or `Kind::Electrodes`.
+    pub kind: Kind,
     pub count: i32,
     pub channels: Vec<ChannelPlan>,
 }
@@ -71,6 +75,13 @@ pub struct ItemsPlan {
 pub struct ItemPlan {
     pub code: i32,
     pub text: usize,
+}
+
+#[derive(Clone)]
+pub struct MontagePlan {
+    pub count: i32,
+    /// G1 and G2 of each montage channel.
+    pub leads: Vec<[i32; 2]>,
 }
 
 #[derive(Clone)]
@@ -143,6 +154,13 @@ impl RecordingPlan {
         })
     }
 
+    pub fn montage(&mut self) -> Option<&mut MontagePlan> {
+        self.parts.iter_mut().find_map(|part| match part {
+            PartPlan::Montage(montage) => Some(montage),
+            _ => None,
+        })
+    }
+
     pub fn frames(&mut self) -> Option<&mut FramesPlan> {
         self.parts.iter_mut().find_map(|part| match part {
             PartPlan::Frames(frames) => Some(frames),
@@ -155,13 +173,19 @@ impl PartPlan {
     pub fn length(&self) -> usize {
         match self {
             PartPlan::Overview(_) => overview::LENGTH,
-            PartPlan::Channels(plan) => channels::FIRST + channel::LENGTH * plan.channels.len(),
+            PartPlan::Channels(plan) => list_length(plan.channels.len()),
+            PartPlan::Montage(plan) => list_length(plan.leads.len()),
             PartPlan::Items(plan) => plan.length(),
             PartPlan::Frames(plan) => plan.content() + plan.tail.len(),
             PartPlan::Maker(plan) => plan.length,
             PartPlan::Delimiter => HEAD,
         }
     }
+}
+
+/// The length of a list of so many subs.
+fn list_length(subs: usize) -> usize {
+    channels::FIRST + channel::LENGTH * subs
 }
 
 impl ItemsPlan {

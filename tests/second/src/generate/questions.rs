@@ -1,5 +1,6 @@
 //! Questions drawn for a file: each argument at the bounds of its range and far outside, the others inside it.
 
+use crate::header::Form;
 use crate::judge::judge;
 use crate::model::Recording;
 use crate::random::Random;
@@ -67,7 +68,7 @@ fn ranges(
     recordings: u64,
     recording: Option<&Recording>,
     random: &mut Random,
-) -> [(&'static str, Ranges); 8] {
+) -> Vec<(&'static str, Ranges)> {
     let many = |count: fn(&Recording) -> usize| (1, recording.map_or(1, |r| count(r) as u64));
     let channels = many(|r| r.channels.len());
     let frames = many(|r| r.block.frames.len());
@@ -76,7 +77,7 @@ fn ranges(
     let samples = (0, samples.map_or(1, |slot| slot.count));
     let recordings = (1, recordings);
     let sampled = (channel as u64 + 1, 1);
-    [
+    let mut all = vec![
         ("facts", vec![recordings]),
         ("channel", vec![recordings, channels]),
         ("patient_item", vec![recordings, many(|r| r.patient.len())]),
@@ -85,7 +86,12 @@ fn ranges(
         ("count", vec![recordings, frames, channels]),
         ("view", vec![recordings, frames, channels]),
         ("sample", vec![recordings, frames, sampled, samples]),
-    ]
+    ];
+    if Form::Electrodes.is_read() {
+        all.push(("montage_count", vec![recordings]));
+        all.push(("montage", vec![recordings, many(|r| r.montage.len())]));
+    }
+    all
 }
 
 /// One question with each argument in turn at its bounds, then with some inside and some of any size.

@@ -2,8 +2,8 @@
 //! judges, so that a damage can be put at a chosen place.
 
 use super::plan::{
-    ChannelPlan, ChannelsPlan, FilePlan, FramePlan, FramesPlan, ItemsPlan, MakerPlan, OverviewPlan,
-    PartPlan, RecordingPlan,
+    ChannelPlan, ChannelsPlan, FilePlan, FramePlan, FramesPlan, ItemsPlan, MakerPlan, MontagePlan,
+    OverviewPlan, PartPlan, RecordingPlan,
 };
 use crate::bytes::Order;
 use crate::header;
@@ -27,12 +27,15 @@ pub enum Field {
     Minute,
     Second,
     Mains,
-    SubCount,
-    SubSize,
-    Flags,
-    Type,
-    Format,
-    Rate,
+    SubCount(Kind),
+    SubSize(Kind),
+    ElectrodeCode,
+    Flags(Kind),
+    Type(Kind),
+    Format(Kind),
+    Rate(Kind),
+    Lead1,
+    Lead2,
     ItemCount(Kind),
     ItemSize(Kind),
     ItemCode(Kind),
@@ -156,7 +159,7 @@ impl Sheet {
     fn header(&mut self, plan: &FilePlan) {
         self.raw(plan.spelling.identifier());
         self.raw(header::VERSION);
-        self.raw(header::FORM);
+        self.raw(plan.form.field());
         self.raw(&[plan.order.letter(), plan.script]);
         self.raw(&plan.digits);
         self.raw(&[b' '; header::LENGTH - header::SPACES_AT]);
@@ -253,6 +256,7 @@ impl Sheet {
             PartPlan::Overview(plan) => self.overview(random, plan, end),
             PartPlan::Channels(plan) => self.channels(random, plan, length, end),
             PartPlan::Items(plan) => self.items(random, plan, length, end),
+            PartPlan::Montage(plan) => self.montage(random, plan, length, end),
             PartPlan::Frames(plan) => self.frames(random, plan, length, end),
             PartPlan::Maker(plan) => self.maker(random, plan, end),
             PartPlan::Delimiter => {
@@ -283,31 +287,83 @@ impl Sheet {
     }
 
     fn channels(&mut self, random: &mut Random, plan: &ChannelsPlan, length: usize, end: usize) {
-        let at = self.head(&Head::plain(Kind::Channels, length, end));
-        self.field(Field::SubCount, plan.count);
-        self.field(Field::SubSize, channel::LENGTH as i32);
-        self.filler(random, at, record::channels::FIRST);
-        for (index, channel) in plan.channels.iter().enumerate() {
-            self.channel(random, channel, index as i32 + 1, at + length);
+        let at = self.list(random, plan.kind, plan.count, length, end);
+        for (serial, channel) in (1..).zip(&plan.channels) {
+            let sub = self.sub(plan.kind, serial, at + length);
+            self.channel(random, channel, &sub);
         }
-        self.zero_reserve(at, Kind::Channels);
+        self.zero_reserve(at, plan.kind);
     }
 
-    fn channel(&mut self, random: &mut Random, plan: &ChannelPlan, serial: i32, end: usize) {
+    fn channel(&mut self, random: &mut Random, plan: &ChannelPlan, sub: &RecordPlace) {
+        let kind = sub.kind;
+        match kind {
+            Kind::Electrode => self.field(Field::ElectrodeCode, electrode_code(random)),
+            _ => self.number(random.bits()),
+        }
+        self.field(Field::Flags(kind), plan.flags);
+        self.field(Field::Type(kind), plan.channel_type);
+        self.field(Field::Format(kind), plan.format.number());
+        self.field(Field::Rate(kind), plan.rate);
+        self.numbers(random, sub.at, channel::NUMBERS_END);
+        self.filler(random, sub.at, channel::LENGTH);
+        self.zero_reserve(sub.at, kind);
+    }
+
+    fn montage(&mut self, random: &mut Random, plan: &MontagePlan, length: usize, end: usize) {
+        let at = self.list(random, Kind::Montage, plan.count, length, end);
+        for (serial, leads) in (1..).zip(&plan.leads) {
+            let sub = self.sub(Kind::Montage, serial, at + length);
+            self.montage_channel(random, *leads, &sub);
+        }
+        self.zero_reserve(at, Kind::Montage);
+    }
+
+    fn montage_channel(&mut self, random: &mut Random, leads: [i32; 2], sub: &RecordPlace) {
+        self.numbers(random, sub.at, channel::FORMAT);
+        let any = random.bits();
+        // Whether the calibration is floats is the one thing that the format tells.
+        self.number(random.pick(&[0, 1, 4, 4, any]));
+        self.numbers(random, sub.at, channel::NUMBERS_END);
+        self.filler(random, sub.at, channel::LEADS[0]);
+        for (field, lead) in [Field::Lead1, Field::Lead2].into_iter().zip(leads) {
+            self.field(field, lead);
+        }
+        self.filler(random, sub.at, channel::LENGTH);
+        self.zero_reserve(sub.at, sub.kind);
+    }
+
+    /// The head of a list and its own fields; gives where it stands.
+    fn list(
+        &mut self,
+        random: &mut Random,
+        kind: Kind,
+        count: i32,
+        length: usize,
+        end: usize,
+    ) -> usize {
+        let at = self.head(&Head::plain(kind, length, end));
+        self.field(Field::SubCount(kind), count);
+        self.field(Field::SubSize(kind), channel::LENGTH as i32);
+        self.filler(random, at, record::channels::FIRST);
+        at
+    }
+
+    /// The head of a sub of such a list.
+    fn sub(&mut self, list: Kind, serial: i32, end: usize) -> RecordPlace {
+        let kind = list.subs().expect("a list of subs").kind;
         let at = self.head(&Head {
             serial,
-            ..Head::plain(Kind::Channel, channel::LENGTH, end)
+            ..Head::plain(kind, channel::LENGTH, end)
         });
-        self.number(random.bits());
-        self.field(Field::Flags, plan.flags);
-        self.field(Field::Type, plan.channel_type);
-        self.field(Field::Format, plan.format.number());
-        self.field(Field::Rate, plan.rate);
-        while self.bytes.len() < at + channel::NUMBERS_END {
+        *self.record_at(at)
+    }
+
+    /// Numbers that no rule judges, up to the offset `to` of the record at `at`.
+    fn numbers(&mut self, random: &mut Random, at: usize, to: usize) {
+        while self.bytes.len() < at + to {
             self.number(random.bits());
         }
-        self.filler(random, at, channel::LENGTH);
-        self.zero_reserve(at, Kind::Channel);
     }
 
     fn items(&mut self, random: &mut Random, plan: &ItemsPlan, length: usize, end: usize) {
@@ -383,5 +439,14 @@ impl Sheet {
             ..Head::plain(Kind::Maker, plan.length, end)
         });
         self.filler(random, at, plan.length);
+    }
+}
+
+/// A code of the 10-20 system, a user's, or any that is not negative.
+fn electrode_code(random: &mut Random) -> i32 {
+    match random.below(3) {
+        0 => random.between(0, 22),
+        1 => random.pick(&[0, 23, i32::MAX]),
+        _ => random.between(0, i32::MAX),
     }
 }

@@ -33,14 +33,30 @@ impl Pen {
 
     /// Channels of flags, type, format and rate.
     pub fn channels(self, channels: &[[i32; 4]]) -> Vec<u8> {
-        let count = channels.len() as i32;
+        self.list(120, channels.iter().map(|fields| self.numbers(fields)))
+    }
+
+    /// Electrodes of the same.
+    pub fn electrodes(self, electrodes: &[[i32; 4]]) -> Vec<u8> {
+        self.list(320, electrodes.iter().map(|fields| self.numbers(fields)))
+    }
+
+    /// Montage channels of G1 and G2.
+    pub fn montage(self, leads: &[[i32; 2]]) -> Vec<u8> {
+        let sub = |leads| [vec![0; 104 - 20], self.numbers(leads)].concat();
+        self.list(350, leads.iter().map(|leads| sub(leads)))
+    }
+
+    /// A list of subs, whose code is 5 more. Each is given from its flags on; its
+    /// number is its serial.
+    fn list(self, code: i32, subs: impl ExactSizeIterator<Item = Vec<u8>>) -> Vec<u8> {
+        let count = subs.len() as i32;
         let mut body = self.numbers(&[count, 256, 0, 0]);
-        for (index, [flags, channel_type, format, rate]) in channels.iter().enumerate() {
-            let number = index as i32 + 1;
-            let fields = [number, *flags, *channel_type, *format, *rate];
-            body.extend(self.record([256, 125, number, 0], &self.numbers(&fields)));
+        for (serial, sub) in (1..).zip(subs) {
+            let fields = [self.numbers(&[serial]), sub].concat();
+            body.extend(self.record([256, code + 5, serial, 0], &fields));
         }
-        self.record([32 + 256 * count, 120, 0, 0], &body)
+        self.record([32 + 256 * count, code, 0, 0], &body)
     }
 
     /// 130 or 200 with items of code and text.
@@ -103,6 +119,22 @@ impl Pen {
         )])
     }
 
+    /// The smallest file of electrodes with a montage: 850 bytes.
+    pub fn smallest_electrodes(self) -> Vec<u8> {
+        let sample = [0xff, 0x7f];
+        of_electrodes(self.file(&[self.recording(
+            1,
+            0,
+            &[
+                self.overview(1, 1),
+                self.electrodes(&[[0, 1, 1, 1]]),
+                self.items(130, &[]),
+                self.montage(&[[1, 0]]),
+                self.frames(1, 0, &[self.frame(1, 26, 0, &sample)]),
+            ],
+        )]))
+    }
+
     /// Sets numbers of a file, each at its position.
     pub fn set(self, file: &[u8], changes: &[(usize, i32)]) -> Vec<u8> {
         let mut out = file.to_vec();
@@ -111,6 +143,12 @@ impl Pen {
         }
         out
     }
+}
+
+/// The file labelled as one of electrodes.
+pub fn of_electrodes(mut file: Vec<u8>) -> Vec<u8> {
+    file[14..16].copy_from_slice(b"01");
+    file
 }
 
 /// The file with another identifier.

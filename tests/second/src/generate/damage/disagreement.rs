@@ -9,7 +9,7 @@ use crate::random::Random;
 use crate::record::{frame, frames, items, Kind, MICROSECONDS, PERIOD_FLAG};
 
 /// Most later recordings have no 120 of their own.
-const INHERITING: Shape = Shape {
+pub const INHERITING: Shape = Shape {
     inherits: 80,
     ..SMALL
 };
@@ -164,12 +164,12 @@ pub fn a_sample_too_many(random: &mut Random) -> Sheet {
 }
 
 /// The channels that hold for the last of the recordings.
-fn held(recordings: &mut [RecordingPlan]) -> &mut [ChannelPlan] {
+pub fn held(recordings: &mut [RecordingPlan]) -> &mut [ChannelPlan] {
     let mut lists = recordings
         .iter_mut()
         .rev()
         .filter_map(RecordingPlan::channels);
-    let nearest = lists.next().expect("the first recording has its own 120");
+    let nearest = lists.next().expect("the first recording has its own list");
     &mut nearest.channels
 }
 

@@ -170,7 +170,7 @@ fn any_place_about(random: &mut Random, sheet: &Sheet, at: usize) -> Option<Plac
 
 /// Any place: first the sort of field, by its weight, so that rare ones are not
 /// drowned, then one of its places, the last one often.
-fn any_place(random: &mut Random, sheet: &Sheet, weight: impl Fn(Field) -> usize) -> Place {
+pub fn any_place(random: &mut Random, sheet: &Sheet, weight: impl Fn(Field) -> usize) -> Place {
     let mut fields: Vec<Field> = sheet.places.iter().map(|place| place.field).collect();
     fields.sort();
     fields.dedup();
@@ -183,7 +183,7 @@ fn any_place(random: &mut Random, sheet: &Sheet, weight: impl Fn(Field) -> usize
     }
 }
 
-fn set_near_edge(random: &mut Random, sheet: &mut Sheet, place: &Place) {
+pub fn set_near_edge(random: &mut Random, sheet: &mut Sheet, place: &Place) {
     let value = edges::value(random, sheet, place);
     sheet.set(place, value);
 }

@@ -3,7 +3,7 @@
 use super::{small_plan, valid};
 use crate::generate::draw;
 use crate::generate::sheet::{write, Sheet};
-use crate::header;
+use crate::header::{self, Form};
 use crate::random::Random;
 
 /// Nearly one of the two spellings: part of each, other letters, another place.
@@ -69,7 +69,7 @@ fn spoil_header(random: &mut Random, bytes: &mut [u8], field: usize) {
     match field {
         0 => spoil_text(random, bytes, header::IDENTIFIER_AT, &NO_IDENTIFIERS),
         1 => spoil_text(random, bytes, header::VERSION_AT, &[b"000200"]),
-        2 => spoil_text(random, bytes, header::FORM_AT, &[b"01"]),
+        2 => spoil_text(random, bytes, header::FORM_AT, no_forms()),
         3 => bytes[header::ORDER_AT] = random.pick(b"lbLB X\0M"),
         4 => bytes[header::SCRIPT_AT] = random.pick(b"sjeuSJEU AT\0"),
         5 => spoil_digits(random, bytes),
@@ -77,6 +77,15 @@ fn spoil_header(random: &mut Random, bytes: &mut [u8], field: usize) {
             let spaces = header::LENGTH - header::SPACES_AT;
             bytes[header::SPACES_AT + random.below(spaces)] = random.pick(b"\0!0\n\x1fX");
         }
+    }
+}
+
+/// Forms that are not read; the electrode form as long as it is not.
+fn no_forms() -> &'static [&'static [u8; header::FORM_LENGTH]] {
+    if Form::Electrodes.is_read() {
+        &[b"02", b"02", b"10", b"11", b"1 ", b" 1", b"0 "]
+    } else {
+        &[b"01"]
     }
 }
 

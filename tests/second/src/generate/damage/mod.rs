@@ -2,6 +2,7 @@
 //! met at every place that has one. A damage may by chance leave a file valid.
 
 mod disagreement;
+mod electrodes;
 mod field;
 mod header;
 mod length;
@@ -14,6 +15,7 @@ pub use header::NO_IDENTIFIERS;
 use super::draw::{self, Shape, SMALL};
 use super::plan::{FilePlan, RecordingPlan};
 use super::sheet::{write, Sheet};
+use crate::header::Form;
 use crate::judge::judge;
 use crate::random::Random;
 
@@ -51,12 +53,25 @@ const DAMAGES: &[(usize, Damage)] = &[
     (1, length::about_the_listing_limit),
 ];
 
+/// Those of the electrode form.
+const ELECTRODE_DAMAGES: &[(usize, Damage)] = &[
+    (12, electrodes::wrong_montage_field),
+    (12, electrodes::wrong_lead),
+    (8, electrodes::montage_disagrees),
+    (5, electrodes::montage_misplaced),
+    (8, electrodes::other_form),
+];
+
 /// The share of files with a second damage close to the first refusal.
 const TWICE_PERCENT: usize = 25;
 
 /// A file with one of the damages, or two.
 pub fn draw_damaged(random: &mut Random) -> Sheet {
-    let damage = random.pick_weighted(DAMAGES);
+    let damage = if Form::Electrodes.is_read() {
+        random.pick_weighted(&[DAMAGES, ELECTRODE_DAMAGES].concat())
+    } else {
+        random.pick_weighted(DAMAGES)
+    };
     let mut sheet = damage(random);
     if random.chance(TWICE_PERCENT) {
         // Which of the two is met first depends on the order of the tests.
