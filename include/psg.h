@@ -28,7 +28,7 @@
 extern "C" {
 #endif
 
-/* How many rows, bytes or samples. */
+/* How many rows, bytes, samples or montage channels. */
 struct psg_counted {
     uint32_t refusal;
     uint64_t position;
@@ -45,7 +45,7 @@ struct psg_header {
 };
 
 /* All that the file header says: the spelling, 0 where the file begins with JSSR-SPG and 1 where it begins with
-   JSSR-PSG; the version and the form as numbers, 300 and 0; then as above. */
+   JSSR-PSG; the version as a number, 300, and the form, 0 for channels and 1 for electrodes; then as above. */
 struct psg_heading {
     uint32_t refusal;
     uint64_t position;
@@ -66,7 +66,8 @@ struct psg_facts {
     uint32_t seconds;
 };
 
-/* Record 125. The four calibration numbers are 32 bits each: floats where is_float is 1, else signed numbers. */
+/* Record 125, or 325: an electrode has no calibration frequency and no sensitivity, and both are 0. The four calibration
+   numbers are 32 bits each: floats where is_float is 1, else signed numbers. */
 struct psg_channel {
     uint32_t refusal;
     uint64_t position;
@@ -90,6 +91,14 @@ struct psg_channel {
     uint64_t unit_length;
     uint64_t comment;
     uint64_t comment_length;
+};
+
+/* Record 355: the refusal and the fields as a channel has them, of any value, then the inputs G1 and G2. The high 16 bits
+   of an input say what it is, 0 to 3; where they are 0, the low 16 bits are the serial of an electrode, or 0 for earth. */
+struct psg_montage {
+    struct psg_channel channel;
+    int32_t g1;
+    int32_t g2;
 };
 
 /* An item of a 130 or a 200. */
@@ -143,8 +152,12 @@ struct psg_heading psg_header(const uint8_t *file, size_t length);
 /* How many channels and frames a recording has, and the seconds of a frame. */
 struct psg_facts psg_facts(const uint8_t *file, size_t length, size_t recording);
 
-/* A channel that holds for a recording, its own or taken over. */
+/* A channel that holds for a recording, or an electrode, its own or taken over. */
 struct psg_channel psg_channel(const uint8_t *file, size_t length, size_t recording, size_t channel);
+
+/* How many channels a recording's own montage has: 0 where it has none. One of them; 19 where there is no montage. */
+struct psg_counted psg_montage_count(const uint8_t *file, size_t length, size_t recording);
+struct psg_montage psg_montage(const uint8_t *file, size_t length, size_t recording, size_t channel);
 
 /* An item of the 130 that holds for a recording; of the recording's own 200. */
 struct psg_item psg_patient_item(const uint8_t *file, size_t length, size_t recording, size_t item);

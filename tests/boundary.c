@@ -63,6 +63,11 @@ AT(psg_channel, unit_length, 96)
 AT(psg_channel, comment, 104)
 AT(psg_channel, comment_length, 112)
 
+SIZE(psg_montage, 128)
+AT(psg_montage, channel, 0)
+AT(psg_montage, g1, 120)
+AT(psg_montage, g2, 124)
+
 SIZE(psg_item, 40)
 AT(psg_item, refusal, 0)
 AT(psg_item, position, 8)
@@ -146,6 +151,11 @@ static void questions(const uint8_t *file, size_t n) {
     EXPECT(channel.refusal == 0 && channel.format == 1 && channel.rate == 1 && channel.is_float == 0);
     EXPECT(channel.label == 280 && channel.label_length == 16 && channel.comment == 404 && channel.comment_length == 60);
     EXPECT(psg_channel(file, n, 1, 2).refusal == 19);
+    struct psg_counted montage_count = psg_montage_count(file, n, 1);
+    EXPECT(montage_count.refusal == 0 && montage_count.count == 0);
+    EXPECT(psg_montage_count(file, n, 2).refusal == 19);
+    struct psg_montage montage = psg_montage(file, n, 1, 1);
+    EXPECT(montage.channel.refusal == 19 && montage.channel.position == 0 && montage.g1 == 0 && montage.g2 == 0);
     EXPECT(psg_patient_item(file, n, 1, 1).refusal == 19);
     EXPECT(psg_event_item(file, n, 1, 1).refusal == 19);
     EXPECT(psg_clock(file, n, 1, 1).refusal == 0);
@@ -155,6 +165,40 @@ static void questions(const uint8_t *file, size_t n) {
     EXPECT(sample.refusal == 0 && sample.is_float == 0 && sample.value == (int16_t)(file[544] | file[545] << 8));
     struct psg_view view = psg_view(file, n, 1, 1, 1);
     EXPECT(view.start == 544 && view.length == 2);
+}
+
+static void put(uint8_t *file, size_t at, uint32_t number) {
+    for (int i = 0; i < 4; i++) file[at + i] = number >> 8 * i & 255;
+}
+
+/* The smallest file as one of electrodes, with a montage: its channel's first input is electrode 1, the second a sum. A 325
+   has no frequency at 52 and no sensitivity at 64, a 355 has both. */
+static void electrodes(const uint8_t *small, size_t n) {
+    static uint8_t file[1024], out[1024], back[1024];
+    const uint32_t numbers[][2] = {
+        {32, 818},  {180, 320}, {212, 325}, {260, 7},   {272, 9},  {488, 288}, {492, 350}, {504, 1},
+        {508, 256}, {520, 256}, {524, 355}, {528, 1},   {572, 11}, {584, 13},  {624, 1},   {628, 65536},
+    };
+    memcpy(file, small, 488);
+    memcpy(file + 776, small + 488, n - 488);
+    n += 288;
+    file[15] = '1';
+    for (size_t i = 0; i < sizeof numbers / sizeof *numbers; i++) put(file, numbers[i][0], numbers[i][1]);
+    struct psg_heading heading = psg_header(file, n);
+    EXPECT(heading.refusal == 0 && heading.form == 1);
+    struct psg_channel electrode = psg_channel(file, n, 1, 1);
+    EXPECT(electrode.refusal == 0 && electrode.frequency == 0 && electrode.sensitivity == 0 && electrode.label == 280);
+    struct psg_counted count = psg_montage_count(file, n, 1);
+    EXPECT(count.refusal == 0 && count.count == 1);
+    struct psg_montage montage = psg_montage(file, n, 1, 1);
+    EXPECT(montage.channel.refusal == 0 && montage.channel.frequency == 11 && montage.channel.sensitivity == 13);
+    EXPECT(montage.channel.label == 592 && montage.channel.comment == 716 && montage.g1 == 1 && montage.g2 == 65536);
+    EXPECT(psg_montage(file, n, 1, 2).channel.refusal == 19);
+    EXPECT(psg_turn(file, n, out, sizeof out).count == n && psg_turn(out, n, back, sizeof back).count == n);
+    EXPECT(memcmp(back, file, n) == 0 && psg_montage(out, n, 1, 1).g1 == 1);
+    put(file, 624, 2);
+    montage = psg_montage(file, n, 1, 1);
+    EXPECT(montage.channel.refusal == 13 && montage.channel.position == 624 && montage.g1 == 0 && montage.g2 == 0);
 }
 
 int main(void) {
@@ -169,5 +213,6 @@ int main(void) {
     spellings(file, n);
     writing(file, n);
     questions(file, n);
+    electrodes(file, n);
     return failed;
 }

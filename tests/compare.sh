@@ -7,7 +7,7 @@
 set -euo pipefail
 cd "$(dirname "$0")/.."
 own=tests/corpus/files.tar.gz
-beside=${1:-../shared/corpus/files-2-3.tar.gz}
+beside=${1:-../shared/corpus/files-1-2-3.tar.gz}
 listing=$PWD/target/bin/listing
 seed=${SEED:-$(date +%s)}
 count=${COUNT:-5000}
@@ -24,7 +24,7 @@ compare_corpus() {
     folder=$(mktemp -d -p "$files")
     tar xzf "$1" -C "$folder"
     "$built/second" corpus "$folder/corpus"
-    for name in questions questions-old questions-3; do
+    for name in questions questions-old questions-3 questions-1; do
         asked=$folder/corpus/$name.ask
         [ -e "$asked" ] || continue
         "$built/ask" "$folder/corpus" <"$asked" | diff - "${asked%.ask}.ans"

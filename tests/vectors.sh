@@ -6,7 +6,7 @@ cd "$(dirname "$0")/.."
 (cd rust && cargo build --release --offline --quiet --package psg-second)
 files=$(mktemp -d)
 trap 'rm -rf "$files"' EXIT
-rust/target/release/second make "${SEED:-20261284}" "${COUNT:-250}" "$files" >/dev/null
+rust/target/release/second make "${SEED:-20261429}" "${COUNT:-250}" "$files" >/dev/null
 mkdir -p crates/vectors/data
 : >crates/vectors/data/vectors.bin
 : >crates/vectors/stdout

@@ -57,6 +57,20 @@ answers! {
     Sample { is_float: u32, value: i32, bits: u32 }
 }
 
+/// A montage's channel. What refuses it is the channel's.
+#[repr(C)]
+pub struct Montage {
+    pub channel: Channel,
+    pub g1: i32,
+    pub g2: i32,
+}
+
+impl Answer for Montage {
+    fn refusal(&self) -> (u32, u64) {
+        self.channel.refusal()
+    }
+}
+
 /// A part of the file; it is never refused.
 #[repr(C)]
 pub struct View {
@@ -92,6 +106,7 @@ layouts! {
         cal 40, cal_ad 44, offset_ad 48, offset_cal 52, frequency 56, low_cut 60, high_cut 64, sensitivity 68,
         label 72, label_length 80, unit 88, unit_length 96, comment 104, comment_length 112
     }
+    Montage, 128 { channel 0, g1 120, g2 124 }
     Item, 40 { refusal 0, position 8, code 16, text 24, text_length 32 }
     Clock, 32 { refusal 0, position 8, hour 16, minute 20, second 24 }
     Sample, 32 { refusal 0, position 8, is_float 16, value 20, bits 24 }
@@ -154,6 +169,8 @@ questions! {
     psg_header, header() -> Heading;
     psg_facts, facts(recording) -> Facts;
     psg_channel, channel(recording, channel) -> Channel;
+    psg_montage_count, montage_count(recording) -> Counted;
+    psg_montage, montage(recording, channel) -> Montage;
     psg_patient_item, patient_item(recording, item) -> Item;
     psg_event_item, event_item(recording, item) -> Item;
     psg_clock, clock(recording, frame) -> Clock;

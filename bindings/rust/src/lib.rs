@@ -68,7 +68,7 @@ pub struct Heading {
     pub spelling: Spelling,
     /// The version as a number: 300.
     pub version: u32,
-    /// The form as a number: 0.
+    /// The form as a number: 0 for channels, 1 for electrodes.
     pub form: u32,
     /// The byte order.
     pub order: Order,
@@ -81,7 +81,7 @@ pub struct Heading {
 /// M, F and T: how many channels and frames a recording has, and the seconds of a frame.
 #[derive(Clone, Copy, Debug, PartialEq, Eq)]
 pub struct Facts {
-    /// M, the channels.
+    /// M, the channels or electrodes.
     pub channels: u32,
     /// F, the frames.
     pub frames: u32,
@@ -114,14 +114,15 @@ pub enum Calibration {
     Numbers([i32; 4]),
 }
 
-/// A channel's descriptor, record 125.
+/// The descriptor of a channel or of an electrode, record 125 or 325; in a [`Montage`] that of a montage's channel, which
+/// may have any values.
 #[derive(Clone, Copy, Debug, PartialEq, Eq)]
 pub struct Channel {
-    /// The channel number.
+    /// The channel number, or the code of the electrode.
     pub number: i32,
     /// The flags; bit 0 says what the rate is.
     pub flags: i32,
-    /// The type, 0 to 18 or 20; 0 is OFF.
+    /// The type, 0 to 18 or 20, or 101 of an electrode; 0 is OFF.
     pub kind: i32,
     /// A sample is a signed number of 16, 24 or 32 bits (1, 2 and 3), or a float (4).
     pub format: i32,
@@ -129,13 +130,13 @@ pub struct Channel {
     pub rate: i32,
     /// The four calibration numbers.
     pub calibration: Calibration,
-    /// The calibration frequency.
+    /// The calibration frequency; 0 of an electrode, which has none.
     pub calibration_frequency: i32,
     /// The first filter.
     pub low_cut: i32,
     /// The second filter.
     pub high_cut: i32,
-    /// The sensitivity.
+    /// The sensitivity; 0 of an electrode, which has none.
     pub sensitivity: i32,
     /// The label.
     pub label: Text,
@@ -143,6 +144,18 @@ pub struct Channel {
     pub unit: Text,
     /// The comment.
     pub comment: Text,
+}
+
+/// A montage's channel, record 355.
+#[derive(Clone, Copy, Debug, PartialEq, Eq)]
+pub struct Montage {
+    /// Its descriptor.
+    pub channel: Channel,
+    /// The first input, G1. The high 16 bits say what it is, 0 to 3; where they are 0, the low 16 bits are the serial of an
+    /// electrode, or 0 for earth.
+    pub g1: i32,
+    /// The second input, G2.
+    pub g2: i32,
 }
 
 /// A patient's or an event's item.
@@ -274,11 +287,15 @@ pub fn facts(file: &[u8], recording: usize) -> Result<Facts, Refusal> {
     })
 }
 
-/// The descriptor of a channel that holds for a recording, its own or taken over.
+/// The descriptor of a channel that holds for a recording, or of an electrode, its own or taken over.
 pub fn channel(file: &[u8], recording: usize, channel: usize) -> Result<Channel, Refusal> {
-    let c = calls::channel(file, recording, channel).answer()?;
+    let answer = calls::channel(file, recording, channel).answer();
+    answer.map(descriptor)
+}
+
+fn descriptor(c: calls::Channel) -> Channel {
     let calibration = [c.cal, c.cal_ad, c.offset_ad, c.offset_cal];
-    Ok(Channel {
+    Channel {
         number: c.number,
         flags: c.flags,
         kind: c.kind,
@@ -295,6 +312,22 @@ pub fn channel(file: &[u8], recording: usize, channel: usize) -> Result<Channel,
         label: text(c.label, c.label_length),
         unit: text(c.unit, c.unit_length),
         comment: text(c.comment, c.comment_length),
+    }
+}
+
+/// How many channels a recording's own montage has: 0 where it has none.
+pub fn montage_count(file: &[u8], recording: usize) -> Result<usize, Refusal> {
+    let counted = calls::montage_count(file, recording).answer()?;
+    Ok(counted.count as usize)
+}
+
+/// A channel of a recording's own montage.
+pub fn montage(file: &[u8], recording: usize, channel: usize) -> Result<Montage, Refusal> {
+    let montage = calls::montage(file, recording, channel).answer()?;
+    Ok(Montage {
+        channel: descriptor(montage.channel),
+        g1: montage.g1,
+        g2: montage.g2,
     })
 }
 

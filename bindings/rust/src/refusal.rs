@@ -19,7 +19,7 @@ impl Refusal {
             1 => "the file is under 32 bytes long",
             2 => "the file begins with neither JSSR-SPG nor JSSR-PSG",
             3 => "the version is not 000300",
-            4 => "the form is not 00",
+            4 => "the form is neither 00 nor 01",
             5 => "the byte order is neither L nor B",
             6 => "the script letter is none of S, J, E and U",
             7 => "the number of recordings is not 1 to 64",

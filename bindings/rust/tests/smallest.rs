@@ -1,6 +1,6 @@
 //! The smallest file with samples (562 bytes): every call, and refusals in words.
 
-use psg::{Calibration, FloatBits, Header, Heading, Order, Refusal, Sample, Spelling};
+use psg::{Calibration, FloatBits, Header, Heading, Montage, Order, Refusal, Sample, Spelling};
 
 fn smallest() -> Vec<u8> {
     std::fs::read("../../crates/listing/stdin").expect("the sample file of `listing`")
@@ -11,13 +11,34 @@ fn floating(cal: u32, sample: u32) -> Vec<u8> {
     let mut file = smallest();
     file.splice(544..546, sample.to_le_bytes());
     // The sizes of the 10, the 140 and the 145, and the frame length.
-    let sizes = [(32, 532), (488, 60), (520, 28), (508, 28)];
-    let (format, cal) = ((236, 4), (244, cal));
-    for (at, number) in sizes.into_iter().chain([format, cal]) {
-        file[at..at + 4].copy_from_slice(&u32::to_le_bytes(number));
-    }
+    put(&mut file, &[(32, 532), (488, 60), (520, 28), (508, 28)]);
+    put(&mut file, &[(236, 4), (244, cal)]);
     file
 }
+
+fn put(file: &mut [u8], numbers: &[(usize, u32)]) {
+    for &(at, number) in numbers {
+        file[at..at + 4].copy_from_slice(&number.to_le_bytes());
+    }
+}
+
+/// The same as one of electrodes, with a montage of one channel: its inputs are electrode 1 and a sum. What stands at 52
+/// and 64 of the 325 is no frequency and no sensitivity.
+fn electrodes() -> Vec<u8> {
+    let mut file = smallest();
+    file[15] = b'1';
+    file.splice(488..488, [0; 288]);
+    put(&mut file, &[(32, 818), (180, 320), (212, 325)]);
+    put(&mut file, &[(488, 288), (492, 350), (504, 1), (508, 256)]);
+    put(&mut file, &[(520, 256), (524, 355), (528, 1)]);
+    put(&mut file, &[(260, 7), (272, 9), (572, 11), (584, 13)]);
+    put(&mut file, &[(G1, 1), (G2, 1 << 16)]);
+    file
+}
+
+/// The inputs of its montage's channel.
+const G1: usize = 624;
+const G2: usize = 628;
 
 /// Numbers, infinities, and NaNs: quiet and signalling, of either sign, with a payload.
 const FLOATS: [u32; 8] = [
@@ -203,6 +224,120 @@ fn neither_spelling_is_2() {
         );
         assert_eq!(psg::judge(&file), Err(refused));
         assert_eq!(psg::turned(&file), Err(refused));
+    }
+}
+
+#[test]
+fn a_montage_has_its_fields_and_its_inputs() {
+    let file = electrodes();
+    assert_eq!(psg::montage_count(&file, 1), Ok(1));
+    let Montage { channel, g1, g2 } = psg::montage(&file, 1, 1).unwrap();
+    assert_eq!((g1, g2), (1, 1 << 16));
+    assert_eq!(
+        (channel.calibration_frequency, channel.sensitivity),
+        (11, 13)
+    );
+    assert_eq!((channel.label.position, channel.label.length), (592, 16));
+    assert_eq!((channel.unit.position, channel.unit.length), (608, 16));
+    assert_eq!(
+        (channel.comment.position, channel.comment.length),
+        (716, 60)
+    );
+    for turned in [psg::turned(&file), psg::rewritten(&file, Order::Big)] {
+        let turned = turned.unwrap();
+        assert_eq!(psg::montage(&turned, 1, 1), psg::montage(&file, 1, 1));
+    }
+}
+
+#[test]
+fn a_montages_calibration_is_of_floats_where_its_format_is_4() {
+    let mut file = electrodes();
+    let calibration = |file: &[u8]| psg::montage(file, 1, 1).unwrap().channel.calibration;
+    put(&mut file, &[(548, 3), (556, FLOATS[0])]);
+    let numbers = [FLOATS[0] as i32, 0, 0, 0];
+    assert_eq!(calibration(&file), Calibration::Numbers(numbers));
+    for bits in FLOATS {
+        put(&mut file, &[(548, 4), (556, bits)]);
+        let floats = [bits, 0, 0, 0].map(FloatBits);
+        assert_eq!(calibration(&file), Calibration::Floats(floats));
+    }
+}
+
+#[test]
+fn an_electrode_has_neither_frequency_nor_sensitivity() {
+    let file = electrodes();
+    let electrode = psg::channel(&file, 1, 1).unwrap();
+    assert_eq!(electrode.calibration_frequency, 0);
+    assert_eq!(electrode.sensitivity, 0);
+    // As a channel it has both.
+    let mut file = smallest();
+    put(&mut file, &[(260, 7), (272, 9)]);
+    let channel = psg::channel(&file, 1, 1).unwrap();
+    assert_eq!((channel.calibration_frequency, channel.sensitivity), (7, 9));
+}
+
+#[test]
+fn the_header_has_the_form_and_both_writers_keep_it() {
+    for (file, form) in [(smallest(), 0), (electrodes(), 1)] {
+        assert_eq!(psg::header(&file).unwrap().form, form);
+        let turned = psg::turned(&file).unwrap();
+        assert_eq!(psg::header(&turned).unwrap().form, form);
+        assert_eq!(psg::turned(&turned), Ok(file.clone()));
+        for order in [Order::Little, Order::Big] {
+            let rewritten = psg::rewritten(&file, order).unwrap();
+            assert_eq!(psg::header(&rewritten).unwrap().form, form);
+        }
+    }
+    let mut file = electrodes();
+    file[15] = b'2';
+    let refused = psg::header(&file).unwrap_err();
+    assert_eq!(
+        refused.to_string(),
+        "refused 4 at 14: the form is neither 00 nor 01"
+    );
+}
+
+#[test]
+fn without_a_montage_there_is_no_channel_of_it() {
+    let outside = Refusal {
+        number: 19,
+        position: 0,
+    };
+    let file = smallest();
+    assert_eq!(psg::montage_count(&file, 1), Ok(0));
+    assert_eq!(psg::montage(&file, 1, 1), Err(outside));
+    assert_eq!(psg::montage_count(&file, 2), Err(outside));
+    let file = electrodes();
+    for channel in [0, 2, usize::MAX] {
+        assert_eq!(psg::montage(&file, 1, channel), Err(outside));
+    }
+    assert_eq!(psg::montage(&file, 0, 1), Err(outside));
+}
+
+#[test]
+fn an_input_names_an_electrode_or_what_it_is_made_of() {
+    for (number, accepted) in [
+        (0, true),
+        (1, true),
+        (2, false),
+        (0x3_ffff, true),
+        (0x4_0000, false),
+        (1 << 31, false),
+    ] {
+        for at in [G1, G2] {
+            let mut file = electrodes();
+            put(&mut file, &[(at, number)]);
+            let refused = psg::montage(&file, 1, 1).err();
+            let expected = Refusal {
+                number: 13,
+                position: at,
+            };
+            assert_eq!(
+                refused,
+                (!accepted).then_some(expected),
+                "{number:x} at {at}"
+            );
+        }
     }
 }
 

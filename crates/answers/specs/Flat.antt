@@ -23,6 +23,7 @@ use Rattle.questions.specs.declared.channels.Calibration.{Calibration}
 use Rattle.questions.specs.declared.channels.Calibration.the-variants as Calibration
 use Rattle.questions.specs.declared.channels.Descriptor.{Descriptor}
 use Rattle.questions.specs.declared.channels.Text.{Text}
+use Rattle.questions.specs.declared.channels.Wired.{Wired}
 use Rattle.questions.specs.declared.headers.Header as Asked
 use Rattle.questions.specs.declared.items.Entry.{Entry}
 use Rattle.answers.specs.declared.Channel.{Channel}
@@ -32,6 +33,7 @@ use Rattle.answers.specs.declared.Facts.{Facts}
 use Rattle.answers.specs.declared.Header.{Header}
 use Rattle.answers.specs.declared.Heading.{Heading}
 use Rattle.answers.specs.declared.Item.{Item}
+use Rattle.answers.specs.declared.Montage.{Montage}
 use Rattle.answers.specs.declared.Patterns.{Patterns}
 use Rattle.answers.specs.declared.Sample.{Sample}
 use Rattle.answers.specs.declared.View.{View}
@@ -153,6 +155,11 @@ flatChannel (refusal n p) = record {
   comment = 0;
   «comment_length» = 0;
 }
+
+-- with its inputs
+abbrev pub flatMontage : Answer Wired → Montage
+flatMontage (value x) = record { channel = flatChannel (value (x .channel)); g1 = x .g1; g2 = x .g2 }
+flatMontage (refusal n p) = record { channel = flatChannel (refusal n p); g1 = pos 0; g2 = pos 0 }
 
 abbrev pub flatItem : Answer Entry → Item
 flatItem (value x) = record { refusal = 0; position = 0; code = x .code; text = x .text .at; «text_length» = x .text .length }

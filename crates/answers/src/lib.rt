@@ -5,13 +5,17 @@ ghost use Rattle.words.specs.Numbers.{letterOf};
 ghost use Rattle.words.specs.Values.{unsigned};
 ghost use Rattle.permit.specs.Permit.{meaning};
 ghost use Rattle.recordings.specs.Answers.{value, refusal};
-ghost use Rattle.questions.specs.Meanings.{meaningH, meaningF, meaningD, meaningI, meaningT, meaningC, meaningS};
+ghost use Rattle.questions.specs.Meanings.{meaningH, meaningF, meaningD, meaningN, meaningM, meaningI, meaningT, meaningC, meaningS};
 ghost use Rattle.answers.specs.Flat.{counted, stopped, countedBytes, headed, unheaded};
-ghost use Rattle.answers.specs.Flat.{spellingNumber, flatHeading, flatFacts, patternsOf, flatChannel, flatItem, flatClock, flatCount, flatSample};
+ghost use Rattle.answers.specs.Flat.{spellingNumber, flatHeading, flatFacts, patternsOf, flatChannel, flatMontage};
+ghost use Rattle.answers.specs.Flat.{flatItem, flatClock, flatCount, flatSample};
 use permit::Written;
 use questions::channels::Calibration;
 use questions::channels::ChannelTold;
 use questions::channels::Descriptor;
+use questions::channels::MontageCountTold;
+use questions::channels::MontageTold;
+use questions::channels::Wired;
 use questions::headers::Header as HeaderValues;
 use questions::headers::HeaderTold;
 use questions::items::ItemTold;
@@ -24,7 +28,7 @@ use samples::Number;
 use samples::SampleTold;
 use words::Order;
 
-// How many rows, bytes or samples.
+// How many rows, bytes, samples or channels.
 #[repr(C)]
 pub struct Counted {
     pub refusal: u32,
@@ -90,6 +94,14 @@ pub struct Channel {
     pub unit_length: u64,
     pub comment: u64,
     pub comment_length: u64,
+}
+
+// A montage's channel: its descriptor, with the refusal, and its two inputs.
+#[repr(C)]
+pub struct Montage {
+    pub channel: Channel,
+    pub g1: i32,
+    pub g2: i32,
 }
 
 #[repr(C)]
@@ -372,6 +384,39 @@ pub fn channel_of(a: ChannelTold) -> Channel
     match a {
         ChannelTold::Channel(x) => channel_told(x),
         ChannelTold::Refused(r) => channel_refused(r),
+    }
+}
+
+pub fn montage_count_of(a: MontageCountTold) -> Counted
+    ensures { λ r. ⌜ r ≡ flatCount (meaningN a) ⌝ }
+{
+    match a {
+        MontageCountTold::Channels(n) => answered(n as usize),
+        MontageCountTold::Refused(r) => refused(r),
+    }
+}
+
+fn montage_told(x: Wired) -> Montage
+    ensures { λ r. ⌜ r ≡ flatMontage (value x) ⌝ }
+{
+    let channel = x.channel;
+    Montage {
+        channel: channel_told(channel),
+        g1: x.g1,
+        g2: x.g2,
+    }
+}
+
+pub fn montage_of(a: MontageTold) -> Montage
+    ensures { λ r. ⌜ r ≡ flatMontage (meaningM a) ⌝ }
+{
+    match a {
+        MontageTold::Channel(x) => montage_told(x),
+        MontageTold::Refused(r) => Montage {
+            channel: channel_refused(r),
+            g1: 0,
+            g2: 0,
+        },
     }
 }
 

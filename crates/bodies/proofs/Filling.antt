@@ -177,7 +177,7 @@ one-width u v h = cc
 one-several : {X : Type 0} {v : ℕ} → Widths.One v ≡ Widths.Several → X
 one-several h = zero-one (cc)
 
--- the samples of the channel whose 125 stands at byte q of the file, as the code reads it
+-- the samples of the channel whose sub stands at byte q of the file, as the code reads it
 module _ (w : Way) (file : List ℕ) (q t : ℕ) (flags format rate wide n : ℕ) (at20 : flags ≡ numberAt (w .from) 4 file (q + 20)) (at28 : format ≡ numberAt (w .from) 4 file (q + 28)) (at32 : rate ≡ numberAt (w .from) 4 file (q + 32))
     (isWide : wide ≡ width format) (isMany : n ≡ samplesOf t flags rate) (s d : List ℕ) (p : ℕ) (c : Channel) (cs : List Channel) (kept : Kept (w .from) file q (c ∷ cs)) where
   read-wide : wide ≡ width (c .format)
@@ -193,7 +193,7 @@ module _ (w : Way) (file : List ℕ) (q t : ℕ) (flags format rate wide n : ℕ
       (p + n * wide ≡ p + samplesIn t c * width (c .format)) × (put p k d ys ≡ pasted d p (copy w b s (b + p) (numberList (width (c .format)) (samplesIn t c))))
   samples-copied k ys e f numbers b = rw (← read-many, ← read-wide) (refl, piece-pasted w b s d ys (numberList wide n) p (n * wide) k (takes-numbers wide n) e f numbers)
 
--- channels whose samples are still to write, from byte p on; their 125s stand in the file from byte q on
+-- channels whose samples are still to write, from byte p on; their subs stand in the file from byte q on
 pub record Samples (w : Way) (file : List ℕ) (t b : ℕ) (s : List ℕ) (cs : List Channel) (n q p : ℕ) (d : List ℕ) : Type 0 where
   pub rest : List Channel
   pub count : length rest ≡ n

@@ -22,7 +22,10 @@ use Rattle.walk.proofs.Laid.{laid-text}
 use Rattle.walk.proofs.Seen.{part-bytes, length-bytesAt}
 use Rattle.walk.proofs.Tracing.{trace-give, written-append, written-none, written-piece, length-written}
 use Rattle.rules.specs.Rules as R
-use Rattle.bodies.specs.Copy.{copy}
+use Rattle.rules.specs.declared.Shape.{Shape}
+use Rattle.rules.proofs.Cases.{by-shape}
+use Rattle.records.specs.Says.{HasShape}
+use Rattle.bodies.specs.Copy.{copy, numbersOf}
 use Rattle.bodies.specs.Orders.{sameOrder}
 use Rattle.bodies.specs.declared.Way.{Way}
 
@@ -98,6 +101,11 @@ module _ {A B : Type 0} where
   reaches-bind (read κ n g) k at d e h f = λ bs. reaches-bind (g bs) k (at + n) d e (h bs) f
   reaches-bind (skip n v) k at d e h f = reaches-bind v k (at + n) d e h f
   reaches-bind (list p l c m v) k at d e h f = reaches-bind v k at d e h f
+
+  -- both, one after the other
+  takes-then : (n m : ℕ) (v : Walk A) (u : Walk B) → Takes n v → Takes m u → Takes (n + m) (v >> u)
+  unfolding _>>_
+  takes-then n m v u f g at = reaches-bind v (λ _. u) at (at + n) (at + (n + m)) (f at) (λ _. rw (← add-assoc) (g (at + n)))
 
 module _ {A B : Type 0} (o : Order) (b : ℕ) (s : List ℕ) where
   -- one walk after the other, where what follows is the same whatever was read
@@ -255,15 +263,29 @@ pub text-whole : (w : Way) (b : ℕ) (s : List ℕ) (n : ℕ) → length s ≡ n
 unfolding bytesAt
 text-whole w b s n l = sym (copy-text w b s b n ∙ rw sub-self (take-all n s (omega arith)))
 
-pub takes-texts : (m n : ℕ) → Takes (m + n) (text m >> text n)
-unfolding _>>_ _>>=_
-takes-texts m n at = λ _ _. omega arith
-
 pub texts-whole : (w : Way) (b : ℕ) (s : List ℕ) (m n : ℕ) → length s ≡ m + n → s ≡ copy w b s b (text m >> text n)
 unfolding bytesAt
 texts-whole w b s m n l =
     let d : b + m - b ≡ m = omega arith in
     sym (copy-next w b s m (text m) (takes-text m) b (text n) ∙ rw (copy-text w b s b m, copy-text w b s (b + m) n, sub-self, d) (sym (take-add m n s) ∙ take-all (m + n) s (omega arith)))
+
+-- a number that is a field, or reserve
+takes-field : (is : Bool) (ok : ℕ → Bool) → Takes 4 (R.fieldIf is ok)
+unfolding R.fieldIf
+takes-field true ok at = λ _. refl
+takes-field false ok at = refl
+
+reaches-field : {A : Type 0} (is : Bool) (ok : ℕ → Bool) (f : ℕ → Walk A) (at e : ℕ) → ((n : ℕ) → Reaches e (at + 4) (f n)) → Reaches e at (R.fieldIf is ok >>= f)
+reaches-field is ok f at e h = reaches-bind (R.fieldIf is ok) f at (at + 4) e (takes-field is ok at) h
+
+module _ (w : Way) (b : ℕ) (s : List ℕ) (ok : ℕ → Bool) where
+  pub field-number : (is : Bool) → is ≡ true → copy w b s b (R.numberList 4 1) ≡ copy w b s b (R.fieldIf is ok)
+  unfolding R.numberList R.fieldIf trace _>>=_
+  field-number is e = rw e
+
+  pub field-reserved : (is : Bool) → is ≡ false → length s ≡ 4 → copy w b s b (reserve (length s)) ≡ copy w b s b (R.fieldIf is ok)
+  unfolding R.fieldIf trace
+  field-reserved is e l = rw (e, l)
 
 -- events that are written the same
 same-written : (keep : Bool) (o : Order) (t u : List Event) → render o t ≡ render o u → render o (cleared t) ≡ render o (cleared u) → written keep o t ≡ written keep o u
@@ -271,20 +293,32 @@ same-written true o t u h g = h
 same-written false o t u h g = g
 
 -- the body of a 100
-abbrev basicBodyPieces : Walk (Unit {0})
-basicBodyPieces = R.numberList 4 3 >> (reserve 4 >> (R.numberList 4 6 >> (text 20 >> (R.numberList 4 1 >> (reserve 16 >> (text 32 >> give tt))))))
+abbrev basicBodyPieces : Walk (List ℕ)
+basicBodyPieces = R.numberList 4 3 >> (reserve 4 >> (R.numberList 4 6 >> (text 20 >> (R.numberList 4 1 >> (reserve 16 >> text 32)))))
 
 copy-basicBody : (w : Way) (b : ℕ) (s : List ℕ) (at : ℕ) → copy w b s at R.basicBody ≡ copy w b s at basicBodyPieces
 unfolding R.numberList R.basicBody trace render cleared _>>=_ _>>_
 copy-basicBody w b s at = same-written (w .keep) (w .to) (trace (w .from) b s at R.basicBody) (trace (w .from) b s at basicBodyPieces) refl refl
 
--- a 125 with its head
-abbrev channelPieces : Walk (Unit {0})
-channelPieces = R.numberList 4 17 >> (reserve 4 >> ((text 16 >> text 16) >> (reserve 92 >> (text 60 >> give tt))))
+-- the numbers of a sub, and the sub with its head
+takes-numbersOf : (calibrated : Bool) → Takes 68 (numbersOf calibrated)
+unfolding numbersOf
+takes-numbersOf calibrated =
+    let f = takes-field calibrated R.anything in
+    takes-then 52 16 _ _ (takes-numbers 4 13) (takes-then 4 12 _ _ f (takes-then 8 4 _ _ (takes-numbers 4 2) f))
 
-copy-channel : (w : Way) (b : ℕ) (s : List ℕ) (at room i : ℕ) → copy w b s at (R.channel room i) ≡ copy w b s at channelPieces
-unfolding R.numberList R.fixed R.head R.admit R.channelBody trace render cleared _>>=_ _>>_
-copy-channel w b s at room i = same-written (w .keep) (w .to) (trace (w .from) b s at (R.channel room i)) (trace (w .from) b s at channelPieces) refl refl
+abbrev channelPieces : Bool → Bool → Walk (List ℕ)
+channelPieces calibrated wired =
+    numbersOf calibrated >> (reserve 4 >> ((text 16 >> text 16) >> (R.fieldIf wired R.anything >> (R.fieldIf wired R.anything >> (reserve 84 >> text 60)))))
+
+copy-channel : (u : R.Sub) (w : Way) (b : ℕ) (s : List ℕ) (at room i : ℕ) → copy w b s at (R.channel u room i) ≡ copy w b s at (channelPieces (u .calibrated) (u .wired))
+unfolding R.numberList R.fixed R.head R.admit R.channelBody R.fieldIf numbersOf trace render cleared _>>=_ _>>_
+copy-channel =
+    by-shape (λ u. (w : Way) (b : ℕ) (s : List ℕ) (at room i : ℕ) → copy w b s at (R.channel u room i) ≡ copy w b s at (channelPieces (u .calibrated) (u .wired)))
+    (λ u w b s at room i. same-written (w .keep) (w .to) _ _ refl refl)
+    (λ u w b s at room i. same-written (w .keep) (w .to) _ _ refl refl)
+    (λ u w b s at room i. same-written (w .keep) (w .to) _ _ refl refl)
+    (λ u w b s at room i. same-written (w .keep) (w .to) _ _ refl refl)
 
 length-part : (s : List ℕ) (n m : ℕ) → n + m ≤ length s → length (take m (drop n s)) ≡ m
 length-part s n m f = length-take-le m (drop n s) (rw length-drop (omega arith))
@@ -297,20 +331,30 @@ module _ {A D : Type 0} (w : Way) (b : ℕ) (s d : List ℕ) (u : Walk A) (y : W
   left-reserve m f h =
       left-next w b s d u n m ys (reserve m) y (takes-reserve m) f (λ c. h c ∙ ap (λ (x : ℕ). copy w c (take m (drop n s)) c (reserve x)) (length-part s n m f))
 
+  left-field : (is : Bool) → n + 4 ≤ length s → ((c : ℕ) (ok : ℕ → Bool) → ys ≡ copy w c (take 4 (drop n s)) c (R.fieldIf is ok)) → Left w b s d n u (R.fieldIf is R.anything >> y) → Left w b s (put n 4 d ys) (n + 4) u y
+  left-field is f h = left-next w b s d u n 4 ys (R.fieldIf is R.anything) y (takes-field is R.anything) f (λ c. h c R.anything)
+
   pub left-text : (m : ℕ) → n + m ≤ length s → ys ≡ take m (drop n s) → Left w b s d n u (text m >> y) → Left w b s (put n m d ys) (n + m) u y
   left-text m f h =
       left-next w b s d u n m ys (text m) y (takes-text m) f (λ c. h ∙ text-whole w c (take m (drop n s)) m (length-part s n m f))
 
   pub left-texts : (m k : ℕ) → n + (m + k) ≤ length s → ys ≡ take (m + k) (drop n s) → Left w b s d n u (text m >> text k >> y) → Left w b s (put n (m + k) d ys) (n + (m + k)) u y
   left-texts m k f h =
-      left-next w b s d u n (m + k) ys (text m >> text k) y (takes-texts m k) f (λ c. h ∙ texts-whole w c (take (m + k) (drop n s)) m k (length-part s n (m + k) f))
+      left-next w b s d u n (m + k) ys (text m >> text k) y (takes-then m k (text m) (text k) (takes-text m) (takes-text k)) f (λ c. h ∙ texts-whole w c (take (m + k) (drop n s)) m k (length-part s n (m + k) f))
 
--- a text that goes up to the end comes last
-pub left-end : {A B : Type 0} (w : Way) (b : ℕ) (s d : List ℕ) (u : Walk A) (n : ℕ) (ys : List ℕ) (m : ℕ) (x : B) → length s ≡ n + m → ys ≡ take (length s - n) (drop n s) → Left w b s d n u (text m >> give x) → put n (length d - n) d ys ≡ copy w b s b u
-left-end w b s d u n ys m x f h l =
+-- a piece that goes up to the end comes last
+left-end : {A B : Type 0} (w : Way) (b : ℕ) (s d : List ℕ) (u : Walk A) (n : ℕ) (ys : List ℕ) (m : ℕ) (v : Walk B) → Takes m v → length s ≡ n + m → ((c : ℕ) → ys ≡ copy w c (take (length s - n) (drop n s)) c v) → Left w b s d n u v → put n (length d - n) d ys ≡ copy w b s b u
+unfolding trace
+left-end w b s d u n ys m v takes f h l =
     let i : length s - n ≡ m = omega arith in
     let j : length d - n ≡ m = omega (arith, l .long) in
-    rw j (left-nothing w b s (put n m d ys) u (n + m) x (sym f) (left-text w b s d u (give x) n ys m (omega arith) (rw i at h) l))
+    rw j
+    (left-nothing w b s (put n m d ys) u (n + m) ys (sym f)
+    (left-more w b s d u n m ys v v (give ys) takes (omega arith) (rw (written-none, append-nil)) (rw i at h) l))
+
+left-end-text : {A : Type 0} (w : Way) (b : ℕ) (s d : List ℕ) (u : Walk A) (n : ℕ) (ys : List ℕ) (m : ℕ) → length s ≡ n + m → ys ≡ take (length s - n) (drop n s) → Left w b s d n u (text m) → put n (length d - n) d ys ≡ copy w b s b u
+left-end-text w b s d u n ys m f h =
+    left-end w b s d u n ys m (text m) (takes-text m) f (λ c. h ∙ text-whole w c _ m (length-part s n (length s - n) (omega arith) ∙ omega arith))
 
 module _ (w : Way) (s : List ℕ) where
   -- what a call wrote in the place of a piece that begins at n
@@ -325,7 +369,7 @@ module _ (w : Way) (s : List ℕ) where
       let d₆ = put 64 16 (put 60 4 (put 40 20 (put 16 24 (put 12 4 (put 0 12 d y₁) y₂) y₃) y₄) y₅) y₆ in
       (b : ℕ) → put 80 (length d₆ - 80) d₆ y₇ ≡ copy w b s b R.basicBody
   basicBody-written d y₁ y₂ y₃ y₄ y₅ y₆ y₇ l k h₁ h₂ h₃ h₄ h₅ h₆ h₇ b =
-      left-end w b s _ R.basicBody 80 y₇ 32 tt l h₇
+      left-end-text w b s _ R.basicBody 80 y₇ 32 l h₇
       (left-reserve w b s _ R.basicBody _ 64 y₆ 16 (omega arith) h₆
       (left-numbers w b s _ R.basicBody _ 60 y₅ 4 1 (omega arith) h₅
       (left-text w b s _ R.basicBody _ 40 y₄ 20 (omega arith) h₄
@@ -333,22 +377,43 @@ module _ (w : Way) (s : List ℕ) where
       (left-reserve w b s _ R.basicBody _ 12 y₂ 4 (omega arith) h₂
       (left-numbers w b s d R.basicBody _ 0 y₁ 4 3 (omega arith) h₁ (left-whole w b s d R.basicBody basicBodyPieces k (copy-basicBody w b s b))))))))
 
-  pub channel-written : (d y₁ y₂ y₃ y₄ y₅ : List ℕ) → length s ≡ 256 → length d ≡ length s →
-      Numbers y₁ 0 17 → Reserved y₂ 68 4 → y₃ ≡ take 32 (drop 72 s) → Reserved y₄ 104 92 → y₅ ≡ take (length s - 196) (drop 196 s) →
-      let d₄ = put 104 92 (put 72 32 (put 68 4 (put 0 68 d y₁) y₂) y₃) y₄ in
-      (b room i : ℕ) → put 196 (length d₄ - 196) d₄ y₅ ≡ copy w b s b (R.channel room i)
-  channel-written d y₁ y₂ y₃ y₄ y₅ l k h₁ h₂ h₃ h₄ h₅ b room i =
-      left-end w b s _ (R.channel room i) 196 y₅ 60 tt l h₅
-      (left-reserve w b s _ (R.channel room i) _ 104 y₄ 92 (omega arith) h₄
-      (left-texts w b s _ (R.channel room i) _ 72 y₃ 16 16 (omega arith) h₃
-      (left-reserve w b s _ (R.channel room i) _ 68 y₂ 4 (omega arith) h₂
-      (left-numbers w b s d (R.channel room i) _ 0 y₁ 4 17 (omega arith) h₁ (left-whole w b s d (R.channel room i) channelPieces k (copy-channel w b s b room i))))))
+  abbrev pub FieldIf : List ℕ → ℕ → Bool → Type 0
+  FieldIf ys n is = (c : ℕ) (ok : ℕ → Bool) → ys ≡ copy w c (take 4 (drop n s)) c (R.fieldIf is ok)
 
--- the body of a 120
+  pub numbers-written : (is : Bool) (d y₁ y₂ y₃ y₄ : List ℕ) → length s ≡ 68 → length d ≡ length s →
+      Numbers y₁ 0 13 → FieldIf y₂ 52 is → Numbers y₃ 56 2 → ((c : ℕ) (ok : ℕ → Bool) → y₄ ≡ copy w c (take (length s - 64) (drop 64 s)) c (R.fieldIf is ok)) →
+      let d₃ = put 56 8 (put 52 4 (put 0 52 d y₁) y₂) y₃ in
+      (b : ℕ) → put 64 (length d₃ - 64) d₃ y₄ ≡ copy w b s b (numbersOf is)
+  unfolding numbersOf
+  numbers-written is d y₁ y₂ y₃ y₄ l k h₁ h₂ h₃ h₄ b =
+      left-end w b s _ (numbersOf is) 64 y₄ 4 (R.fieldIf is R.anything) (takes-field is R.anything) l (λ c. h₄ c R.anything)
+      (left-numbers w b s _ (numbersOf is) _ 56 y₃ 4 2 (omega arith) h₃
+      (left-field w b s _ (numbersOf is) _ 52 y₂ is (omega arith) h₂
+      (left-numbers w b s d (numbersOf is) _ 0 y₁ 4 13 (omega arith) h₁ (left-whole w b s d (numbersOf is) (numbersOf is) k refl))))
 
-pub takes-channel : (room i : ℕ) → Takes 256 (R.channel room i)
+  pub channel-written : (k : Shape) (d y₁ y₂ y₃ y₄ y₅ y₆ y₇ : List ℕ) → length s ≡ 256 → length d ≡ length s →
+      ((c : ℕ) → y₁ ≡ copy w c (take 68 s) c (numbersOf (k .calibrated))) → Reserved y₂ 68 4 → y₃ ≡ take 32 (drop 72 s) → FieldIf y₄ 104 (k .wired) → FieldIf y₅ 108 (k .wired) → Reserved y₆ 112 84 → y₇ ≡ take (length s - 196) (drop 196 s) →
+      let d₆ = put 112 84 (put 108 4 (put 104 4 (put 72 32 (put 68 4 (put 0 68 d y₁) y₂) y₃) y₄) y₅) y₆ in
+      (b room i : ℕ) (u : R.Sub) → HasShape u k → put 196 (length d₆ - 196) d₆ y₇ ≡ copy w b s b (R.channel u room i)
+  channel-written k d y₁ y₂ y₃ y₄ y₅ y₆ y₇ l e h₁ h₂ h₃ h₄ h₅ h₆ h₇ b room i u a =
+      let v = R.channel u room i in
+      left-end-text w b s _ v 196 y₇ 60 l h₇
+      (left-reserve w b s _ v _ 112 y₆ 84 (omega arith) h₆
+      (left-field w b s _ v _ 108 y₅ (k .wired) (omega arith) h₅
+      (left-field w b s _ v _ 104 y₄ (k .wired) (omega arith) h₄
+      (left-texts w b s _ v _ 72 y₃ 16 16 (omega arith) h₃
+      (left-reserve w b s _ v _ 68 y₂ 4 (omega arith) h₂
+      (left-next w b s d v 0 68 y₁ (numbersOf (k .calibrated)) _ (takes-numbersOf (k .calibrated)) (omega arith) h₁
+      (left-whole w b s d v (channelPieces (k .calibrated) (k .wired)) e (rw (← a .calibrated, ← a .wired) (copy-channel u w b s b room i)))))))))
+
+-- the body of a 120, a 320 or a 350
+
+pub takes-channel : (u : R.Sub) (room i : ℕ) → Takes 256 (R.channel u room i)
 unfolding R.fixed R.head R.admit R.channelBody _>>=_ _>>_
-takes-channel room i at = λ _ _ _ _ _ _ _ _ _ _ _ _ _ _ _ _ _ _ _ _. omega arith
+takes-channel u room i at =
+    let cal = reaches-field (u .calibrated) R.anything in
+    let input = reaches-field (u .wired) (u .input) in
+    λ _ _ _ _ _ _ _ _ _ _ _ _ _. cal _ _ _ λ _. λ _ _. cal _ _ _ λ _. λ _ _. input _ _ _ λ _. input _ _ _ λ _. λ _. omega arith
 
 -- the first of walks that stand one after the other, and the others
 pub copy-series : {A : Type 0} (w : Way) (b : ℕ) (s : List ℕ) (at n i step room : ℕ) (v : ℕ → ℕ → Walk A) → Takes step (v room i) →
@@ -358,52 +423,53 @@ copy-series w b s at n i step room v takes =
     copy-follows w b s step (v room i) takes at (λ a. R.series n (suc i) step (room - step) v >>= λ l. give (a ∷ l)) (R.series n (suc i) step (room - step) v)
     (λ a. trace-give (w .from) b s (at + step) (R.series n (suc i) step (room - step) v) (λ l. a ∷ l))
 
-copy-channels : (w : Way) (b : ℕ) (s : List ℕ) (c : R.Basic) (n m : ℕ) → numberAt (w .from) 4 s 0 ≡ m → copy w b s b (R.channelsBody c n) ≡ copy w b s b (R.numberList 4 2 >> (reserve 8 >> R.series m 1 256 (n - 32) R.channel))
+copy-channels : (w : Way) (b : ℕ) (s : List ℕ) (g : R.Group) (n m : ℕ) → numberAt (w .from) 4 s 0 ≡ m → copy w b s b (R.channelsBody g n) ≡ copy w b s b (R.numberList 4 2 >> (reserve 8 >> R.series m 1 256 (n - 32) (R.channel (g .sub))))
 unfolding R.numberList R.channelsBody trace render cleared _>>=_ _>>_
-copy-channels w b s c n m h =
+copy-channels w b s g n m h =
     let e : numberAt (w .from) 4 s (b - b) ≡ m = rw sub-self h in
-    same-written (w .keep) (w .to) (trace (w .from) b s b (R.channelsBody c n)) (trace (w .from) b s b (R.numberList 4 2 >> (reserve 8 >> R.series m 1 256 (n - 32) R.channel))) (rw e) (rw e)
+    same-written (w .keep) (w .to) (trace (w .from) b s b (R.channelsBody g n)) (trace (w .from) b s b (R.numberList 4 2 >> (reserve 8 >> R.series m 1 256 (n - 32) (R.channel (g .sub))))) (rw e) (rw e)
 
--- i of the m channels are written
-pub record SoFar (w : Way) (m : ℕ) (s d : List ℕ) (at i : ℕ) : Type 0 where
+-- i of the m subs of this shape are written
+pub record SoFar (w : Way) (k : Shape) (m : ℕ) (s d : List ℕ) (at i : ℕ) : Type 0 where
   pub place : at ≡ 16 + 256 * i
   pub within : i ≤ m
   pub whole : length s ≡ 16 + 256 * m
   pub long : length d ≡ length s
-  pub left : (b n : ℕ) (c : R.Basic) → numberAt (w .from) 4 s 0 ≡ m → Left w b s d at (R.channelsBody c n) (R.series (m - i) (suc i) 256 (n - 32 - 256 * i) R.channel)
+  pub left : (b n : ℕ) (g : R.Group) → HasShape (g .sub) k → numberAt (w .from) 4 s 0 ≡ m → Left w b s d at (R.channelsBody g n) (R.series (m - i) (suc i) 256 (n - 32 - 256 * i) (R.channel (g .sub)))
 
-module _ (w : Way) (m : ℕ) (s d : List ℕ) where
-  pub channels-front : (y₁ y₂ : List ℕ) → length s ≡ 16 + 256 * m → length d ≡ length s → length (put 8 8 (put 0 8 d y₁) y₂) ≡ length d → Numbers w s y₁ 0 2 → Reserved w s y₂ 8 8 → SoFar w m s (put 8 8 (put 0 8 d y₁) y₂) 16 0
-  channels-front y₁ y₂ f l k h₁ h₂ =
+module _ (w : Way) (k : Shape) (m : ℕ) (s d : List ℕ) where
+  pub channels-front : (y₁ y₂ : List ℕ) → length s ≡ 16 + 256 * m → length d ≡ length s → length (put 8 8 (put 0 8 d y₁) y₂) ≡ length d → Numbers w s y₁ 0 2 → Reserved w s y₂ 8 8 → SoFar w k m s (put 8 8 (put 0 8 d y₁) y₂) 16 0
+  channels-front y₁ y₂ f l o h₁ h₂ =
       record {
         place = omega arith;
         within = omega arith;
         whole = f;
-        long = k ∙ l;
-        left = λ b n c e.
+        long = o ∙ l;
+        left = λ b n g a e.
             rw (sub-zero m, sub-zero (n - 32))
-            (left-reserve w b s _ (R.channelsBody c n) _ 8 y₂ 8 (omega arith) h₂
-            (left-numbers w b s d (R.channelsBody c n) _ 0 y₁ 4 2 (omega arith) h₁ (left-whole w b s d (R.channelsBody c n) _ l (copy-channels w b s c n m e))));
+            (left-reserve w b s _ (R.channelsBody g n) _ 8 y₂ 8 (omega arith) h₂
+            (left-numbers w b s d (R.channelsBody g n) _ 0 y₁ 4 2 (omega arith) h₁ (left-whole w b s d (R.channelsBody g n) _ l (copy-channels w b s g n m e))));
       }
 
-  pub channels-more : (at i k e : ℕ) (ys : List ℕ) → i < m → k ≡ 256 → e ≡ at + 256 → length (put at k d ys) ≡ length d → ((b room j : ℕ) → ys ≡ copy w b (take k (drop at s)) b (R.channel room j)) → SoFar w m s d at i → SoFar w m s (put at k d ys) e (i + 1)
-  channels-more at i k e ys f l g o h q =
+  pub channels-more : (at i z e : ℕ) (ys : List ℕ) → i < m → z ≡ 256 → e ≡ at + 256 → length (put at z d ys) ≡ length d → ((b room j : ℕ) (u : R.Sub) → HasShape u k → ys ≡ copy w b (take z (drop at s)) b (R.channel u room j)) → SoFar w k m s d at i → SoFar w k m s (put at z d ys) e (i + 1)
+  channels-more at i z e ys f l t o h q =
       record {
         place = omega (arith, q .place);
         within = omega arith;
         whole = q .whole;
         long = o ∙ q .long;
-        left = λ b n c x.
+        left = λ b n g a x.
+            let u = R.channel (g .sub) in
             let r = n - 32 - 256 * i in
             let y : m - i ≡ suc (m - suc i) = omega arith in
-            let z : n - 32 - 256 * (i + 1) ≡ r - 256 = omega arith in
-            rw (l, g, z, add-one)
-            (left-more w b s d (R.channelsBody c n) at 256 ys _ (R.channel r (suc i)) (R.series (m - suc i) (suc (suc i)) 256 (r - 256) R.channel) (takes-channel r (suc i)) (omega (arith, q .place, q .whole))
-            (copy-series w b s (b + at) (m - suc i) (suc i) 256 r R.channel (takes-channel r (suc i))) (λ p. rw l at (h p r (suc i))) (rw y at (q .left b n c x)));
+            let v : n - 32 - 256 * (i + 1) ≡ r - 256 = omega arith in
+            rw (l, t, v, add-one)
+            (left-more w b s d (R.channelsBody g n) at 256 ys _ (u r (suc i)) (R.series (m - suc i) (suc (suc i)) 256 (r - 256) u) (takes-channel (g .sub) r (suc i)) (omega (arith, q .place, q .whole))
+            (copy-series w b s (b + at) (m - suc i) (suc i) 256 r u (takes-channel (g .sub) r (suc i))) (λ p. rw l at (h p r (suc i) (g .sub) a)) (rw y at (q .left b n g a x)));
       }
 
-  pub channels-all : (at i : ℕ) → i ≡ m → SoFar w m s d at i → (b n : ℕ) (c : R.Basic) → numberAt (w .from) 4 s 0 ≡ m → d ≡ copy w b s b (R.channelsBody c n)
+  pub channels-all : (at i : ℕ) → i ≡ m → SoFar w k m s d at i → (b n : ℕ) (g : R.Group) → HasShape (g .sub) k → numberAt (w .from) 4 s 0 ≡ m → d ≡ copy w b s b (R.channelsBody g n)
   unfolding R.series
-  channels-all at i f q b n c e =
+  channels-all at i f q b n g a e =
       let z : m - i ≡ 0 = omega arith in
-      left-nothing w b s d (R.channelsBody c n) at [] (omega (arith, q .place, q .whole)) (rw z at (q .left b n c e))
+      left-nothing w b s d (R.channelsBody g n) at [] (omega (arith, q .place, q .whole)) (rw z at (q .left b n g a e))

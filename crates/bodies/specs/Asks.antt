@@ -31,18 +31,18 @@ pub record OneWidth (width : ℕ) (s d : List ℕ) : Type 0 where
   -- the samples stand behind the clock
   pub clock : AtLeast 8 s d
 
--- the samples from byte p of s on of the channel whose 125 stands at byte q of the file
+-- the samples from byte p of s on of the channel whose sub stands at byte q of the file
 pub record SamplesPart (file : List ℕ) (q t : ℕ) (s : List ℕ) (p : ℕ) (d : List ℕ) : Type 0 where
-  -- the 125 is in it
+  -- the sub is in it
   pub described : q + 256 ≤ length file
   -- the longest frame
   pub seconds : t ≤ 3600
   -- the samples start in s or at its end
   pub part : AtLeast p s d
 
--- s is a frame's clock and its samples, as the records 125 at cs describe them
+-- s is a frame's clock and its samples, as the subs at cs describe them
 pub record FramePart (o : Order) (file : List ℕ) (cs : Channels) (widths : Widths) (t : ℕ) (s d : List ℕ) : Type 0 where
-  -- the 125s are in the file
+  -- the subs are in the file
   pub channels : cs .subs + 256 * cs .count ≤ length file
   -- these are the widths that they give
   pub wide : widths ≡ widthsIn o file (cs .subs) (cs .count)

@@ -28,11 +28,15 @@ Pastes out out′ k k′ xs = (k + length xs ≤ length out → (k′ ≡ k + le
 abbrev pub HoldsFrom : List ℕ → List ℕ → ℕ → List ℕ → Type 0
 HoldsFrom out out′ k xs = (k + length xs ≤ length out → out′ ≡ pasted out k xs)
 
+-- a sub's numbers, with its head's, up to its reserve: those at 52 and 64 are fields, or reserve
+unfoldable pub numbersOf : Bool → Walk ℕ
+numbersOf calibrated = R.numberList 4 13 >> (R.fieldIf calibrated R.anything >> (R.numberList 4 2 >> R.fieldIf calibrated R.anything))
+
 -- a frame's clock and its samples, without what pads it
 unfoldable pub filling : ℕ → List R.Channel → Walk (List (List ℕ))
 filling t cs = R.numberList 2 3 >> (reserve 2 >> R.samples t cs)
 
--- the samples of the n channels whose 125s stand in the file from byte q on are all v bytes wide
+-- the samples of the n channels whose subs stand in the file from byte q on are all v bytes wide
 unfoldable pub allWide : Order → List ℕ → ℕ → ℕ → ℕ → Bool
 allWide o file q zero v = true
 allWide o file q (suc n) v = eqb (R.width (numberAt o 4 file (q + 28))) v && allWide o file (q + 256) n v

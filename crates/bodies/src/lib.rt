@@ -11,8 +11,8 @@ ghost use Rattle.words.specs.Numbers.{numberAt};
 ghost use Rattle.words.specs.Runs.{pasted};
 ghost use Rattle.walk.specs.See.{see, goes};
 ghost use Rattle.rules.specs.Rules as R;
-ghost use Rattle.records.specs.Says.{Kept};
-ghost use Rattle.bodies.specs.Copy.{copy, filling, widthsIn};
+ghost use Rattle.records.specs.Says.{Kept, HasShape};
+ghost use Rattle.bodies.specs.Copy.{copy, numbersOf, filling, widthsIn};
 ghost use Rattle.bodies.specs.Asks.{Both, AtLeast, OneWidth, SamplesPart, FramePart};
 use crate::runs::numbers;
 use crate::runs::reserved;
@@ -25,12 +25,15 @@ use rules::Frames;
 use rules::Head;
 use rules::Item;
 use rules::Items;
+use rules::Label;
+use rules::Shape;
 use words::Order;
 use words::number4;
 
-// From the file's order to another or the same; `keep`: reserve areas stand as they are, else they are zero.
+// From the file's order to another or the same, in a file with this label; `keep`: reserve areas stand as they are, else they are zero.
 pub struct Way {
     pub from: Order,
+    pub label: Label,
     pub to: Order,
     pub keep: bool,
 }
@@ -84,15 +87,59 @@ pub fn basic_body(w: Way, s: &[u8], d: &mut [u8])
     copy_run(&s[Basic::BODY_COMMENT..], &mut d[Basic::BODY_COMMENT..]);
 }
 
-// A record 125.
-fn channel(w: Way, s: &[u8], d: &mut [u8])
-    requires { ⌜ Both 256 (now s) (now d) ⌝ }
-    ensures { λ _. ⌜ ((b room i : ℕ) → now (d .exit) ≡ copy w b (now (s .entry)) b (R.channel room i)) ⌝ }
+// A number that is a field of some subs and reserve in others.
+fn number_if(w: Way, is: bool, s: &[u8], d: &mut [u8])
+    requires { ⌜ Both 4 (now s) (now d) ⌝ }
+    ensures { λ _. ⌜ ((b : ℕ) (ok : ℕ → Bool) → now (d .exit) ≡ copy w b (now (s .entry)) b (R.fieldIf is ok)) ⌝ }
+{
+    if is {
+        numbers(w, Head::WIDTH, 1, s, d);
+        return;
+    }
+    reserved(w, s, d);
+}
+
+// A sub's numbers up to its reserve, with its head's.
+fn channel_numbers(w: Way, calibrated: bool, s: &[u8], d: &mut [u8])
+    requires { ⌜ Both 68 (now s) (now d) ⌝ }
+    ensures { λ _. ⌜ ((b : ℕ) → now (d .exit) ≡ copy w b (now (s .entry)) b (numbersOf calibrated)) ⌝ }
 {
     numbers(
         w,
         Head::WIDTH,
         Channel::NUMBERS,
+        &s[..Channel::CAL_FREQUENCY],
+        &mut d[..Channel::CAL_FREQUENCY],
+    );
+    number_if(
+        w,
+        calibrated,
+        &s[Channel::CAL_FREQUENCY..Channel::LOW_CUT],
+        &mut d[Channel::CAL_FREQUENCY..Channel::LOW_CUT],
+    );
+    numbers(
+        w,
+        Head::WIDTH,
+        Channel::CUTS,
+        &s[Channel::LOW_CUT..Channel::SENSITIVITY],
+        &mut d[Channel::LOW_CUT..Channel::SENSITIVITY],
+    );
+    number_if(
+        w,
+        calibrated,
+        &s[Channel::SENSITIVITY..],
+        &mut d[Channel::SENSITIVITY..],
+    );
+}
+
+// A record 125, 325 or 355.
+fn channel(w: Way, k: Shape, s: &[u8], d: &mut [u8])
+    requires { ⌜ Both 256 (now s) (now d) ⌝ }
+    ensures { λ _. ⌜ ((b room i : ℕ) (u : R.Sub) → HasShape u k → now (d .exit) ≡ copy w b (now (s .entry)) b (R.channel u room i)) ⌝ }
+{
+    channel_numbers(
+        w,
+        k.calibrated,
         &s[..Channel::RESERVE],
         &mut d[..Channel::RESERVE],
     );
@@ -102,8 +149,20 @@ fn channel(w: Way, s: &[u8], d: &mut [u8])
         &mut d[Channel::RESERVE..Channel::LABEL],
     );
     copy_run(
-        &s[Channel::LABEL..Channel::SPARE],
-        &mut d[Channel::LABEL..Channel::SPARE],
+        &s[Channel::LABEL..Channel::G1],
+        &mut d[Channel::LABEL..Channel::G1],
+    );
+    number_if(
+        w,
+        k.wired,
+        &s[Channel::G1..Channel::G2],
+        &mut d[Channel::G1..Channel::G2],
+    );
+    number_if(
+        w,
+        k.wired,
+        &s[Channel::G2..Channel::SPARE],
+        &mut d[Channel::G2..Channel::SPARE],
     );
     reserved(
         w,
@@ -113,11 +172,11 @@ fn channel(w: Way, s: &[u8], d: &mut [u8])
     copy_run(&s[Channel::COMMENT..], &mut d[Channel::COMMENT..]);
 }
 
-// The body of a record 120 of m channels.
-pub fn channels_body(w: Way, m: u32, s: &[u8], d: &mut [u8])
+// The body of a record 120, 320 or 350 of m subs.
+pub fn channels_body(w: Way, k: Shape, m: u32, s: &[u8], d: &mut [u8])
     requires { ⌜ Both (16 + 256 * m) (now s) (now d) ⌝ }
-    ensures { λ _. ⌜ ((b n : ℕ) (c : R.Basic) → numberAt (w .from) 4 (now (s .entry)) 0 ≡ m →
-        now (d .exit) ≡ copy w b (now (s .entry)) b (R.channelsBody c n)) ⌝ }
+    ensures { λ _. ⌜ ((b n : ℕ) (g : R.Group) → HasShape (g .sub) k → numberAt (w .from) 4 (now (s .entry)) 0 ≡ m →
+        now (d .exit) ≡ copy w b (now (s .entry)) b (R.channelsBody g n)) ⌝ }
 {
     let reserve = Channels::BODY_RESERVE;
     let mut at = Channels::BODY_SUBS;
@@ -132,7 +191,7 @@ pub fn channels_body(w: Way, m: u32, s: &[u8], d: &mut [u8])
     let mut i: u32 = 0;
     while i < m {
         let end = at + Channel::LENGTH;
-        channel(w, &s[at..end], &mut d[at..end]);
+        channel(w, k, &s[at..end], &mut d[at..end]);
         at = end;
         i += 1;
     }
@@ -191,7 +250,7 @@ pub fn items_body(w: Way, s: &[u8], d: &mut [u8])
     }
 }
 
-// The samples, from byte p of s on, of the channel whose 125 stands at byte q of the file: where the next channel's stand.
+// The samples, from byte p of s on, of the channel whose sub stands at byte q of the file: where the next channel's stand.
 fn channel_samples(w: Way, file: &[u8], q: usize, t: u32, s: &[u8], p: usize, d: &mut [u8]) -> usize
     requires { ⌜ SamplesPart (now file) q t (now s) p (now d) ⌝ }
     ensures { λ r. ⌜ (r ≤ length (now (s .entry))) × ((b : ℕ) (c : R.Channel) (cs : List R.Channel) →
@@ -214,7 +273,7 @@ fn channel_samples(w: Way, file: &[u8], q: usize, t: u32, s: &[u8], p: usize, d:
     end
 }
 
-// The widths of the channels whose 125s stand in the file.
+// The widths of the channels whose subs stand in the file.
 pub fn widths_of(o: Order, file: &[u8], cs: Channels) -> Widths
     requires { ⌜ cs .subs + 256 * cs .count ≤ length (now file) ⌝ }
     ensures { λ a. ⌜ a ≡ widthsIn o (now (file .entry)) (cs .subs) (cs .count) ⌝ }
@@ -247,7 +306,7 @@ fn one_run(w: Way, width: usize, s: &[u8], d: &mut [u8])
     numbers(w, width, n, &s[from..end], &mut d[from..end]);
 }
 
-// A frame's clock and its samples, in one run or channel by channel; the 125s stand in the file.
+// A frame's clock and its samples, in one run or channel by channel; the subs stand in the file.
 pub fn frame_body(w: Way, file: &[u8], cs: Channels, widths: Widths, t: u32, s: &[u8], d: &mut [u8])
     requires { ⌜ FramePart (w .from) (now file) cs widths t (now s) (now d) ⌝ }
     ensures { λ _. ⌜ ((b : ℕ) (ch : List R.Channel) → length ch ≡ cs .count → Kept (w .from) (now (file .entry)) (cs .subs) ch →

@@ -14,12 +14,16 @@ use Rattle.words.specs.declared.Order.{Order}
 use Rattle.walk.specs.Walk.{Walk, give, refuse, _>>=_, _>>_, require, pick, text}
 use Rattle.walk.specs.See.{goes, see}
 use Rattle.walk.proofs.Seen.{and-left, stays-goes, stays-then, stays-weaken}
-use Rattle.walk.proofs.Apart.{stops-goes}
+use Rattle.walk.proofs.Apart.{false-true, stops-goes}
 use Rattle.walk.proofs.Went.{goes-same, went-first, by-went, by-then}
-use Rattle.rules.specs.Rules.{Head, Basic, Channel, Next, Part, Held, Frames, Placed, Descriptions, head, admit, span, coded, fixed, basic, basicBody, next, more as maker, part, channels, items, patientCode, eventCode, frames, makerCode, delimiter, padding, heldChannels, heldPatient, descriptions, signals, countBack, recordingBody}
-use Rattle.rules.proofs.Room.{Rests, stays-head, stays-admit, stays-basicBody, stays-basic, stays-channelsRest, stays-itemsRest, stays-framesRest, stays-delimiter}
+use Rattle.rules.specs.Rules.{Head, Basic, Group, channelsGroup, montageGroup, montage, Channel, Next, Part, Held, Frames, Placed, Descriptions, head, admit, span, coded, fixed, basic, basicBody, next, more as maker, part, channels, items, patientCode, eventCode, frames, makerCode, delimiter, padding, heldChannels, heldPatient, descriptions, signals, countBack, recordingBody}
+use Rattle.rules.specs.declared.Label.{Label}
+use Rattle.rules.proofs.Cases.{by-form}
+use Rattle.rules.proofs.Room.{Rests, stays-head, stays-admit, stays-basicBody, stays-basic, stays-channelsRest, stays-montageRest, stays-itemsRest, stays-framesRest, stays-delimiter}
+use Rattle.records.specs.Says.{isGroup, Told}
+use Rattle.records.proofs.Groups.{told-channels, told-montage}
 use Rattle.records.proofs.Opened.{require-went}
-use Rattle.children.specs.Children.{Said, said, _then_, Known, knownOf, basicRest, makerRest, Reads, Heads, heading, Inner, is100, is120, is130, is200, is140, isMaker, Links, more, last, Chain, Closed}
+use Rattle.children.specs.Children.{Said, said, _then_, Known, knownOf, basicRest, makerRest, Reads, Heads, heading, Inner, is100, isSubs, is130, is200, is140, isMaker, Links, more, last, Chain, Closed}
 use Rattle.children.proofs.Saying.{nothing, then-assoc, then-nothing, nothing-then, said-bind, said-then, said-give, said-gave, said-require, by-said}
 
 -- a 100 and a maker's record end where their heads say
@@ -44,7 +48,7 @@ module _ (o : Order) (b : ℕ) (s : List ℕ) {X Y : Type 0} (join : X → X →
   carry (more h own rest k i d e) = more h (φ own) (ψ rest) k (each _ h own i) (carry d) (ap ψ e ∙ step own rest)
   carry (last e) = end _ _ e
 
--- kn: what the 120 and the 140 are read with
+-- kn: what the 140 is read with
 module _ (o : Order) (b : ℕ) (s : List ℕ) (kn : Known) where
   -- a record that is no 140
   pub record Other (p : ℕ) (h : Head) (l : Said) : Type 0 where
@@ -264,25 +268,40 @@ module _ (o : Order) (b : ℕ) (s : List ℕ) (kn : Known) where
       (m ≡ b + 128) × (128 ≤ length s) × ((l : Said) (n : Next) (e : ℕ) → Leads 128 l n e → Leads 0 (said o b s at (basic room) then l) n e)
   first-at at room i j g = rw (i, j) (first (rw (i, j) at g))
 
+  -- the rest of a 350 that was read, which is in form 01
+  montage-reads : (label : Label) (cs : List Channel) (p room : ℕ) (h : Head) (l : Said) → Reads o b s p (montage label cs room h) l → Reads o b s p (channels (montageGroup (length cs)) room h) l
+  unfolding montage see
+  montage-reads label cs p room h l = by-form (λ x. Reads o b s p (montage x cs room h) l → Reads o b s p (channels (montageGroup (length cs)) room h) l) (λ r. stops-goes (r .is)) (λ r. r) label
+
+  -- a record that holds subs is no 140
+  subs-other : (g : Group) → Told g → g .code ≡ 140 → ⊥
+  unfolding isGroup
+  subs-other g t e = false-true (sym (ap isGroup e) ∙ t .group)
+
   -- the records before the 140
-  pub tables-leads : (held : Option Held) (bytes : ℕ) {t : Descriptions} {e : ℕ} → bytes ≡ 16 + length s → kn .basic ≡ t .basic → see o b s b (descriptions held bytes) ≡ goes t e →
-      Leads 0 (said o b s b (descriptions held bytes)) (t .events .next) e
+  pub tables-leads : (label : Label) (held : Option Held) (bytes : ℕ) {t : Descriptions} {e : ℕ} → bytes ≡ 16 + length s → see o b s b (descriptions label held bytes) ≡ goes t e →
+      Leads 0 (said o b s b (descriptions label held bytes)) (t .montage .next) e
   unfolding descriptions see
-  tables-leads held bytes n same g =
+  tables-leads label held bytes n g =
       by-said o b s b (basic (bytes - 16)) _ g λ c e₁ h₁ g j₁.
       by-said o b s e₁ (next bytes (bytes - 144)) _ g λ d e₂ h₂ g j₂.
-      by-said o b s e₂ (part bytes 120 (channels c) (heldChannels held) d) _ g λ p e₃ h₃ g j₃.
+      let k : Group = channelsGroup label (c .channels) in
+      by-said o b s e₂ (part bytes (k .code) (channels k) (heldChannels held) d) _ g λ p e₃ h₃ g j₃.
       by-said o b s e₃ (part bytes 130 (items patientCode) (heldPatient held) (p .next)) _ g λ u e₄ h₄ g j₄.
       by-said o b s e₄ (part bytes 200 (items eventCode) (some []) (u .next)) _ g λ v e₅ h₅ g j₅.
+      by-said o b s e₅ (part bytes 350 (montage label (p .value)) (some []) (v .next)) _ g λ m e₆ h₆ g j₆.
       let y = goes-same g in
       let f = first-at b (bytes - 16) (omega arith) (omega arith) h₁ in
       let z : bytes - 144 ≡ length s - 128 = omega arith in
-      let i : kn .basic ≡ c = same ∙ ap (λ (t : Descriptions). t .basic) (sym (y .0)) in
       let l₁ = next-leads bytes 128 d e₂ (f .1) (rw (f .0, z) at h₂) in
-      let l₂ = leads-then l₁ (part bytes 120 (channels c) (heldChannels held) d) (λ q k. part-leads (channels c) (stays-channelsRest c) bytes 120 q d k (λ e. absurd (omega arith)) (λ e _ r. is120 e (rw i r)) (heldChannels held) p e₃) h₃ in
+      let l₂ = leads-then l₁ (part bytes (k .code) (channels k) (heldChannels held) d)
+      (λ q a. part-leads (channels k) (stays-channelsRest k) bytes (k .code) q d a (subs-other k (told-channels label (c .channels))) (λ e _ r. isSubs k (told-channels label (c .channels)) e r) (heldChannels held) p e₃) h₃ in
       let l₃ = leads-then l₂ (part bytes 130 (items patientCode) (heldPatient held) (p .next)) (λ q k. part-leads (items patientCode) (stays-itemsRest patientCode) bytes 130 q (p .next) k (λ e. absurd (omega arith)) (λ e _. is130 e) (heldPatient held) u e₄) h₄ in
       let l₄ = leads-then l₃ (part bytes 200 (items eventCode) (some []) (u .next)) (λ q k. part-leads (items eventCode) (stays-itemsRest eventCode) bytes 200 q (u .next) k (λ e. absurd (omega arith)) (λ e _. is200 e) (some []) v e₅) h₅ in
-      rw (← y .0, ← y .1, j₁, j₂, j₃, j₄, j₅, said-gave, then-nothing, f .0, z) (simp then-assoc at (f .2 _ _ _ l₄))
+      let l₅ = leads-then l₄ (part bytes 350 (montage label (p .value)) (some []) (v .next))
+      (λ q a. part-leads (montage label (p .value)) (stays-montageRest label (p .value)) bytes 350 q (v .next) a (λ e. absurd (omega arith))
+      (λ e l r. isSubs (montageGroup (length (p .value))) (told-montage (length (p .value))) e (montage-reads label (p .value) q _ _ l r)) (some []) m e₆) h₆ in
+      rw (← y .0, ← y .1, j₁, j₂, j₃, j₄, j₅, j₆, said-gave, then-nothing, f .0, z) (simp then-assoc at (f .2 _ _ _ l₅))
 
   -- the 140, whose head stands at q, up to the delimiter, of which `later` tells
   signals-chain : {B : Type 0} (c : Basic) (own : Bool) (cs : List Channel) (back fuel q : ℕ) (n : Next) → Stands q n → n .head .code ≡ 140 → kn ≡ record { basic = c; own = own; channels = cs; back = back } → (f : Frames → Next → Walk B) {x : B} {e : ℕ} →
@@ -314,24 +333,24 @@ module _ (o : Order) (b : ℕ) (s : List ℕ) (kn : Known) where
       said-then o b s (b + (p + 16)) (delimiter (n .head)) _ (w .is) ∙ ap (λ (l : Said). said o b s (b + (p + 16)) (delimiter (n .head)) then l) (q₁ .2 ∙ q₂ .2 ∙ said-give o b s (w .end) (padding (n .room - 16)) (λ _. r)) in
       record { head = n .head; stands = at .heads; ends = rw z at (w .is); is = ap (λ (l : Said). heading o b s p then l) (i ∙ rw (z, at .room)) }
 
--- what the 120 and the 140 are read with, as the walk of the descriptions gives it
+-- what the 140 is read with, as the walk of the descriptions gives it
 signals-known : (o : Order) (b : ℕ) (s : List ℕ) (at : ℕ) (t : Descriptions) (h : Head) {x : Placed} {e : ℕ} → see o b s at (signals t h) ≡ goes x e →
-    knownOf x ≡ record { basic = t .basic; own = t .channels .own; channels = t .channels .value; back = countBack (span h) (t .events .next .room) }
+    knownOf x ≡ record { basic = t .basic; own = t .channels .own; channels = t .channels .value; back = countBack (span h) (t .montage .next .room) }
 unfolding signals see
 signals-known o b s at t h g =
-    by-went o b s at (frames (t .basic) (t .channels .own) (t .channels .value) _ (t .events .next .room) (t .events .next .head)) _ (require-went o b s at _ 9 12 _ g .1) λ f m₁ _ g.
-    by-went o b s m₁ (next (span h) (t .events .next .room - span (t .events .next .head))) _ g λ d m₂ _ g.
+    by-went o b s at (frames (t .basic) (t .channels .own) (t .channels .value) _ (t .montage .next .room) (t .montage .next .head)) _ (require-went o b s at _ 9 12 _ g .1) λ f m₁ _ g.
+    by-went o b s m₁ (next (span h) (t .montage .next .room - span (t .montage .next .head))) _ g λ d m₂ _ g.
     by-then o b s m₂ (delimiter (d .head)) _ g λ _ m₃ _ g.
     by-then o b s m₃ (padding (d .room - 16)) _ (require-went o b s m₃ _ 10 0 _ (require-went o b s m₃ _ 14 _ _ g .1) .1) λ _ m₄ _ g. sym (ap knownOf (goes-same g .0))
 
 -- an accepted body is a chain
-pub body-chain : (o : Order) (b : ℕ) (s : List ℕ) (held : Option Held) (h : Head) {x : Placed} {e : ℕ} → span h ≡ 16 + length s → see o b s b (recordingBody held h) ≡ goes x e → Chain o b s (knownOf x) 0 (said o b s b (recordingBody held h))
+pub body-chain : (o : Order) (label : Label) (b : ℕ) (s : List ℕ) (held : Option Held) (h : Head) {x : Placed} {e : ℕ} → span h ≡ 16 + length s → see o b s b (recordingBody label held h) ≡ goes x e → Chain o b s (knownOf x) 0 (said o b s b (recordingBody label held h))
 unfolding recordingBody signals
-body-chain o b s held h {x} n g =
+body-chain o label b s held h {x} n g =
     let kn : Known = knownOf x in
-    by-said o b s b (descriptions held (span h)) _ g λ t m h₁ g₁ j₁.
+    by-said o b s b (descriptions label held (span h)) _ g λ t m h₁ g₁ j₁.
     let same = signals-known o b s m t h g₁ in
-    let d = tables-leads o b s kn held (span h) n (ap (λ (k : Known). k .basic) same) h₁ in
-    let r = said-require o b s (b + (d .to + 16)) (eqb (t .events .next .head .code) 140) 9 12 _ (rw (d .end) at g₁) in
-    let c = signals-chain o b s kn (t .basic) (t .channels .own) (t .channels .value) _ (span h) (d .to) (t .events .next) (d .stands) (eqb-true (t .events .next .head .code) 140 (r .0)) same _ (λ f v p k. ended o b s kn p v k _ _ _ _) (r .1) in
+    let d = tables-leads o b s kn label held (span h) n h₁ in
+    let r = said-require o b s (b + (d .to + 16)) (eqb (t .montage .next .head .code) 140) 9 12 _ (rw (d .end) at g₁) in
+    let c = signals-chain o b s kn (t .basic) (t .channels .own) (t .channels .value) _ (span h) (d .to) (t .montage .next) (d .stands) (eqb-true (t .montage .next .head .code) 140 (r .0)) same _ (λ f v p k. ended o b s kn p v k _ _ _ _) (r .1) in
     rw (j₁, leads-to o b s kn d (signals t h), r .2) (onto o b s kn _then_ (λ p. Inner o b s p kn) (Closed o b s) (λ l. l) _ (λ l m. then-assoc l m _) (nothing-then _) (λ _ _ _ i. i .inner) c (d .links))

@@ -11,13 +11,13 @@ use lib.ListN.{length}
 use Rattle.words.specs.declared.Order.{Order}
 use Rattle.walk.specs.Walk.{Walk, _>>=_, _>>_, require, text}
 use Rattle.walk.specs.See.{stops, goes, see}
-use Rattle.walk.proofs.Apart.{stops-goes}
+use Rattle.walk.proofs.Apart.{false-true, stops-goes}
 use Rattle.walk.proofs.Seen.{and-left, and-right, gate-true}
 use Rattle.walk.proofs.Went.{goes-same, gate-went}
 use Rattle.rules.specs.declared.Head as At
 use Rattle.rules.specs.Rules.{Head, head, admit, span, limit, basicBody, channels, channelsBody, items, itemsBody, patientCode, eventCode, frames, framesBody, makerCode, delimiter}
-use Rattle.records.specs.Says.{headOf}
-use Rattle.children.specs.Children.{Said, _then_, Known, Heads, Inner, is100, is120, is130, is200, is140, isMaker, Links, more, last, Parted, Chain, Closed, RecordAt, NoRecord, Visits}
+use Rattle.records.specs.Says.{headOf, isGroup}
+use Rattle.children.specs.Children.{Said, _then_, Known, Heads, Inner, is100, isSubs, is130, is200, is140, isMaker, Links, more, last, Parted, Chain, Closed, RecordAt, NoRecord, Visits}
 use Rattle.children.specs.declared.Direct.{Direct}
 use Rattle.children.specs.declared.Direct.the-variants as Direct
 
@@ -53,16 +53,16 @@ module _ (o : Order) (b : ℕ) (s : List ℕ) where
     inner-admits : {l : Said} → Inner o b s p k h l → see o b s (b + (p + 16)) (admit (length s - p) 128 (leb 16) (λ _. true) h) ≡ goes tt (b + (p + 16))
     unfolding channels items frames
     inner-admits (is100 q r) = admits (b + (p + 16)) (length s - p) 0 (eqb 128) (eqb 0) h basicBody (omega arith) (λ z. let l : 128 ≡ span h = eqb-true 128 (span h) z in omega arith) (r .is)
-    inner-admits (is120 q r) = admits (b + (p + 16)) (length s - p) 0 (leb 32) (eqb 0) h (channelsBody (k .basic) (span h)) (omega arith) (low 32 (span h) (omega arith)) (r .is)
+    inner-admits (isSubs g t q r) = admits (b + (p + 16)) (length s - p) 0 (leb 32) (eqb 0) h (channelsBody g (span h)) (omega arith) (low 32 (span h) (omega arith)) (r .is)
     inner-admits (is130 q r) = admits (b + (p + 16)) (length s - p) 0 (leb 24) (eqb 0) h (itemsBody patientCode (span h)) (omega arith) (low 24 (span h) (omega arith)) (r .is)
     inner-admits (is200 q r) = admits (b + (p + 16)) (length s - p) 0 (leb 24) (eqb 0) h (itemsBody eventCode (span h)) (omega arith) (low 24 (span h) (omega arith)) (r .is)
     inner-admits (is140 q r) = admits (b + (p + 16)) (length s - p) 128 (leb 32) (eqb 0) h (require (k .own || eqb (length (k .channels)) (k .basic .channels)) 14 (k .back) >> framesBody (k .basic) (k .channels) h) (omega arith) (low 32 (span h) (omega arith)) (r .is)
     inner-admits (isMaker q r) = admits (b + (p + 16)) (length s - p) 128 (leb 16) (λ _. true) h (text (span h - 16)) (omega arith) (low 16 (span h) (omega arith)) (r .is)
 
     inner-coded : {l : Said} → Inner o b s p k h l → h .code ≡ 0 → ⊥
-    unfolding makerCode
+    unfolding makerCode isGroup
     inner-coded (is100 q r) z = omega arith
-    inner-coded (is120 q r) z = omega arith
+    inner-coded (isSubs g t q r) z = false-true (sym (ap isGroup (sym q ∙ z)) ∙ t .group)
     inner-coded (is130 q r) z = omega arith
     inner-coded (is200 q r) z = omega arith
     inner-coded (is140 q r) z = omega arith

@@ -11,8 +11,8 @@ use Rattle.walk.specs.See.{goes, see}
 use Rattle.walk.specs.Tell.{tell}
 use Rattle.walk.specs.Trace.{trace}
 use Rattle.rules.specs.declared.Head as At
-use Rattle.rules.specs.Rules.{Head, Basic, Channel, Placed, head, basicRule, makerRule, anyRule, admitBy, span, basicBody, channels, items, patientCode, eventCode, frames, makerCode, delimiter, padding}
-use Rattle.records.specs.Says.{headOf}
+use Rattle.rules.specs.Rules.{Head, Basic, Group, Channel, Placed, head, basicRule, makerRule, anyRule, admitBy, span, basicBody, channels, items, patientCode, eventCode, frames, makerCode, delimiter, padding}
+use Rattle.records.specs.Says.{headOf, Told}
 use Rattle.children.specs.declared.Direct.{Direct}
 use Rattle.children.specs.declared.Direct.the-variants as Direct
 
@@ -35,11 +35,11 @@ basicRest room h = admitBy basicRule room h >> basicBody
 abbrev pub makerRest : ℕ → Head → Walk (List ℕ)
 makerRest room h = admitBy makerRule room h >> text (span h - 16)
 
--- what a recording's 120 and 140 are read with, as its reading has it
+-- what a recording's 140 is read with, as its reading has it
 pub record Known : Type 0 where
   -- its 100
   pub basic : Basic
-  -- whether it has a 120 of its own, and the channels that hold
+  -- whether it has a 120 or 320 of its own, and the channels that hold
   pub own : Bool
   pub channels : List Channel
   -- how far back 100's count of channels stands from its 140
@@ -65,7 +65,7 @@ module _ (o : Order) (b : ℕ) (s : List ℕ) (p : ℕ) where
   -- a record that may stand in a recording, by its code
   pub data Inner (k : Known) (h : Head) (l : Said) : Type 0 where
     is100 : h .code ≡ 100 → Reads (basicRest (length s - p) h) l → Inner k h l
-    is120 : h .code ≡ 120 → Reads (channels (k .basic) (length s - p) h) l → Inner k h l
+    isSubs : (g : Group) → Told g → h .code ≡ g .code → Reads (channels g (length s - p) h) l → Inner k h l
     is130 : h .code ≡ 130 → Reads (items patientCode (length s - p) h) l → Inner k h l
     is200 : h .code ≡ 200 → Reads (items eventCode (length s - p) h) l → Inner k h l
     is140 : h .code ≡ 140 → Reads (frames (k .basic) (k .own) (k .channels) (k .back) (length s - p) h) l → Inner k h l

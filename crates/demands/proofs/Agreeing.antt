@@ -5,6 +5,8 @@ use mathlib.Core.List.{List, [], _∷_, map}
 use Prim.Native.Nat.{ℕ, zero, suc}
 use Rattle.recordings.specs.Answers.{Answer, value, _>>=_, indexed, numbered}
 use Rattle.recordings.proofs.Chosen.{refusal-value}
+use Rattle.questions.specs.Tied as Tied
+use Rattle.questions.specs.Tied.{Alike}
 use Rattle.demands.specs.Demands.{Agree, values, refusals}
 
 module _ {A B : Type 0} {T : A → B → Type 0} where
@@ -26,10 +28,19 @@ module _ {A B : Type 0} {T : A → B → Type 0} where
   agree-second (values {a} {b = c} t) {b} e = let i : c ≡ b = cc in (a, refl, rw (← i) t)
   agree-second refusals e = refusal-value e
 
+  -- what a question answers and the reading has, the other way round
+  pub agree-alike : {x : Answer B} {y : Answer A} → Alike (λ b a. T a b) x y → Agree T y x
+  agree-alike (Tied.values t) = values t
+  agree-alike Tied.refusals = refusals
+
 -- of equal values the answers are equal
 pub agree-equal : {A : Type 0} {x y : Answer A} → Agree (λ (a b : A). b ≡ a) x y → y ≡ x
 agree-equal (values t) = ap value t
 agree-equal refusals = refl
+
+pub alike-equal : {A B : Type 0} {f : B → A} {x : Answer A} {y : Answer B} → Alike (λ a b. a ≡ f b) x y → x ≡ (y >>= λ b. value (f b))
+alike-equal (Tied.values t) = ap value t
+alike-equal Tied.refusals = refl
 
 -- the element b of a list's image is that of the list's element a
 pub record Image {A B : Type 0} (f : A → B) (x : Answer A) (b : B) (a : A) : Type 0 where

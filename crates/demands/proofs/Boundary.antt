@@ -44,11 +44,16 @@ use Rattle.samples.specs.declared.Number.the-variants as Number
 use Rattle.samples.specs.declared.SampleTold.{SampleTold}
 use Rattle.samples.specs.declared.SampleTold.the-variants as SampleTold
 use Rattle.samples.specs.declared.Time.{Time}
-use Rattle.questions.specs.Meanings.{meaningH, meaningF, meaningD, meaningI, meaningT, meaningC, meaningS}
-use Rattle.questions.specs.Questions.{headerOf, factsOf, channelOf, patientItemOf, eventItemOf, clockOf, countOf, sampleOf}
+use Rattle.questions.specs.Meanings.{meaningH, meaningF, meaningD, meaningI, meaningT, meaningC, meaningS, meaningN, meaningM}
+use Rattle.questions.specs.Questions.{headerOf, factsOf, channelOf, patientItemOf, eventItemOf, clockOf, countOf, sampleOf, montageCountOf, montageOf}
 use Rattle.questions.specs.declared.channels.ChannelTold.{ChannelTold}
 use Rattle.questions.specs.declared.channels.ChannelTold.the-variants as ChannelTold
 use Rattle.questions.specs.declared.channels.Descriptor.{Descriptor}
+use Rattle.questions.specs.declared.channels.MontageCountTold.{MontageCountTold}
+use Rattle.questions.specs.declared.channels.MontageCountTold.the-variants as MontageCountTold
+use Rattle.questions.specs.declared.channels.MontageTold.{MontageTold}
+use Rattle.questions.specs.declared.channels.MontageTold.the-variants as MontageTold
+use Rattle.questions.specs.declared.channels.Wired.{Wired}
 use Rattle.questions.specs.declared.headers.Header as Asked
 use Rattle.questions.specs.declared.headers.HeaderTold.{HeaderTold}
 use Rattle.questions.specs.declared.headers.HeaderTold.the-variants as HeaderTold
@@ -62,7 +67,7 @@ use Rattle.turn.specs.Turn as Turn
 use Rattle.turn.specs.Turn.{Turns}
 use Rattle.rewrite.specs.Rewrite as Rewrite
 use Rattle.rewrite.specs.Rewrite.{rewrittenIn, Rewrites}
-use Rattle.answers.specs.Flat.{countedRows, countedBytes, flatHeading, flatFacts, flatChannel, flatItem, flatClock, flatCount, flatSample}
+use Rattle.answers.specs.Flat.{countedRows, countedBytes, flatHeading, flatFacts, flatChannel, flatItem, flatClock, flatCount, flatSample, flatMontage}
 use Rattle.answers.specs.declared.Channel.{Channel}
 use Rattle.answers.specs.declared.Clock.{Clock}
 use Rattle.answers.specs.declared.Counted.{Counted}
@@ -70,10 +75,11 @@ use Rattle.answers.specs.declared.Facts.{Facts}
 use Rattle.answers.specs.declared.Header.{Header}
 use Rattle.answers.specs.declared.Heading.{Heading}
 use Rattle.answers.specs.declared.Item.{Item}
+use Rattle.answers.specs.declared.Montage.{Montage}
 use Rattle.answers.specs.declared.Sample.{Sample}
 use Rattle.psg.specs.Calls.{JudgeAnswers, TableAnswers, TurnAnswers, RewriteAnswers}
 use Rattle.demands.specs.Demands.{ofFile, ofTable, ofTurn, ofRewrite, ofQuestion, refusalOf, Refuses, Answered, KeepsRest, listedRows, wroteC, stoppedC, headerC, refusedC, flatJudged, TakenApart, Boundary, Accepted, headerJudged, JudgesByRules}
-use Rattle.demands.proofs.Refusing.{of-file, header-refused, table-refuses, table-keeps, turn-refuses, turn-keeps, rewrite-refuses, rewrite-keeps, Proper, proper-facts, proper-channel, proper-item, proper-clock, proper-count, proper-sample}
+use Rattle.demands.proofs.Refusing.{of-file, header-refused, table-refuses, table-keeps, turn-refuses, turn-keeps, rewrite-refuses, rewrite-keeps, Proper, proper-facts, proper-channel, proper-item, proper-clock, proper-count, proper-sample, proper-montage-count, proper-montage}
 use Rattle.demands.proofs.Viewing.{part-told}
 
 -- An answer and its numbers
@@ -182,6 +188,12 @@ facts = record { meaning = meaningF; tell = FactsTold.Facts; refuse = FactsTold.
 
 abbrev pub channel : Meant {X = Descriptor} value refusal ChannelTold Channel
 channel = record { meaning = meaningD; tell = ChannelTold.Channel; refuse = ChannelTold.Refused; flat = flatChannel; says = λ a. refusalOf (a .refusal) (a .position); tells = λ v. refl; refuses = λ r. refl; zero = λ v. refl; named = λ n p. refl }
+
+abbrev pub montage-count : Meant {X = ℕ} value refusal MontageCountTold Counted
+montage-count = record { meaning = meaningN; tell = MontageCountTold.Channels; refuse = MontageCountTold.Refused; flat = flatCount; says = λ a. refusalOf (a .refusal) (a .position); tells = λ v. refl; refuses = λ r. refl; zero = λ v. refl; named = λ n p. refl }
+
+abbrev pub montage : Meant {X = Wired} value refusal MontageTold Montage
+montage = record { meaning = meaningM; tell = MontageTold.Channel; refuse = MontageTold.Refused; flat = flatMontage; says = λ a. refusalOf (a .channel .refusal) (a .channel .position); tells = λ v. refl; refuses = λ r. refl; zero = λ v. refl; named = λ n p. refl }
 
 abbrev pub item : Meant {X = Entry} value refusal ItemTold Item
 item = record { meaning = meaningI; tell = ItemTold.Item; refuse = ItemTold.Refused; flat = flatItem; says = λ a. refusalOf (a .refusal) (a .position); tells = λ v. refl; refuses = λ r. refl; zero = λ v. refl; named = λ n p. refl }
@@ -312,6 +324,8 @@ module _ (s : List ℕ) (b : Bytes s) where
     header = λ a x. by-meaning header s (either (headerOf s)) (λ c e. e) x (λ n p h. rw h) (λ n p e. of-file s ofFile 0 (λ n h. h) (refusalOf n p) (header-refused s (refusalOf n p) (sym e)));
     facts = λ i a x. by-meaning facts s (either (factsOf s i)) (λ c e. e) x (λ n p h. rw h) (asked (proper-facts s i));
     channel = λ i j a x. by-meaning channel s (either (channelOf s i j)) (λ c e. e) x (λ n p h. rw h) (asked (proper-channel s i j));
+    montage-count = λ i a x. by-meaning montage-count s (either (montageCountOf s i)) (λ c e. e) x (λ n p h. rw h) (asked (proper-montage-count s i));
+    montage = λ i j a x. by-meaning montage s (either (montageOf s i j)) (λ c e. e) x (λ n p h. rw h) (asked (proper-montage s i j));
     patient-item = λ i j a x. by-meaning item s (either (patientItemOf s i j)) (λ c e. e) x (λ n p h. rw h) (asked (proper-item s Holder.Patient i j));
     event-item = λ i j a x. by-meaning item s (either (eventItemOf s i j)) (λ c e. e) x (λ n p h. rw h) (asked (proper-item s Holder.Event i j));
     clock = λ i j a x. by-meaning clock s (either (clockOf s i j)) (λ c e. e) x (λ n p h. rw h) (asked (proper-clock s i j));

@@ -9,24 +9,25 @@ use Rattle.words.specs.declared.Order.{Order}
 use Rattle.walk.specs.Walk.{Event}
 use Rattle.rules.specs.Rules as R
 use Rattle.rules.specs.Reading.{Value, ChannelReading, Reading, reading}
+use Rattle.rules.specs.declared.Form.{Form}
 use Rattle.rules.specs.declared.Refusal.{Refusal}
 use Rattle.records.specs.declared.items.Holder.the-variants as Holder
 use Rattle.recordings.specs.Answers.{Answer, value, refusal}
 use Rattle.recordings.proofs.Chosen.{refusal-value}
-use Rattle.questions.specs.Questions.{channelOf}
-use Rattle.questions.specs.Tied.{channelRead, samplesRead, Alike, values, refusals, FactsAre, NumbersAre, TextsAre, ItemIs, ClockIs}
+use Rattle.questions.specs.Questions.{formNumber, channelOf, montageOf}
+use Rattle.questions.specs.Tied.{channelRead, montageRead, samplesRead, Alike, values, refusals, FactsAre, NumbersAre, TextsAre, ItemIs, ClockIs}
 use Rattle.questions.specs.declared.channels.Descriptor.{Descriptor}
-use Rattle.questions.proofs.Readings.{alike-value, facts-read, numbers-read, clock-read}
-use Rattle.questions.proofs.Texts.{channel-texts, item-text}
+use Rattle.questions.proofs.Readings.{alike-value, facts-read, numbers-read, montage-count-read, clock-read}
+use Rattle.questions.proofs.Texts.{channel-texts, montage-wired, item-text}
 use Rattle.questions.proofs.Views.{view-samples}
-use Rattle.answers.specs.Flat.{spellingNumber, flatHeading, flatChannel}
+use Rattle.answers.specs.Flat.{spellingNumber, flatHeading, flatChannel, flatMontage}
 use Rattle.answers.specs.declared.Heading.{Heading}
 use Rattle.answers.specs.declared.View.{View}
 use Rattle.psg.specs.Calls.{ViewAnswers}
-use Rattle.demands.specs.Bits.{CalibrationIs, ChannelIs, SampleIs, SamplesAt}
-use Rattle.demands.specs.Demands.{Accepted, headerRead, HeadingIs, TellsC, countsC, entryC, timeC, BoundaryTells}
-use Rattle.demands.proofs.Boundary.{Meant, facts, channel, item, clock, count, sample}
-use Rattle.demands.proofs.Floats.{calibration-bits, sample-bits}
+use Rattle.demands.specs.Bits.{CalibrationIs, ChannelIs, MontageIs, SampleIs, SamplesAt}
+use Rattle.demands.specs.Demands.{Accepted, headerRead, HeadingIs, channelCode, TellsC, countsC, entryC, timeC, BoundaryTells}
+use Rattle.demands.proofs.Boundary.{Meant, facts, channel, montage-count, montage, item, clock, count, sample}
+use Rattle.demands.proofs.Floats.{calibration-bits, montage-bits, sample-bits}
 use Rattle.demands.proofs.Telling.{header-told}
 
 -- Answers that are alike: in two ways, behind a value of the reading, and with the first taken apart
@@ -47,15 +48,19 @@ module _ {Y E A : Type 0} (l : Meant {X = Y} value refusal E A) {X : Type 0} {P 
   tells e (values {a = y} {b = u} p) f = (ap (λ (z : A). l .says z .0) e ∙ l .zero y, rw e (f y u p))
   tells e (refusals {n} {p = q}) f = (ap (λ (z : A). l .says z .0) e ∙ ap (λ (r : Refusal). r .0) (l .named n q), ap (λ (z : A). l .says z .1) e ∙ ap (λ (r : Refusal). r .1) (l .named n q))
 
+-- the number of a form
+abbrev numberOf : Form → ℕ
+numberOf f = formNumber (record { form = f })
+
 -- what C is answered of a header
 heading-is : (o : Order) (g : Reading) {a : Heading} → a ≡ flatHeading (value (headerRead o g)) → HeadingIs o g a
-unfolding R.decimal R.between R.allSpaces R.version R.form
+unfolding R.decimal R.between R.allSpaces R.version R.formed
 heading-is o g x =
-    rw x (record { accepted = refl; spg = λ e. ap spellingNumber e; psg = λ e. ap spellingNumber e; version = refl; form = refl; order = refl; script = refl; recordings = refl })
+    rw x (record { accepted = refl; spg = λ e. ap spellingNumber e; psg = λ e. ap spellingNumber e; version = refl; channels = λ e. ap numberOf e; electrodes = λ e. ap numberOf e; order = refl; script = refl; recordings = refl })
 
 -- An accepted file
 
-channel-is : {s : List ℕ} {j : ℕ} (d : Descriptor) (c : ChannelReading) → (NumbersAre d c × TextsAre s d c) → CalibrationIs s j (flatChannel (value d)) c → ChannelIs s j (flatChannel (value d)) c
+channel-is : {s : List ℕ} {sub j : ℕ} (d : Descriptor) (c : ChannelReading) → (NumbersAre d c × TextsAre s d c) → CalibrationIs s sub j (flatChannel (value d)) c → ChannelIs s sub j (flatChannel (value d)) c
 channel-is d c (n, t) b = record {
   number = n .number;
   flags = n .flags;
@@ -73,10 +78,14 @@ channel-is d c (n, t) b = record {
 }
 
 module _ (s : List ℕ) (b : Bytes s) {v : R.File} {t : List Event} (h : Accepted s v t) where
-  channel-told : (i j : ℕ) → Alike (λ d c. ChannelIs s j (flatChannel (value d)) c) (channelOf s i j) (channelRead (reading v) i j)
+  channel-told : (i j : ℕ) → Alike (λ d c. ChannelIs s (channelCode (reading v)) j (flatChannel (value d)) c) (channelOf s i j) (channelRead (reading v) i j)
   channel-told i j =
       let x : Alike (λ d c. NumbersAre d c × TextsAre s d c) (channelOf s i j) (channelRead (reading v) i j) = alike-also (numbers-read s b h i j) (channel-texts s b h i j) (λ d c n m. (n, m)) in
       alike-also x (calibration-bits s b h i j) channel-is
+
+  montage-told : (i j : ℕ) → Alike (λ d c. MontageIs s j (flatMontage (value d)) c) (montageOf s i j) (montageRead (reading v) i j)
+  montage-told i j =
+      alike-also (montage-wired s b h i j) (montage-bits s b h i j) (λ d c n m. record { channel = channel-is (d .channel) c (n .numbers, n .texts) m; g1 = n .g1; g2 = n .g2 })
 
   samples-at : (i j k : ℕ) (a : View) → ViewAnswers s i j k a → (vs : List Value) → samplesRead (reading v) i j k ≡ value vs → SamplesAt s (reading v) i k a vs
   samples-at i j k a x vs e =
@@ -88,7 +97,9 @@ module _ (s : List ℕ) (b : Bytes s) {v : R.File} {t : List Event} (h : Accepte
   boundary-tells = record {
     header = λ a x. heading-is (R.orderOf s) (reading v) (x ∙ ap flatHeading (header-told s h));
     facts = λ i a x. tells facts (λ c. FactsAre (countsC c)) x (facts-read s b h i) (λ y u k. k);
-    channel = λ i j a x. tells channel (ChannelIs s j) x (channel-told i j) (λ y u k. k);
+    channel = λ i j a x. tells channel (ChannelIs s (channelCode (reading v)) j) x (channel-told i j) (λ y u k. k);
+    montage-count = λ i a x. tells montage-count (λ c r. c .count ≡ length (r .montage)) x (montage-count-read s b h i) (λ y u k. k);
+    montage = λ i j a x. tells montage (MontageIs s j) x (montage-told i j) (λ y u k. k);
     patient-item = λ i j a x. tells item (λ c. ItemIs s (entryC c)) x (item-text s b h i j Holder.Patient) (λ y u k. k);
     event-item = λ i j a x. tells item (λ c. ItemIs s (entryC c)) x (item-text s b h i j Holder.Event) (λ y u k. k);
     clock = λ i j a x. tells clock (λ c. ClockIs (timeC c)) x (clock-read s b h i j) (λ y u k. k);

@@ -38,14 +38,16 @@ use Rattle.samples.specs.declared.SampleTold.the-variants as SampleTold
 use Rattle.records.specs.declared.items.Holder.the-variants as Holder
 use Rattle.questions.specs.Contracts.{ViewAnswer}
 use Rattle.questions.specs.Tied.{recordingRead, channelRead}
-use Rattle.questions.specs.Meanings.{meaningH, meaningF, meaningD, meaningI, meaningT, meaningC, meaningS}
+use Rattle.questions.specs.Meanings.{meaningH, meaningF, meaningD, meaningN, meaningM, meaningI, meaningT, meaningC, meaningS}
 use Rattle.questions.specs.Questions.{viewOf}
 use Rattle.questions.specs.declared.channels.ChannelTold.the-variants as ChannelTold
+use Rattle.questions.specs.declared.channels.MontageCountTold.the-variants as MontageCountTold
+use Rattle.questions.specs.declared.channels.MontageTold.the-variants as MontageTold
 use Rattle.questions.specs.declared.channels.Text.{Text}
 use Rattle.questions.specs.declared.items.ItemTold.the-variants as ItemTold
-use Rattle.questions.proofs.Texts.{channel-texts, item-text}
+use Rattle.questions.proofs.Texts.{channel-texts, montage-wired, item-text}
 use Rattle.questions.proofs.Views.{view-samples}
-use Rattle.questions.proofs.Unique.{header-unique, facts-unique, channel-unique, patient-item-unique, event-item-unique, clock-unique, count-unique, sample-unique}
+use Rattle.questions.proofs.Unique.{header-unique, facts-unique, channel-unique, montage-count-unique, montage-unique, patient-item-unique, event-item-unique, clock-unique, count-unique, sample-unique}
 use Rattle.makers.specs.Makers.{firstMaker}
 use Rattle.permit.specs.Permit as Permit
 use Rattle.permit.specs.declared.Written.{Written}
@@ -61,9 +63,9 @@ use Rattle.answers.specs.declared.Counted.{Counted}
 use Rattle.psg.specs.Calls.{TableAnswers}
 use Rattle.demands.specs.Demands.{ofFile, Demand-1, Accepted, HandsUp, TableHolds, Tells, WrittenAnew, Demand-2, headerRead, inOther, SameEnd, SameNumbers, BoundarySame, Same, Demand-3}
 use Rattle.demands.proofs.Agreeing.{agree-first, numbered-image}
-use Rattle.demands.proofs.Refusing.{of-file, header-refused, table-refuses, table-keeps, turn-refuses, turn-keeps, rewrite-refuses, rewrite-keeps, question, proper-facts, proper-channel, proper-item, proper-clock, proper-count, proper-sample}
+use Rattle.demands.proofs.Refusing.{of-file, header-refused, table-refuses, table-keeps, turn-refuses, turn-keeps, rewrite-refuses, rewrite-keeps, question, proper-facts, proper-channel, proper-item, proper-clock, proper-count, proper-sample, proper-montage-count, proper-montage}
 use Rattle.demands.proofs.Samples.{recording-picked, view-words}
-use Rattle.demands.proofs.Telling.{channel-words, header-told, facts-told, channel-agrees, clock-told, count-told, sample-told}
+use Rattle.demands.proofs.Telling.{channel-words, header-told, facts-told, channel-agrees, clock-told, count-told, sample-told, montage-count-told, montage-agrees}
 use Rattle.demands.proofs.Viewing.{view-long, shown}
 use Rattle.demands.proofs.Boundary.{boundary, boundary-accepted, boundary-judges, table-apart, turn-apart, rewrite-apart}
 use Rattle.demands.proofs.BoundaryTold.{boundary-tells}
@@ -80,6 +82,8 @@ demand-1 s b = record {
   header = λ a x r i. of-file s ofFile 0 (λ n h. h) r (header-refused s r (sym (ap meaningH i) ∙ x));
   facts = λ i a x. question s meaningF FactsTold.Refused (λ r. refl) (proper-facts s i) a x;
   channel = λ i j a x. question s meaningD ChannelTold.Refused (λ r. refl) (proper-channel s i j) a x;
+  montage-count = λ i a x. question s meaningN MontageCountTold.Refused (λ r. refl) (proper-montage-count s i) a x;
+  montage = λ i j a x. question s meaningM MontageTold.Refused (λ r. refl) (proper-montage s i j) a x;
   patient-item = λ i j a x. question s meaningI ItemTold.Refused (λ r. refl) (proper-item s Holder.Patient i j) a x;
   event-item = λ i j a x. question s meaningI ItemTold.Refused (λ r. refl) (proper-item s Holder.Event i j) a x;
   clock = λ i j a x. question s meaningT ClockTold.Refused (λ r. refl) (proper-clock s i j) a x;
@@ -99,6 +103,8 @@ hands-up s n p h = record {
   header = λ a x. header-unique s a _ x (rw h);
   facts = λ i a x. facts-unique s i a _ x (rw h);
   channel = λ i j a x. channel-unique s i j a _ x (rw h);
+  montage-count = λ i a x. montage-count-unique s i a _ x (rw h);
+  montage = λ i j a x. montage-unique s i j a _ x (rw h);
   patient-item = λ i j a x. patient-item-unique s i j a _ x (rw h);
   event-item = λ i j a x. event-item-unique s i j a _ x (rw h);
   clock = λ i j a x. clock-unique s i j a _ x (rw h);
@@ -123,6 +129,9 @@ tells s b h = record {
   facts = λ i a x. x ∙ facts-told s b h i;
   channel = λ i j a x. rw x (channel-agrees s b h i j);
   texts = λ i j a x. rw x (channel-texts s b h i j);
+  montage-count = λ i a x. x ∙ montage-count-told s b h i;
+  montage = λ i j a x. rw x (montage-agrees s b h i j);
+  wired = λ i j a x. rw x (montage-wired s b h i j);
   patient-item = λ i j a x. rw x (item-text s b h i j Holder.Patient);
   event-item = λ i j a x. rw x (item-text s b h i j Holder.Event);
   clock = λ i j a x. x ∙ clock-told s b h i j;
@@ -252,6 +261,8 @@ module _ (s : List ℕ) (b : Bytes s) {v : R.File} {t : List Event} (h : Accepte
             (record { first = refl; second = refl; refusal = refl; position = refl; spelling = refl; version = refl; form = refl; script = refl; recordings = refl });
         facts = λ i a c x y. x ∙ (rw e) ∙ sym y;
         channel = λ i j a c x y. x ∙ (rw e) ∙ sym y;
+        montage-count = λ i a c x y. x ∙ (rw e) ∙ sym y;
+        montage = λ i j a c x y. x ∙ (rw e) ∙ sym y;
         patient-item = λ i j a c x y. x ∙ (rw e) ∙ sym y;
         event-item = λ i j a c x y. x ∙ (rw e) ∙ sym y;
         clock = λ i j a c x y. x ∙ (rw e) ∙ sym y;
@@ -288,6 +299,8 @@ module _ (s : List ℕ) (b : Bytes s) {v : R.File} {t : List Event} (h : Accepte
         );
         facts = λ i a c x y. facts-unique s i a c x (rw e at y);
         channel = λ i j a c x y. channel-unique s i j a c x (rw e at y);
+        montage-count = λ i a c x y. montage-count-unique s i a c x (rw e at y);
+        montage = λ i j a c x y. montage-unique s i j a c x (rw e at y);
         patient-item = λ i j a c x y. patient-item-unique s i j a c x (rw e at y);
         event-item = λ i j a c x y. event-item-unique s i j a c x (rw e at y);
         clock = λ i j a c x y. clock-unique s i j a c x (rw e at y);

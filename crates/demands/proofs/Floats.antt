@@ -7,35 +7,37 @@ use Prim.Native.Nat.{ℕ, _+_, _*_, _^_, _≤_, _<_}
 use native.Mathlib.Omega.{arith}
 use borrow.Author.Tests.{eq-eqb, ne-eqb, eqb-true, eqb-false}
 use lib.Dec.{eqb}
-use lib.IntN.{pos, natAbs}
+use lib.IntN.{pos}
 use lib.ListN.{length, take, drop, length-drop}
 use lib.Seq.{length-take-le}
 use Rattle.words.specs.Floats.{nanPattern}
 use Rattle.words.specs.Numbers.{Bytes, numberAt}
-use Rattle.words.specs.Values.{signed}
+use Rattle.words.specs.Values.{signed, unsigned}
 use Rattle.words.specs.declared.Order.{Order}
 use Rattle.words.proofs.Floats.{bitsOf-floatOf}
-use Rattle.words.proofs.Values.{signed-pos}
+use Rattle.words.proofs.Values.{signed-pos, unsigned-signed}
 use Rattle.words.proofs.Words.{bytes-take, bytes-drop, wordIn-lt}
 use Rattle.walk.specs.Walk.{Event, pick, passed}
 use Rattle.rules.specs.Rules as R
 use Rattle.rules.specs.Rules.{orderOf, width}
 use Rattle.rules.specs.Reading.{Value, whole, float, valueOf, channelReading, reading}
+use Rattle.rules.proofs.Held.{same-sub}
 use Rattle.recordings.specs.Answers.{value, indexed}
 use Rattle.recordings.proofs.Chosen.{indexed-one}
 use Rattle.samples.specs.Frames.{Samples, samplesOf, floatIn, numberIn}
 use Rattle.samples.proofs.Bits.{a-pattern, a-float}
 use Rattle.samples.proofs.Framing.{frame-of}
 use Rattle.samples.proofs.Sampling.{samples-from}
-use Rattle.questions.specs.Questions.{channelOf, sampleOf, viewOf}
-use Rattle.questions.specs.Tied.{channelRead, sampleRead, Alike, formatIn}
-use Rattle.questions.specs.Values.{someNan, floatsOf, calibrationOf, Words, descriptorOf}
+use Rattle.questions.specs.Questions.{channelOf, montageOf, sampleOf, viewOf}
+use Rattle.questions.specs.Tied.{channelRead, montageRead, sampleRead, Alike, formatIn}
+use Rattle.questions.specs.Values.{someNan, floatsOf, calibrationOf, Words, descriptorOf, wiredOf}
 use Rattle.questions.specs.declared.channels.Calibration.{Calibration}
 use Rattle.questions.proofs.Calibrated.{floats, patterns, words-kept}
-use Rattle.questions.proofs.Described.{ChannelSeen, channel-seen, sub-seen, format-is}
-use Rattle.questions.proofs.Readings.{alike-bind, alike-then, alike-self, channel-alike, channel-known, samples-alike}
+use Rattle.questions.proofs.Described.{ChannelSeen, channel-seen, montage-seen, sub-seen, format-is}
+use Rattle.questions.proofs.Readings.{alike-bind, alike-then, alike-self, channel-alike, montage-alike, channel-known, samples-alike}
 use Rattle.questions.proofs.Replies.{among}
 use Rattle.demands.specs.Bits.{valueIn, WordIs, CalibrationIs, FloatAt, WholeNumberAt, SampleIs}
+use Rattle.demands.specs.Demands.{channelCode}
 use Rattle.answers.specs.Flat.{areFloats, flatChannel, flatSample}
 use Rattle.answers.specs.declared.Sample.{Sample}
 
@@ -76,32 +78,52 @@ module _ (c : R.Channel) where
   word-is : (s : List ℕ) (p : ℕ) {word n : ℕ} → word ≡ n → n ≡ numberAt (orderOf s) 4 s p → WordIs s p (areFloats calibration) word (valueOf (c .format) 4 n)
   word-is s p {n} h e = record { bits = h ∙ e; means = rw h (word-means n) }
 
-module _ {s : List ℕ} (b : Bytes s) {p j : ℕ} {c : R.Channel} (x : ChannelSeen s p j c) where
-  -- a number of the record 125 at p
-  small : (n q : ℕ) → n ≡ numberAt (orderOf s) 4 s q → q + 4 ≤ p + 256 → n < 2 ^ 32
-  small n q e l = rw e (number-lt (orderOf s) 4 s q b (omega (arith, l, x .inside)))
+-- the words of a sub that stands in the file
+pub record WordsSmall (c : R.Channel) : Type 0 where
+  pub format : c .format < 2 ^ 32
+  pub cal : c .cal < 2 ^ 32
+  pub calAD : c .calAD < 2 ^ 32
+  pub offsetAD : c .offsetAD < 2 ^ 32
+  pub offsetCal : c .offsetCal < 2 ^ 32
 
-  calibration-at : CalibrationIs s j (flatChannel (value (descriptorOf c p))) (channelReading c)
-  unfolding descriptorOf
+-- what the walk gave of them
+record WordsStand (o : Order) (s : List ℕ) (p : ℕ) (c : R.Channel) : Type 0 where
+  format : c .format ≡ numberAt o 4 s (p + 28)
+  cal : c .cal ≡ numberAt o 4 s (p + 36)
+  calAD : c .calAD ≡ numberAt o 4 s (p + 40)
+  offsetAD : c .offsetAD ≡ numberAt o 4 s (p + 44)
+  offsetCal : c .offsetCal ≡ numberAt o 4 s (p + 48)
+
+module _ {s : List ℕ} (b : Bytes s) {k : R.Sub} {p j : ℕ} {c : R.Channel} (x : ChannelSeen k s p j c) where
+  words-stand : WordsStand (orderOf s) s p c
+  words-stand = rw (sub-seen x .is) (record { format = refl; cal = refl; calAD = refl; offsetAD = refl; offsetCal = refl })
+
+  pub words-small : WordsSmall c
+  words-small =
+      let w = words-stand in
+      record { format = small 28 (w .format) (omega arith); cal = small 36 (w .cal) (omega arith); calAD = small 40 (w .calAD) (omega arith); offsetAD = small 44 (w .offsetAD) (omega arith); offsetCal = small 48 (w .offsetCal) (omega arith) }
+    where
+      small : (q : ℕ) {n : ℕ} → n ≡ numberAt (orderOf s) 4 s (p + q) → q + 4 ≤ 256 → n < 2 ^ 32
+      small q e l = rw e (number-lt (orderOf s) 4 s (p + q) b (omega (arith, l, x .inside)))
+
+  calibration-at : CalibrationIs s (k .code) j (flatChannel (value (descriptorOf c p))) (channelReading c)
+  unfolding descriptorOf unsigned
   calibration-at =
       let z = sub-seen x in
-      let e₁ : c .cal ≡ numberAt (orderOf s) 4 s (p + 36) = ap (λ (y : R.Channel). y .cal) (z .is) in
-      let e₂ : c .calAD ≡ numberAt (orderOf s) 4 s (p + 40) = ap (λ (y : R.Channel). y .calAD) (z .is) in
-      let e₃ : c .offsetAD ≡ numberAt (orderOf s) 4 s (p + 44) = ap (λ (y : R.Channel). y .offsetAD) (z .is) in
-      let e₄ : c .offsetCal ≡ numberAt (orderOf s) 4 s (p + 48) = ap (λ (y : R.Channel). y .offsetCal) (z .is) in
-      let w = words-kept (c .cal) (c .calAD) (c .offsetAD) (c .offsetCal)
-      (small (c .cal) (p + 36) e₁ (omega arith)) (small (c .calAD) (p + 40) e₂ (omega arith)) (small (c .offsetAD) (p + 44) e₃ (omega arith)) (small (c .offsetCal) (p + 48) e₄ (omega arith)) (c .format) in
+      let e = words-stand in
+      let h = words-small in
+      let w = words-kept (c .cal) (c .calAD) (c .offsetAD) (c .offsetCal) (h .cal) (h .calAD) (h .offsetAD) (h .offsetCal) (c .format) in
       record {
         at = p;
         label = refl;
-        code = eqb-true _ 125 (z .code);
+        code = eqb-true _ (k .code) (z .code);
         serial = sym (eqb-true j _ (z .serial));
         inside = x .inside;
-        cal = word-is c s (p + 36) (ap (λ (y : Words). y .cal) w) e₁;
-        calAD = word-is c s (p + 40) (ap (λ (y : Words). y .calAD) w) e₂;
-        offsetAD = word-is c s (p + 44) (ap (λ (y : Words). y .offsetAD) w) e₃;
-        offsetCal = word-is c s (p + 48) (ap (λ (y : Words). y .offsetCal) w) e₄;
-        floats = λ f. are-floats c (sym (format-is x) ∙ ap natAbs f);
+        cal = word-is c s (p + 36) (ap (λ (y : Words). y .cal) w) (e .cal);
+        calAD = word-is c s (p + 40) (ap (λ (y : Words). y .calAD) w) (e .calAD);
+        offsetAD = word-is c s (p + 44) (ap (λ (y : Words). y .offsetAD) w) (e .offsetAD);
+        offsetCal = word-is c s (p + 48) (ap (λ (y : Words). y .offsetCal) w) (e .offsetCal);
+        floats = λ f. are-floats c (sym (unsigned-signed 4 (c .format) (h .format)) ∙ ap (unsigned 4) f);
         numbers = λ f. are-numbers c (λ e. f (ap (signed 4) e ∙ signed-pos 4 4 (omega arith)));
       }
 
@@ -139,8 +161,13 @@ wide = refl
 
 -- an accepted file
 module _ (s : List ℕ) (b : Bytes s) {v : R.File} {t : List Event} (h : R.judge s ≡ passed v [] t) (i j : ℕ) where
-  pub calibration-bits : Alike (λ d c. CalibrationIs s j (flatChannel (value d)) c) (channelOf s i j) (channelRead (reading v) i j)
-  calibration-bits = channel-alike s b h i j (λ r c is nth. calibration-at b (channel-seen s b i r is j nth))
+  pub calibration-bits : Alike (λ d c. CalibrationIs s (channelCode (reading v)) j (flatChannel (value d)) c) (channelOf s i j) (channelRead (reading v) i j)
+  calibration-bits = channel-alike s b h i j (λ r c is nth. rw (ap (λ (k : R.Sub). k .code) (same-sub (v .heading .label) (r .this .recording .basic .channels) 0)) at (calibration-at b (channel-seen s b h i r is j nth)))
+
+  -- of a montage's channel
+  pub montage-bits : Alike (λ d c. CalibrationIs s 355 j (flatChannel (value (d .channel))) c) (montageOf s i j) (montageRead (reading v) i j)
+  unfolding wiredOf
+  montage-bits = montage-alike s b h i j (λ r c is nth. calibration-at b (montage-seen s b h i r is j nth))
 
   module _ (k n : ℕ) where
     -- the view of samples begins where they stand
@@ -152,7 +179,7 @@ module _ (s : List ℕ) (b : Bytes s) {v : R.File} {t : List Event} (h : R.judge
         let z = samples-from s b i j k a in
         let f = frame-of s b i j (z .framed) in
         let l : n < length (x .values) = indexed-one (x .values) n nth .inside in
-        let e : formatIn (channelReading (z .channel)) ≡ x .format = format-is (channel-seen s b i (z .frame .of) (f .asked) k (z .described)) ∙ sym (z .format) in
+        let e : formatIn (channelReading (z .channel)) ≡ x .format = format-is (v .heading .label) _ (channel-seen s b h i (z .frame .of) (f .asked) k (z .described)) ∙ sym (z .format) in
         let g : y ≡ valueOf (x .format) (width (x .format)) (numberAt (orderOf s) (width (x .format)) s (x .at + width (x .format) * n)) = cc (z .located .each n l) in
         let w = flat-at s b (x .format) (x .at + width (x .format) * n) (among (x .at) (width (x .format)) (width (x .format)) n (length (x .values)) (length s) refl l (z .located .inside)) in
         rw g

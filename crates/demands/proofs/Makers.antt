@@ -13,7 +13,9 @@ use Rattle.walk.specs.Plays.{Plays, gives, checks, numbers, reads, skips, lists
 use Rattle.walk.specs.Walk.{pick, Event, numeral, piece, blank, row, size, rows, Walk, give, refuse, check, number, read, skip, list, _>>=_, _>>_, passed}
 use Rattle.walk.proofs.Apart.{none-some}
 use Rattle.walk.proofs.Told.{Silent}
-use Rattle.rules.specs.Rules.{series, fileHeader, Head, head, span, admit, Rule, codedBy, admitBy, fixed, Basic, basicBody, basic, basicRule, Channel, channelBody, channel, channelRule, channelsBody, channels, patientCode, eventCode, itemsBody, items, sampleBytes, frameRule, frameBody, frame, framesBody, frames, makerCode, Next, next, Part, part, Held, heldChannels, heldPatient, delimiter, padding, Descriptions, descriptions, signals, recordingRule, recordingBody, recording, recordings, File, file, judge}
+use Rattle.rules.specs.Rules.{series, fileHeader, Head, head, span, admit, Rule, codedBy, admitBy, fixed, Basic, basicBody, basic, basicRule, Channel, channelBody, channel, channelRule, channelsBody, channels, patientCode, eventCode, itemsBody, items, sampleBytes, frameRule, frameBody, frame, framesBody, frames, makerCode, Next, next, Part, part, Held, heldChannels, heldPatient, delimiter, padding, Descriptions, descriptions, signals, recordingRule, recordingBody, recording, recordings, File, file, judge, Sub, Group, channelsGroup, montageGroup, montage}
+use Rattle.rules.specs.declared.Label.{Label}
+use Rattle.rules.proofs.Cases.{by-form}
 use Rattle.rules.proofs.Turn.{accepted, tiled}
 use Rattle.judge.proofs.Accepted.{accepted-long}
 use Rattle.rows.proofs.Body.{silent-basicBody}
@@ -81,18 +83,22 @@ back-basic : (room : ℕ) → Back (basic room)
 unfolding fixed
 back-basic room = back-record basicRule room (λ _. basicBody) (λ _. silent-back basicBody silent-basicBody)
 
-back-channel : (room i : ℕ) → Back (channel room i)
+back-channel : (k : Sub) (room i : ℕ) → Back (channel k room i)
 unfolding fixed
-back-channel room i = back-record (channelRule i) room (λ _. channelBody) (λ _. silent-back channelBody silent-channelBody)
+back-channel k room i = back-record (channelRule (k .code) i) room (λ _. channelBody k) (λ _. silent-back (channelBody k) (silent-channelBody k))
 
 back-series : {A : Type 0} (step : ℕ) (w : ℕ → ℕ → Walk A) → ((room i : ℕ) → Back (w room i)) → (n i room : ℕ) → Back (series n i step room w)
 unfolding series
 back-series step w k zero i room = tt
 back-series step w k (suc n) i room = back-bind (w room i) _ (k room i) (λ _. back-bind (series n (suc i) step (room - step) w) _ (back-series step w k n (suc i) (room - step)) (λ _. tt))
 
-back-channels : (b : Basic) (room : ℕ) (h : Head) → Back (channels b room h)
+back-channels : (g : Group) (room : ℕ) (h : Head) → Back (channels g room h)
 unfolding channels channelsBody admit _>>=_ _>>_
-back-channels b room h = (refl, λ m _. back-series 256 channel back-channel m 1 (span h - 32))
+back-channels g room h = (refl, λ m _. back-series 256 (channel (g .sub)) (back-channel (g .sub)) m 1 (span h - 32))
+
+back-montage : (label : Label) (cs : List Channel) (room : ℕ) (h : Head) → Back (montage label cs room h)
+unfolding montage
+back-montage label cs room h = by-form (λ l. Back (montage l cs room h)) tt (back-channels (montageGroup (length cs)) room h) label
 
 back-items : (ok : ℕ → Bool) (room : ℕ) (h : Head) → Back (items ok room h)
 unfolding items
@@ -127,15 +133,16 @@ back-part : {A : Type 0} (fuel code : ℕ) (body : ℕ → Head → Walk A) → 
 unfolding part
 back-part fuel code body k held n = back-own (eqb (n .head .code) code) held n _ (back-bind _ _ (k (n .room) (n .head)) (λ _. back-bind _ _ (back-next fuel (n .room - span (n .head))) (λ _. tt)))
 
-back-descriptions : (held : Option Held) (bytes : ℕ) → Back (descriptions held bytes)
+back-descriptions : (label : Label) (held : Option Held) (bytes : ℕ) → Back (descriptions label held bytes)
 unfolding descriptions
-back-descriptions held bytes =
+back-descriptions label held bytes =
     back-bind _ _ (back-basic (bytes - 16))
     (λ b. back-bind _ _ (back-next bytes (bytes - 144))
-    (λ n. back-bind _ _ (back-part bytes 120 (channels b) (back-channels b) (heldChannels held) n)
+    (λ n. back-bind _ _ (back-part bytes _ _ (back-channels (channelsGroup label (b .channels))) (heldChannels held) n)
     (λ c. back-bind _ _ (back-part bytes 130 (items patientCode) (back-items patientCode) (heldPatient held) (c .next))
     (λ p. back-bind _ _ (back-part bytes 200 (items eventCode) (back-items eventCode) (some []) (p .next))
-    (λ _. tt)))))
+    (λ e. back-bind _ _ (back-part bytes 350 (montage label (c .value)) (back-montage label (c .value)) (some []) (e .next))
+    (λ _. tt))))))
 
 back-delimiter : (h : Head) → Back (delimiter h)
 unfolding delimiter _>>=_ _>>_
@@ -144,20 +151,20 @@ back-delimiter h = (refl, tt)
 back-signals : (t : Descriptions) (h : Head) → Back (signals t h)
 unfolding signals
 back-signals t h =
-    let last : Next = t .events .next in
+    let last : Next = t .montage .next in
     back-then _ _ tt
     (back-bind _ _ (back-frames (t .basic) (t .channels .own) (t .channels .value) _ (last .room) (last .head))
     (λ _. back-bind _ _ (back-next (span h) (last .room - span (last .head)))
     (λ d. back-then _ _ (back-delimiter (d .head)) (back-then _ _ tt (back-then _ _ tt (back-then _ _ (back-padding (d .room - 16)) tt))))))
 
-back-recording : (held : Option Held) (room i : ℕ) → Back (recording held room i)
+back-recording : (label : Label) (held : Option Held) (room i : ℕ) → Back (recording label held room i)
 unfolding recording recordingBody
-back-recording held room i = back-record (recordingRule i) room (recordingBody held) (λ h. back-bind _ _ (back-descriptions held (span h)) (λ t. back-signals t h))
+back-recording label held room i = back-record (recordingRule i) room (recordingBody label held) (λ h. back-bind _ _ (back-descriptions label held (span h)) (λ t. back-signals t h))
 
-back-recordings : (n : ℕ) (held : Option Held) (room i : ℕ) → Back (recordings n held room i)
+back-recordings : (label : Label) (n : ℕ) (held : Option Held) (room i : ℕ) → Back (recordings label n held room i)
 unfolding recordings
-back-recordings zero held room i = tt
-back-recordings (suc n) held room i = back-bind _ _ (back-recording held room i) (λ x. back-bind _ _ (back-recordings n (some (record { channels = x .recording .channels; patient = x .recording .patient })) (room - x .layout .bytes) (suc i)) (λ _. tt))
+back-recordings label zero held room i = tt
+back-recordings label (suc n) held room i = back-bind _ _ (back-recording label held room i) (λ x. back-bind _ _ (back-recordings label n (some (record { channels = x .recording .channels; patient = x .recording .patient })) (room - x .layout .bytes) (suc i)) (λ _. tt))
 
 back-fileHeader : (n : ℕ) → Back (fileHeader n)
 unfolding fileHeader _>>=_ _>>_
@@ -165,7 +172,7 @@ back-fileHeader n = λ _ _ _ _ _ _ _. tt
 
 back-file : (n : ℕ) → Back (file n)
 unfolding file
-back-file n = back-bind _ _ (back-fileHeader n) (λ f. back-bind _ _ (back-recordings (f .count) none (n - 32) 1) (λ _. tt))
+back-file n = back-bind _ _ (back-fileHeader n) (λ f. back-bind _ _ (back-recordings (f .heading .label) (f .count) none (n - 32) 1) (λ _. tt))
 
 -- events with such rows
 abbrev Backs : List Event → Type 0

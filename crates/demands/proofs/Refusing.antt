@@ -37,7 +37,7 @@ use Rattle.recordings.specs.Recordings.{judged, recordingOf}
 use Rattle.recordings.proofs.Chosen.{in-between, refusal-value}
 use Rattle.samples.specs.Frames.{frameOf, samplesOf}
 use Rattle.records.specs.declared.items.Holder.{Holder}
-use Rattle.questions.specs.Questions.{headerOf, headerTold, factsOf, channelOf, itemOf, itemIn, itemsOf, clockOf, countOf, sampleOf}
+use Rattle.questions.specs.Questions.{headerOf, headerTold, factsOf, channelOf, itemOf, itemIn, itemsOf, clockOf, countOf, sampleOf, montageCountOf, montageOf}
 use Rattle.bodies.specs.Orders.{sameOrder}
 use Rattle.makers.specs.Makers.{firstMaker}
 use Rattle.permit.specs.Permit as Permit
@@ -180,6 +180,12 @@ module _ (s : List ℕ) where
 
   pub proper-channel : (i j : ℕ) → Proper (channelOf s i j)
   proper-channel i j = proper-then (recordingOf s i) _ (proper-recording i) (λ r. proper-then (numbered (r .this .recording .channels) j) _ (proper-numbered (r .this .recording .channels) j) (λ _. tt))
+
+  pub proper-montage-count : (i : ℕ) → Proper (montageCountOf s i)
+  proper-montage-count i = proper-then (recordingOf s i) _ (proper-recording i) (λ _. tt)
+
+  pub proper-montage : (i j : ℕ) → Proper (montageOf s i j)
+  proper-montage i j = proper-then (recordingOf s i) _ (proper-recording i) (λ r. proper-then (numbered (r .this .recording .montage) j) _ (proper-numbered (r .this .recording .montage) j) (λ _. tt))
 
   pub proper-item : (k : Holder) (i j : ℕ) → Proper (itemOf k s i j)
   unfolding itemIn

@@ -3,7 +3,7 @@
 use mathlib.Core.Path.{_≡_, refl, sym, ap, _∙_}
 use mathlib.Core.Bool.{Bool, true, false}
 use mathlib.Core.List.{List, map}
-use Prim.Native.Nat.{ℕ, _+_, _-_, _*_, _^_, _<_}
+use Prim.Native.Nat.{ℕ, _-_, _^_, _<_}
 use native.Mathlib.Omega.{arith}
 use borrow.Author.Tests.{eqb-true}
 use lib.Dec.{eqb}
@@ -12,29 +12,27 @@ use Rattle.words.specs.Floats.{nanPattern}
 use Rattle.words.specs.Numbers.{Bytes}
 use Rattle.words.specs.Values.{signed, unsigned}
 use Rattle.words.proofs.Floats.{bitsOf-floatOf}
-use Rattle.walk.specs.Plays.{Plays}
-use Rattle.walk.specs.Walk as W
 use Rattle.walk.specs.Walk.{pick, Event}
-use Rattle.walk.proofs.Laws.{by-parts, checked, traced}
 use Rattle.rules.specs.Reading.{Value, whole, float, valueOf, channelReading, frameReading, recordingReading, reading}
 use Rattle.rules.specs.Words.{channelWords, recordingWords}
 use Rattle.rules.specs.Rules as R
-use Rattle.rules.specs.Rules.{fixed, head, admit, channelBody, width}
-use Rattle.rules.proofs.Held.{channel-holds-at}
+use Rattle.rules.specs.Rules.{width}
 use Rattle.rules.proofs.Rewrite.{reading-words}
 use Rattle.recordings.specs.Answers.{Answer, value, refusal, _>>=_, indexed, numbered}
-use Rattle.recordings.specs.Recordings.{at120}
-use Rattle.recordings.proofs.Chosen.{indexed-one, numbered-one}
+use Rattle.recordings.proofs.Chosen.{indexed-one}
 use Rattle.samples.specs.Frames.{timeOf, Samples, numberIn, floatIn}
 use Rattle.samples.specs.declared.Number.{Number}
 use Rattle.samples.proofs.Bits.{a-pattern, a-float}
-use Rattle.questions.specs.Questions.{headerIn, headerOf, factsOf, channelOf, clockOf, countOf, sampleOf}
-use Rattle.questions.specs.Tied.{recordingRead, channelRead, frameRead, samplesRead, sampleRead}
-use Rattle.questions.specs.Values.{someNan, floatsOf, calibrationOf, descriptorOf}
+use Rattle.questions.specs.Questions.{headerIn, headerOf, factsOf, channelOf, montageCountOf, montageOf, clockOf, countOf, sampleOf}
+use Rattle.questions.specs.Tied.{recordingRead, channelRead, montageRead, frameRead, samplesRead, sampleRead}
+use Rattle.questions.specs.Values.{someNan, floatsOf, calibrationOf, descriptorOf, wiredOf}
 use Rattle.questions.specs.declared.channels.Calibration.the-variants as Calibration
 use Rattle.questions.proofs.Calibrated.{plain, patterns, floats}
+use Rattle.questions.proofs.Described.{subAt, wiredAt, channel-seen, montage-seen}
+use Rattle.questions.proofs.Readings.{channel-alike, montage-alike, montage-count-read}
 use Rattle.demands.specs.Demands.{Accepted, calibratedBy, valueTold, headerRead, countsIn, timeIn, DescriptorTells, Agree, values, refusals}
-use Rattle.demands.proofs.Agreeing.{agree-then, agree-on, agree-equal, numbered-image, image-value}
+use Rattle.demands.proofs.Agreeing.{agree-then, agree-on, agree-equal, agree-alike, alike-equal, image-value}
+use Rattle.demands.proofs.Floats.{WordsSmall, words-small}
 use Rattle.demands.proofs.Samples.{numbers-small, Stand, recording-picked, frame-picked, samples-stand}
 
 -- Numbers: what the code answers keeps a float's bits
@@ -84,25 +82,7 @@ module _ (format a b c d : ℕ) (h₁ : a < 2 ^ 32) (h₂ : b < 2 ^ 32) (h₃ : 
       go true = four (someNan a b c d) refl
       go false = refl
 
--- the words of a channel that was read
-record Small (c : R.Channel) : Type 0 where
-  cal : c .cal < 2 ^ 32
-  calAD : c .calAD < 2 ^ 32
-  offsetAD : c .offsetAD < 2 ^ 32
-  offsetCal : c .offsetCal < 2 ^ 32
-
-channel-small : (room n : ℕ) {t : List Event} {c : R.Channel} → Plays t (R.channel room n) c → Small c
-unfolding fixed channelBody W._>>=_ W._>>_
-channel-small room n p =
-    by-parts (head room) _ p λ _ _ _ _ _ p.
-    by-parts (admit room 0 (eqb 256) (eqb n) _) _ (checked p .then) λ _ _ _ _ _ p.
-    let q = traced p in
-    let a = q .trace .then .then .then .then .then .then .then .then in
-    let b = a .then in
-    let d = b .then in
-    rw (q .value) (record { cal = a .small; calAD = b .small; offsetAD = d .small; offsetCal = d .then .small })
-
-channel-told : (c : R.Channel) (p : ℕ) → Small c → DescriptorTells (channelReading c) (descriptorOf c p)
+channel-told : (c : R.Channel) (p : ℕ) → WordsSmall c → DescriptorTells (channelReading c) (descriptorOf c p)
 unfolding descriptorOf
 channel-told c p h = record {
   number = refl;
@@ -150,22 +130,15 @@ module _ (s : List ℕ) (b : Bytes s) {v : R.File} {t : List Event} (h : Accepte
       let u : q .seconds ≡ unsigned 4 (signed 4 (q .seconds)) = sym (ap (λ (x : R.Recording). x .seconds) (recording-words (c .this) (p .is))) in
       rw (p .reads) (values (λ n. record { channels = m n; frames = f n; seconds = u n }))))
 
-  channel-is-small : (p : R.Placed) → numbered (v .recordings) i ≡ value p → (j : ℕ) (c : R.Channel) → numbered (p .recording .channels) j ≡ value c → Small c
-  channel-is-small p is j c has =
-      let x = numbered-one (v .recordings) i is .1 in
-      let y = numbered-one (p .recording .channels) j has .1 in
-      let e = x .is p in
-      let g = channel-holds-at s b h p (i - 1) (x .inside) c (j - 1) (rw e (y .inside)) in
-      rw (e, y .is c) at (channel-small (g .0) _ (g .1 .plays))
-
   pub channel-agrees : (j : ℕ) → Agree DescriptorTells (channelRead (reading v) i j) (channelOf s i j)
-  channel-agrees j =
-      agree-then (λ r. numbered (r .channels) j) (λ c. numbered (c .this .recording .channels) j >>= λ x. value (descriptorOf x (at120 c + (32 + 256 * (j - 1)))))
-      (recording-picked s h i)
-      (λ r c p.
-      rw (p .reads)
-      (agree-on (λ x. descriptorOf x (at120 c + (32 + 256 * (j - 1)))) (numbered-image channelReading (c .this .recording .channels) j)
-      (λ x y e. rw (e .maps) (channel-told y _ (channel-is-small (c .this) (p .is) j y (e .is))))))
+  channel-agrees j = agree-alike (channel-alike s b h i j (λ r c is nth. channel-told c (subAt r j) (words-small b (channel-seen s b h i r is j nth))))
+
+  pub montage-count-told : montageCountOf s i ≡ (recordingRead (reading v) i >>= λ r. value (length (r .montage)))
+  montage-count-told = alike-equal (montage-count-read s b h i)
+
+  pub montage-agrees : (j : ℕ) → Agree (λ c d. DescriptorTells c (d .channel)) (montageRead (reading v) i j) (montageOf s i j)
+  unfolding wiredOf
+  montage-agrees j = agree-alike (montage-alike s b h i j (λ r c is nth. channel-told c (wiredAt r j) (words-small b (montage-seen s b h i r is j nth))))
 
   pub clock-told : (j : ℕ) → clockOf s i j ≡ (frameRead (reading v) i j >>= λ f. value (timeIn f))
   clock-told j =

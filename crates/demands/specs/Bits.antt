@@ -16,6 +16,7 @@ use Rattle.questions.specs.Questions.{viewOf}
 use Rattle.questions.specs.Tied.{channelRead, TextIs, formatIn, valuesAt}
 use Rattle.questions.specs.Values.{textAt}
 use Rattle.answers.specs.declared.Channel.{Channel}
+use Rattle.answers.specs.declared.Montage.{Montage}
 use Rattle.answers.specs.declared.Sample.{Sample}
 use Rattle.answers.specs.declared.View.{View}
 
@@ -30,12 +31,12 @@ pub record WordIs (s : List ℕ) (p isFloat word : ℕ) (x : Value) : Type 0 whe
   pub bits : word ≡ numberAt (orderOf s) 4 s p
   pub means : x ≡ valueIn isFloat word (signed 4 word)
 
--- the calibration that is answered of channel j is that of the reading's channel c, and stands in its 125
-pub record CalibrationIs (s : List ℕ) (j : ℕ) (a : Channel) (c : ChannelReading) : Type 0 where
-  -- where the 125 stands: 72 bytes before the label, with its code and its serial, in the file
+-- the calibration that is answered of channel j is that of the reading's channel c, and stands in its sub, which has this code
+pub record CalibrationIs (s : List ℕ) (sub j : ℕ) (a : Channel) (c : ChannelReading) : Type 0 where
+  -- where the sub stands: 72 bytes before the label, with its code and its serial, in the file
   pub at : ℕ
   pub label : a .label ≡ at + 72
-  pub code : numberAt (orderOf s) 4 s (at + 4) ≡ 125
+  pub code : numberAt (orderOf s) 4 s (at + 4) ≡ sub
   pub serial : numberAt (orderOf s) 4 s (at + 8) ≡ j
   pub inside : at + 256 ≤ length s
   -- CAL, CAL AD, Offset AD and Offset CAL
@@ -47,8 +48,8 @@ pub record CalibrationIs (s : List ℕ) (j : ℕ) (a : Channel) (c : ChannelRead
   pub floats : a .format ≡ pos 4 → a .«is_float» ≡ 1
   pub numbers : (a .format ≡ pos 4 → ⊥) → a .«is_float» ≡ 0
 
--- what C is answered of channel j is the reading's channel c
-pub record ChannelIs (s : List ℕ) (j : ℕ) (a : Channel) (c : ChannelReading) : Type 0 where
+-- what C is answered of channel j, in a sub with this code, is the reading's channel c
+pub record ChannelIs (s : List ℕ) (sub j : ℕ) (a : Channel) (c : ChannelReading) : Type 0 where
   pub number : a .number ≡ c .channel
   pub flags : a .flags ≡ c .flags
   pub kind : a .kind ≡ c .type
@@ -61,7 +62,13 @@ pub record ChannelIs (s : List ℕ) (j : ℕ) (a : Channel) (c : ChannelReading)
   pub label : TextIs s (textAt (a .label) (a .«label_length»)) (c .label)
   pub unit : TextIs s (textAt (a .unit) (a .«unit_length»)) (c .unit)
   pub comment : TextIs s (textAt (a .comment) (a .«comment_length»)) (c .comment)
-  pub calibration : CalibrationIs s j a c
+  pub calibration : CalibrationIs s sub j a c
+
+-- what C is answered of channel j of a montage is the reading's channel c
+pub record MontageIs (s : List ℕ) (j : ℕ) (a : Montage) (c : ChannelReading) : Type 0 where
+  pub channel : ChannelIs s 355 j (a .channel) c
+  pub g1 : a .g1 ≡ c .g1
+  pub g2 : a .g2 ≡ c .g2
 
 -- A sample
 

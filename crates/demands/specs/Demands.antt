@@ -22,6 +22,7 @@ use Rattle.rules.specs.CanonicalForm.{CanonicalForm}
 use Rattle.rules.specs.Reading.{Value, whole, float, ChannelReading, FrameReading, RecordingReading, Reading, reading}
 use Rattle.rules.specs.Rules as R
 use Rattle.rules.specs.declared.FileHeader.{FileHeader}
+use Rattle.rules.specs.declared.Form.the-variants as Form
 use Rattle.rules.specs.declared.Refusal.{Refusal}
 use Rattle.rules.specs.declared.Spelling.the-variants as Spelling
 use Rattle.records.specs.declared.items.Holder.the-variants as Holder
@@ -48,16 +49,20 @@ use Rattle.samples.specs.declared.Number.the-variants as Number
 use Rattle.samples.specs.declared.SampleTold.{SampleTold}
 use Rattle.samples.specs.declared.SampleTold.the-variants as SampleTold
 use Rattle.samples.specs.declared.Time.{Time}
-use Rattle.questions.specs.Contracts.{HeaderAnswer, FactsAnswer, ChannelAnswer, PatientItemAnswer, EventItemAnswer, ClockAnswer, CountAnswer, SampleAnswer, ViewAnswer}
-use Rattle.questions.specs.Tied.{recordingRead, channelRead, itemRead, frameRead, samplesRead, sampleRead, Alike, FactsAre, TextsAre, ItemIs, ClockIs, ViewIs}
+use Rattle.questions.specs.Contracts.{HeaderAnswer, FactsAnswer, ChannelAnswer, MontageCountAnswer, MontageAnswer, PatientItemAnswer, EventItemAnswer, ClockAnswer, CountAnswer, SampleAnswer, ViewAnswer}
+use Rattle.questions.specs.Tied.{recordingRead, channelRead, montageRead, itemRead, frameRead, samplesRead, sampleRead, Alike, FactsAre, TextsAre, WiredIs, ItemIs, ClockIs, ViewIs}
 use Rattle.questions.specs.Values.{textAt}
 use Rattle.questions.specs.Questions.{headerIn}
-use Rattle.questions.specs.Meanings.{meaningH, meaningF, meaningD, meaningI, meaningT, meaningC, meaningS}
+use Rattle.questions.specs.Meanings.{meaningH, meaningF, meaningD, meaningN, meaningM, meaningI, meaningT, meaningC, meaningS}
 use Rattle.questions.specs.declared.channels.Calibration.{Calibration}
 use Rattle.questions.specs.declared.channels.Calibration.the-variants as Calibration
 use Rattle.questions.specs.declared.channels.ChannelTold.{ChannelTold}
 use Rattle.questions.specs.declared.channels.ChannelTold.the-variants as ChannelTold
 use Rattle.questions.specs.declared.channels.Descriptor.{Descriptor}
+use Rattle.questions.specs.declared.channels.MontageCountTold.{MontageCountTold}
+use Rattle.questions.specs.declared.channels.MontageCountTold.the-variants as MontageCountTold
+use Rattle.questions.specs.declared.channels.MontageTold.{MontageTold}
+use Rattle.questions.specs.declared.channels.MontageTold.the-variants as MontageTold
 use Rattle.questions.specs.declared.items.Entry.{Entry}
 use Rattle.questions.specs.declared.headers.Header as Asked
 use Rattle.questions.specs.declared.headers.HeaderTold.{HeaderTold}
@@ -70,7 +75,7 @@ use Rattle.permit.specs.declared.Written.{Written}
 use Rattle.permit.specs.declared.Written.the-variants as Written
 use Rattle.turn.specs.Turn.{Turns}
 use Rattle.rewrite.specs.Rewrite.{barrier, rewrittenIn, Rewrites}
-use Rattle.answers.specs.Flat.{countedRows, countedBytes, flatHeading, flatFacts, flatChannel, flatItem, flatClock, flatCount, flatSample}
+use Rattle.answers.specs.Flat.{countedRows, countedBytes, flatHeading, flatFacts, flatChannel, flatMontage, flatItem, flatClock, flatCount, flatSample}
 use Rattle.answers.specs.declared.Channel.{Channel}
 use Rattle.answers.specs.declared.Clock.{Clock}
 use Rattle.answers.specs.declared.Counted.{Counted}
@@ -78,10 +83,11 @@ use Rattle.answers.specs.declared.Facts.{Facts}
 use Rattle.answers.specs.declared.Header.{Header}
 use Rattle.answers.specs.declared.Heading.{Heading}
 use Rattle.answers.specs.declared.Item.{Item}
+use Rattle.answers.specs.declared.Montage.{Montage}
 use Rattle.answers.specs.declared.Sample.{Sample}
 use Rattle.answers.specs.declared.View.{View}
-use Rattle.psg.specs.Calls.{JudgeAnswers, TableAnswers, TurnAnswers, RewriteAnswers, HeaderAnswers, FactsAnswers, ChannelAnswers, PatientItemAnswers, EventItemAnswers, ClockAnswers, CountAnswers, SampleAnswers, ViewAnswers}
-use Rattle.demands.specs.Bits.{ChannelIs, SampleIs, SamplesAt}
+use Rattle.psg.specs.Calls.{JudgeAnswers, TableAnswers, TurnAnswers, RewriteAnswers, HeaderAnswers, FactsAnswers, ChannelAnswers, MontageCountAnswers, MontageAnswers, PatientItemAnswers, EventItemAnswers, ClockAnswers, CountAnswers, SampleAnswers, ViewAnswers}
+use Rattle.demands.specs.Bits.{ChannelIs, MontageIs, SampleIs, SamplesAt}
 
 -- Demand 1: every call answers, with a value or with a refusal that document 01 gives for it; and a buffer keeps what the answer does not state
 
@@ -212,6 +218,10 @@ pub record Boundary (s : List ℕ) : Type 0 where
   pub header : (a : Heading) → HeaderAnswers s a → TakenApart s (HeaderAnswer s) HeaderTold.Refused (λ b. flatHeading (meaningH b)) ofFile 0 (a .refusal) (a .position) a
   pub facts : (i : ℕ) (a : Facts) → FactsAnswers s i a → TakenApart s (FactsAnswer s i) FactsTold.Refused (λ b. flatFacts (meaningF b)) ofQuestion 0 (a .refusal) (a .position) a
   pub channel : (i j : ℕ) (a : Channel) → ChannelAnswers s i j a → TakenApart s (ChannelAnswer s i j) ChannelTold.Refused (λ b. flatChannel (meaningD b)) ofQuestion 0 (a .refusal) (a .position) a
+  pub montage-count : (i : ℕ) (a : Counted) → MontageCountAnswers s i a →
+      TakenApart s (MontageCountAnswer s i) MontageCountTold.Refused (λ b. flatCount (meaningN b)) ofQuestion 0 (a .refusal) (a .position) a
+  pub montage : (i j : ℕ) (a : Montage) → MontageAnswers s i j a →
+      TakenApart s (MontageAnswer s i j) MontageTold.Refused (λ b. flatMontage (meaningM b)) ofQuestion 0 (a .channel .refusal) (a .channel .position) a
   pub patient-item : (i j : ℕ) (a : Item) → PatientItemAnswers s i j a → TakenApart s (PatientItemAnswer s i j) ItemTold.Refused (λ b. flatItem (meaningI b)) ofQuestion 0 (a .refusal) (a .position) a
   pub event-item : (i j : ℕ) (a : Item) → EventItemAnswers s i j a → TakenApart s (EventItemAnswer s i j) ItemTold.Refused (λ b. flatItem (meaningI b)) ofQuestion 0 (a .refusal) (a .position) a
   pub clock : (i j : ℕ) (a : Clock) → ClockAnswers s i j a → TakenApart s (ClockAnswer s i j) ClockTold.Refused (λ b. flatClock (meaningT b)) ofQuestion 0 (a .refusal) (a .position) a
@@ -236,6 +246,8 @@ pub record Demand-1 (s : List ℕ) : Type 0 where
   pub header : (a : HeaderTold) → HeaderAnswer s a → Answered HeaderTold.Refused ofFile (length s) 0 a
   pub facts : (i : ℕ) (a : FactsTold) → FactsAnswer s i a → Answered FactsTold.Refused ofQuestion (length s) 0 a
   pub channel : (i j : ℕ) (a : ChannelTold) → ChannelAnswer s i j a → Answered ChannelTold.Refused ofQuestion (length s) 0 a
+  pub montage-count : (i : ℕ) (a : MontageCountTold) → MontageCountAnswer s i a → Answered MontageCountTold.Refused ofQuestion (length s) 0 a
+  pub montage : (i j : ℕ) (a : MontageTold) → MontageAnswer s i j a → Answered MontageTold.Refused ofQuestion (length s) 0 a
   pub patient-item : (i j : ℕ) (a : ItemTold) → PatientItemAnswer s i j a → Answered ItemTold.Refused ofQuestion (length s) 0 a
   pub event-item : (i j : ℕ) (a : ItemTold) → EventItemAnswer s i j a → Answered ItemTold.Refused ofQuestion (length s) 0 a
   pub clock : (i j : ℕ) (a : ClockTold) → ClockAnswer s i j a → Answered ClockTold.Refused ofQuestion (length s) 0 a
@@ -253,7 +265,11 @@ Accepted s v t = R.judge s ≡ passed v [] t
 
 -- the header that `judge` answers: the order, the header's values and K
 abbrev pub headerJudged : List ℕ → R.File → FileHeader
-headerJudged s v = record { order = R.orderOf s; heading = record { spelling = v .heading .spelling; script = v .heading .script }; count = length (v .recordings) }
+headerJudged s v = record {
+  order = R.orderOf s;
+  heading = record { spelling = v .heading .spelling; label = v .heading .label; script = v .heading .script };
+  count = length (v .recordings);
+}
 
 pub record JudgesByRules {E : Type 0} (accept : FileHeader → E) (refuse : Refusal → E) (s : List ℕ) (a : E) : Type 0 where
   -- where they accept, the header of what they read
@@ -270,6 +286,8 @@ pub record HandsUp (s : List ℕ) (n p : ℕ) : Type 0 where
   pub header : (a : HeaderTold) → HeaderAnswer s a → a ≡ HeaderTold.Refused (refusalOf n p)
   pub facts : (i : ℕ) (a : FactsTold) → FactsAnswer s i a → a ≡ FactsTold.Refused (refusalOf n p)
   pub channel : (i j : ℕ) (a : ChannelTold) → ChannelAnswer s i j a → a ≡ ChannelTold.Refused (refusalOf n p)
+  pub montage-count : (i : ℕ) (a : MontageCountTold) → MontageCountAnswer s i a → a ≡ MontageCountTold.Refused (refusalOf n p)
+  pub montage : (i j : ℕ) (a : MontageTold) → MontageAnswer s i j a → a ≡ MontageTold.Refused (refusalOf n p)
   pub patient-item : (i j : ℕ) (a : ItemTold) → PatientItemAnswer s i j a → a ≡ ItemTold.Refused (refusalOf n p)
   pub event-item : (i j : ℕ) (a : ItemTold) → EventItemAnswer s i j a → a ≡ ItemTold.Refused (refusalOf n p)
   pub clock : (i j : ℕ) (a : ClockTold) → ClockAnswer s i j a → a ≡ ClockTold.Refused (refusalOf n p)
@@ -335,6 +353,11 @@ pub record Tells (s : List ℕ) (g : Reading) : Type 0 where
   pub channel : (i j : ℕ) (a : ChannelTold) → ChannelAnswer s i j a → Agree DescriptorTells (channelRead g i j) (meaningD a)
   -- the bytes that a text names lie in the file, and are the reading's text
   pub texts : (i j : ℕ) (a : ChannelTold) → ChannelAnswer s i j a → Alike (TextsAre s) (meaningD a) (channelRead g i j)
+  -- a recording without a 350 has a montage of no channels
+  pub montage-count : (i : ℕ) (a : MontageCountTold) → MontageCountAnswer s i a → meaningN a ≡ (recordingRead g i >>= λ r. value (length (r .montage)))
+  pub montage : (i j : ℕ) (a : MontageTold) → MontageAnswer s i j a → Agree (λ c d. DescriptorTells c (d .channel)) (montageRead g i j) (meaningM a)
+  -- with its texts and its inputs
+  pub wired : (i j : ℕ) (a : MontageTold) → MontageAnswer s i j a → Alike (WiredIs s) (meaningM a) (montageRead g i j)
   pub patient-item : (i j : ℕ) (a : ItemTold) → PatientItemAnswer s i j a → Alike (ItemIs s) (meaningI a) (itemRead Holder.Patient g i j)
   pub event-item : (i j : ℕ) (a : ItemTold) → EventItemAnswer s i j a → Alike (ItemIs s) (meaningI a) (itemRead Holder.Event g i j)
   pub clock : (i j : ℕ) (a : ClockTold) → ClockAnswer s i j a → meaningT a ≡ (frameRead g i j >>= λ f. value (timeIn f))
@@ -358,22 +381,30 @@ entryC a = record { code = a .code; text = textAt (a .text) (a .«text_length»)
 abbrev pub timeC : Clock → Time
 timeC a = record { hour = a .hour; minute = a .minute; second = a .second }
 
--- what C is answered of the header of a file in this order: the spelling 0 is JSSR-SPG, 1 JSSR-PSG
+-- what C is answered of the header of a file in this order: the spelling 0 is JSSR-SPG, 1 JSSR-PSG; the form 0 is 00, 1 is 01
 pub record HeadingIs (o : Order) (g : Reading) (a : Heading) : Type 0 where
   pub accepted : a .refusal ≡ 0
   pub spg : g .heading .spelling ≡ Spelling.Spg → a .spelling ≡ 0
   pub psg : g .heading .spelling ≡ Spelling.Psg → a .spelling ≡ 1
   pub version : a .version ≡ 300
-  pub form : a .form ≡ 0
+  pub channels : g .heading .label .form ≡ Form.Channels → a .form ≡ 0
+  pub electrodes : g .heading .label .form ≡ Form.Electrodes → a .form ≡ 1
   pub order : a .order ≡ letterOf o
   pub script : a .script ≡ g .heading .script
   pub recordings : a .recordings ≡ length (g .recordings)
+
+-- the code of a channel's sub, 125 or 325
+abbrev pub channelCode : Reading → ℕ
+channelCode g = R.channelsGroup (g .heading .label) 0 .sub .code
 
 -- each question of C about a file with this reading answers what the reading says
 pub record BoundaryTells (s : List ℕ) (g : Reading) : Type 0 where
   pub header : (a : Heading) → HeaderAnswers s a → HeadingIs (R.orderOf s) g a
   pub facts : (i : ℕ) (a : Facts) → FactsAnswers s i a → TellsC (FactsAre (countsC a)) (a .refusal) (a .position) (recordingRead g i)
-  pub channel : (i j : ℕ) (a : Channel) → ChannelAnswers s i j a → TellsC (ChannelIs s j a) (a .refusal) (a .position) (channelRead g i j)
+  pub channel : (i j : ℕ) (a : Channel) → ChannelAnswers s i j a → TellsC (ChannelIs s (channelCode g) j a) (a .refusal) (a .position) (channelRead g i j)
+  pub montage-count : (i : ℕ) (a : Counted) → MontageCountAnswers s i a →
+      TellsC (λ r. a .count ≡ length (r .montage)) (a .refusal) (a .position) (recordingRead g i)
+  pub montage : (i j : ℕ) (a : Montage) → MontageAnswers s i j a → TellsC (MontageIs s j a) (a .channel .refusal) (a .channel .position) (montageRead g i j)
   pub patient-item : (i j : ℕ) (a : Item) → PatientItemAnswers s i j a → TellsC (ItemIs s (entryC a)) (a .refusal) (a .position) (itemRead Holder.Patient g i j)
   pub event-item : (i j : ℕ) (a : Item) → EventItemAnswers s i j a → TellsC (ItemIs s (entryC a)) (a .refusal) (a .position) (itemRead Holder.Event g i j)
   pub clock : (i j : ℕ) (a : Clock) → ClockAnswers s i j a → TellsC (ClockIs (timeC a)) (a .refusal) (a .position) (frameRead g i j)
@@ -473,6 +504,8 @@ pub record BoundarySame (s s′ : List ℕ) : Type 0 where
   pub header : (a b : Heading) → HeaderAnswers s a → HeaderAnswers s′ b → SameButOrder (R.orderOf s) a b
   pub facts : (i : ℕ) (a b : Facts) → FactsAnswers s i a → FactsAnswers s′ i b → a ≡ b
   pub channel : (i j : ℕ) (a b : Channel) → ChannelAnswers s i j a → ChannelAnswers s′ i j b → a ≡ b
+  pub montage-count : (i : ℕ) (a b : Counted) → MontageCountAnswers s i a → MontageCountAnswers s′ i b → a ≡ b
+  pub montage : (i j : ℕ) (a b : Montage) → MontageAnswers s i j a → MontageAnswers s′ i j b → a ≡ b
   pub patient-item : (i j : ℕ) (a b : Item) → PatientItemAnswers s i j a → PatientItemAnswers s′ i j b → a ≡ b
   pub event-item : (i j : ℕ) (a b : Item) → EventItemAnswers s i j a → EventItemAnswers s′ i j b → a ≡ b
   pub clock : (i j : ℕ) (a b : Clock) → ClockAnswers s i j a → ClockAnswers s′ i j b → a ≡ b
@@ -500,6 +533,8 @@ pub record Same (s : List ℕ) (g : Reading) (s′ : List ℕ) : Type 0 where
   pub header : (a b : HeaderTold) → HeaderAnswer s a → HeaderAnswer s′ b → (h : Asked.Header) × (a ≡ HeaderTold.Header h) × (b ≡ HeaderTold.Header (inOther h))
   pub facts : (i : ℕ) (a b : FactsTold) → FactsAnswer s i a → FactsAnswer s′ i b → a ≡ b
   pub channel : (i j : ℕ) (a b : ChannelTold) → ChannelAnswer s i j a → ChannelAnswer s′ i j b → a ≡ b
+  pub montage-count : (i : ℕ) (a b : MontageCountTold) → MontageCountAnswer s i a → MontageCountAnswer s′ i b → a ≡ b
+  pub montage : (i j : ℕ) (a b : MontageTold) → MontageAnswer s i j a → MontageAnswer s′ i j b → a ≡ b
   pub patient-item : (i j : ℕ) (a b : ItemTold) → PatientItemAnswer s i j a → PatientItemAnswer s′ i j b → a ≡ b
   pub event-item : (i j : ℕ) (a b : ItemTold) → EventItemAnswer s i j a → EventItemAnswer s′ i j b → a ≡ b
   pub clock : (i j : ℕ) (a b : ClockTold) → ClockAnswer s i j a → ClockAnswer s′ i j b → a ≡ b

@@ -13,6 +13,7 @@ use Rattle.walk.specs.Walk.{Walk, give, pick, _>>=_}
 use Rattle.walk.specs.See.{Verdict, stops, goes, see, Goes, over}
 use Rattle.walk.proofs.Seen.{see-give, went, stopped, yields, stays-goes}
 use Rattle.rules.specs.Rules as R
+use Rattle.rules.specs.declared.Label.{Label}
 use Rattle.rules.specs.declared.Basic.{Basic}
 use Rattle.rules.specs.declared.Head.{Head}
 use Rattle.rules.specs.declared.Refusal.{Refusal}
@@ -21,9 +22,9 @@ use Rattle.records.specs.declared.Headed.the-variants as Headed
 use Rattle.records.specs.declared.basic.Basiced.{Basiced}
 use Rattle.records.specs.declared.basic.Basiced.the-variants as Basiced
 use Rattle.records.specs.declared.items.Holder.the-variants as Holder
-use Rattle.records.specs.Says.{halts, headOf, headroom, Headroom, basicOf, basiced, okOf, HeadFrom, NextHead}
+use Rattle.records.specs.Says.{halts, headOf, headroom, Headroom, basicOf, basiced, okOf, HeadFrom, NextHead, subsAt, ChannelsStand}
 use Rattle.rules.specs.Rules.{descriptions}
-use Rattle.descriptions.specs.DescriptionsJudged.{HeldIs, HeldAs, Owned, Parts, parted, Keeps, DescribedBounds, heldAt, channelsIn, patientIn, countIn, placeOf, ChannelsPart, ItemsPart, DescriptionsOf}
+use Rattle.descriptions.specs.DescriptionsJudged.{HeldIs, HeldAs, Owned, Parts, parted, Keeps, DescribedBounds, heldAt, channelsIn, patientIn, countIn, placeOf, ChannelsPart, MontagePart, ItemsPart, DescriptionsOf}
 use Rattle.descriptions.specs.declared.Before.{Before}
 use Rattle.descriptions.specs.declared.Before.the-variants as Before
 use Rattle.descriptions.specs.declared.Held.{Held}
@@ -57,8 +58,8 @@ placed : (own : Bool) (base n p room other : ℕ) → 16 ≤ base → p ≤ n �
 placed own base n p room other u l e = ap (λ (z : ℕ). pick own z other) (omega arith)
 
 -- what the code makes of its parts
-abbrev pub describedOf : Basic → Before → Part → Part → Part → Described
-describedOf b before c p e = record { basic = b; own = c .own; channels = c .at; count = pick (c .own) (b .channels) (countIn before); patient = p .at; «has_events» = e .own; events = e .at; next = e .next }
+abbrev pub describedOf : Basic → Before → Part → Part → Part → Part → Described
+describedOf b before c p e m = record { basic = b; own = c .own; channels = c .at; count = pick (c .own) (b .channels) (countIn before); patient = p .at; «has_events» = e .own; events = e .at; «has_montage» = m .own; montage = m .at; next = m .next }
 
 -- what `basic_at` says of the body's first byte
 abbrev pub Hundred : Order → ℕ → List ℕ → Basiced → Type 0
@@ -111,19 +112,23 @@ module _ (o : Order) (base : ℕ) (s : List ℕ) where
         stands = l .stands;
       }
 
-  module _ (held : Option R.Held) where
+  module _ (label : Label) (held : Option R.Held) where
     abbrev whole : Verdict R.Descriptions
-    whole = see o base s base (descriptions held (16 + length s))
+    whole = see o base s base (descriptions label held (16 + length s))
 
     -- what is left of the walk before each part
+    abbrev to350 : R.Basic → R.Next → R.Part (List R.Channel) → R.Part (List R.Item) → R.Part (List R.Item) → Walk R.Descriptions
+    to350 b n c p e = R.part (16 + length s) 350 (R.montage label (c .value)) (some []) (e .next) >>= λ m. give (record { basic = b; next = n; channels = c; patient = p; events = e; montage = m })
+
     abbrev to200 : R.Basic → R.Next → R.Part (List R.Channel) → R.Part (List R.Item) → Walk R.Descriptions
-    to200 b n c p = R.part (16 + length s) 200 (R.items (okOf Holder.Event)) (some []) (p .next) >>= λ e. give (record { basic = b; next = n; channels = c; patient = p; events = e })
+    to200 b n c p = R.part (16 + length s) 200 (R.items (okOf Holder.Event)) (some []) (p .next) >>= to350 b n c p
 
     abbrev to130 : R.Basic → R.Next → R.Part (List R.Channel) → Walk R.Descriptions
     to130 b n c = R.part (16 + length s) 130 (R.items (okOf Holder.Patient)) (R.heldPatient held) (c .next) >>= to200 b n c
 
     abbrev to120 : R.Basic → R.Next → Walk R.Descriptions
-    to120 b n = R.part (16 + length s) 120 (R.channels b) (R.heldChannels held) n >>= to130 b n
+    to120 b n =
+        R.part (16 + length s) (R.channelsGroup label (b .channels) .code) (R.channels (R.channelsGroup label (b .channels))) (R.heldChannels held) n >>= to130 b n
 
     opened : whole ≡ see o base s base (R.basic (length s) >>= λ b. R.next (16 + length s) (length s - 128) >>= to120 b)
     unfolding descriptions okOf
@@ -141,19 +146,20 @@ module _ (o : Order) (base : ℕ) (s : List ℕ) where
         opened ∙ bind-goes o base s _ _ _ (rw (g .kept .1) at (g .is)) ∙ bind-stops o base s _ _ _ (stopped headroom _ (l .seen (16 + length s) (omega arith)))
 
   -- a refusal says nothing of places
-  refused : {before : Before} {r : Refusal} → ((file : List ℕ) (held : Option R.Held) → HeldAs o file before held → whole held ≡ halts r) → DescriptionsOf o base s before (DescriptionsJudged.Stop r)
-  refused k = record { told = λ file held is has. k file held has; bounds = tt }
+  refused : {label : Label} {before : Before} {r : Refusal} → ((file : List ℕ) (held : Option R.Held) → s ≡ take (length s) (drop base file) → HeldAs o file before held → whole label held ≡ halts r) →
+      DescriptionsOf o label base s before (DescriptionsJudged.Stop r)
+  refused k = record { told = k; bounds = tt }
 
-  pub stops-basic : {before : Before} {r : Refusal} → Hundred o base s (Basiced.Stop r) → DescriptionsOf o base s before (DescriptionsJudged.Stop r)
-  stops-basic k = refused (λ file held has. basic-stop held k)
+  pub stops-basic : {label : Label} {before : Before} {r : Refusal} → Hundred o base s (Basiced.Stop r) → DescriptionsOf o label base s before (DescriptionsJudged.Stop r)
+  stops-basic {label} k = refused (λ file held is has. basic-stop label held k)
 
-  pub stops-next : {before : Before} {b : Basic} {r : Refusal} → Hundred o base s (Basiced.Holds b) → NextHead o base s 128 (Headed.Stop r) → DescriptionsOf o base s before (DescriptionsJudged.Stop r)
-  stops-next k l = refused (λ file held has. next-stop held k l)
+  pub stops-next : {label : Label} {before : Before} {b : Basic} {r : Refusal} → Hundred o base s (Basiced.Holds b) → NextHead o base s 128 (Headed.Stop r) → DescriptionsOf o label base s before (DescriptionsJudged.Stop r)
+  stops-next {label} k l = refused (λ file held is has. next-stop label held k l)
 
-  module _ {b : Basic} {h : Head} (g : Begun o base s b h) (before : Before) {x y : Held} (xs : x ≡ channelsIn before) (ys : y ≡ patientIn before) where
-    -- what the functions say of the 120, the 130 and the 200
+  module _ (label : Label) {b : Basic} {h : Head} (g : Begun o base s b h) (before : Before) {x y : Held} (xs : x ≡ channelsIn before) (ys : y ≡ patientIn before) where
+    -- what the functions say of the 120 or 320, the 130, the 200 and the 350
     abbrev First : Parted → Type 0
-    First a = ChannelsPart o base s h (b .channels) x a
+    First a = ChannelsPart o label base s h (b .channels) x a
 
     abbrev Second : Part → Parted → Type 0
     Second c a = ItemsPart o Holder.Patient base s (c .next) y a
@@ -161,18 +167,21 @@ module _ (o : Order) (base : ℕ) (s : List ℕ) where
     abbrev Third : Part → Parted → Type 0
     Third p a = ItemsPart o Holder.Event base s (p .next) (Held.At 0) a
 
+    abbrev Fourth : Part → Part → Parted → Type 0
+    Fourth c e a = MontagePart o label base s (e .next) (pick (c .own) (b .channels) (countIn before)) a
+
     counted : g .basic .channels ≡ b .channels
     counted = ap (λ (x : Basic). x .channels) (g .same)
 
     -- the bounds, whatever the walk holds
-    ready : {c p e : Part} → First (Parted.On c) → Second c (Parted.On p) → Third p (Parted.On e) → DescribedBounds base (length s) before (describedOf b before c p e)
-    ready {c} {p} {e} k₁ k₂ k₃ =
+    ready : {c p e m : Part} → First (Parted.On c) → Second c (Parted.On p) → Third p (Parted.On e) → Fourth c e (Parted.On m) → DescribedBounds base (length s) before (describedOf b before c p e m)
+    ready {c} {p} {e} {m} k₁ k₂ k₃ k₄ =
         let hv : Option (List R.Channel) = spare (channelsIn before) in
         let is : HeldIs (channelsIn before) hv = spare-is (channelsIn before) in
-        let P : Goes _ (Parts (Owned o s (h .at) (b .channels)) hv base (length s) h x c) = k₁ .told (g .basic) counted hv (g .next) (16 + length s) (record { holds = rw xs is; head = g .head; room = g .room; enough = omega arith }) in
+        let P : Goes _ (Parts (Owned o s (h .at) (b .channels)) hv base (length s) h x c) = k₁ .told hv (g .next) (16 + length s) (record { holds = rw xs is; head = g .head; room = g .room; enough = omega arith }) in
         record {
-          low = omega (arith, g .stands .low, k₁ .follows .low, k₂ .follows .low, k₃ .follows .low);
-          fits = k₃ .follows .inside;
+          low = omega (arith, g .stands .low, k₁ .follows .low, k₂ .follows .low, k₃ .follows .low, k₄ .follows .low);
+          fits = k₄ .follows .inside;
           one = g .counts .one;
           few = g .counts .few;
           short = g .counts .short;
@@ -182,15 +191,15 @@ module _ (o : Order) (base : ℕ) (s : List ℕ) where
     module _ (file : List ℕ) (held : Option R.Held) (has : HeldAs o file before held) where
       -- the part at the head h, and the walk up to it
       abbrev seen₁ : Verdict (R.Part (List R.Channel))
-      seen₁ = see o base s (base + (h .at + 16)) (R.part (16 + length s) 120 (R.channels (g .basic)) (R.heldChannels held) (g .next))
+      seen₁ = see o base s (base + (h .at + 16)) (R.part (16 + length s) (R.channelsGroup label (g .basic .channels) .code) (R.channels (R.channelsGroup label (g .basic .channels))) (R.heldChannels held) (g .next))
 
       judged₁ : (a : Parted) → First a → parted (Owned o s (h .at) (b .channels)) (R.heldChannels held) base (length s) h x a seen₁
-      judged₁ a k = k .told (g .basic) counted (R.heldChannels held) (g .next) (16 + length s) (record { holds = rw xs (held-is o file before held has .0); head = g .head; room = g .room; enough = omega arith })
+      judged₁ a k = rw counted (k .told (R.heldChannels held) (g .next) (16 + length s) (record { holds = rw xs (held-is o file before held has .0); head = g .head; room = g .room; enough = omega arith }))
 
-      reached₁ : whole held ≡ see o base s (base + (h .at + 16)) (to120 held (g .basic) (g .next))
-      reached₁ = opened held ∙ bind-goes o base s _ _ _ (g .is) ∙ bind-goes o base s _ _ _ (g .follows)
+      reached₁ : whole label held ≡ see o base s (base + (h .at + 16)) (to120 label held (g .basic) (g .next))
+      reached₁ = opened label held ∙ bind-goes o base s _ _ _ (g .is) ∙ bind-goes o base s _ _ _ (g .follows)
 
-      channels-stop : {r : Refusal} → First (Parted.Stop r) → whole held ≡ halts r
+      channels-stop : {r : Refusal} → First (Parted.Stop r) → whole label held ≡ halts r
       channels-stop k = reached₁ ∙ bind-stops o base s _ _ _ (judged₁ (Parted.Stop _) k)
 
       module _ {c : Part} (k₁ : First (Parted.On c)) where
@@ -204,10 +213,10 @@ module _ (o : Order) (base : ℕ) (s : List ℕ) where
         judged₂ : (a : Parted) → Second c a → parted (λ _. Unit {0}) (R.heldPatient held) base (length s) (c .next) y a seen₂
         judged₂ a k = k .told (R.heldPatient held) (first .value .next) (16 + length s) (record { holds = rw ys (held-is o file before held has .1); head = first .kept .head; room = first .kept .room; enough = omega arith })
 
-        reached₂ : whole held ≡ see o base s (base + (c .next .at + 16)) (to130 held (g .basic) (g .next) (first .value))
+        reached₂ : whole label held ≡ see o base s (base + (c .next .at + 16)) (to130 label held (g .basic) (g .next) (first .value))
         reached₂ = reached₁ ∙ bind-goes o base s _ _ _ (rw (first .kept .end) at (first .is))
 
-        patient-stop : {r : Refusal} → Second c (Parted.Stop r) → whole held ≡ halts r
+        patient-stop : {r : Refusal} → Second c (Parted.Stop r) → whole label held ≡ halts r
         patient-stop k = reached₂ ∙ bind-stops o base s _ _ _ (judged₂ (Parted.Stop _) k)
 
         module _ {p : Part} (k₂ : Second c (Parted.On p)) where
@@ -221,43 +230,72 @@ module _ (o : Order) (base : ℕ) (s : List ℕ) where
           judged₃ : (a : Parted) → Third p a → parted (λ _. Unit {0}) (some []) base (length s) (p .next) (Held.At 0) a seen₃
           judged₃ a k = k .told (some []) (second .value .next) (16 + length s) (record { holds = tt; head = second .kept .head; room = second .kept .room; enough = omega arith })
 
-          reached₃ : whole held ≡ see o base s (base + (p .next .at + 16)) (to200 held (g .basic) (g .next) (first .value) (second .value))
+          reached₃ : whole label held ≡ see o base s (base + (p .next .at + 16)) (to200 label held (g .basic) (g .next) (first .value) (second .value))
           reached₃ = reached₂ ∙ bind-goes o base s _ _ _ (rw (second .kept .end) at (second .is))
 
-          events-stop : {r : Refusal} → Third p (Parted.Stop r) → whole held ≡ halts r
+          events-stop : {r : Refusal} → Third p (Parted.Stop r) → whole label held ≡ halts r
           events-stop k = reached₃ ∙ bind-stops o base s _ _ _ (judged₃ (Parted.Stop _) k)
 
-          tables-hold : {e : Part} → Third p (Parted.On e) → 16 ≤ base → s ≡ take (length s) (drop base file) → Goes (whole held) (Keeps o file base (length s) before (describedOf b before c p e))
-          tables-hold {e} k u is =
-              let third : Goes seen₃ (Parts (λ _. Unit {0}) (some []) base (length s) (p .next) (Held.At 0) e) = judged₃ (Parted.On e) k in
-              let place = rw xs at (first .kept .place) in
-              record {
-                value = record { basic = g .basic; next = g .next; channels = first .value; patient = second .value; events = third .value };
-                end = third .end;
-                is = reached₃ ∙ bind-goes o base s _ _ _ (third .is) ∙ see-give o base s _ _;
-                kept = record {
-                  basic = g .same;
-                  own = first .kept .own;
-                  has-events = third .kept .own;
-                  head = third .kept .head;
-                  room = third .kept .room;
-                  end = third .kept .end;
-                  channels-at = place ∙ placed (c .own) base (length s) (h .at) (g .next .room) (heldAt (channelsIn before)) u (omega (arith, g .stands .inside)) (g .room);
-                  patient-at = rw (second .kept .own) (rw ys at (second .kept .place) ∙ placed (p .own) base (length s) (c .next .at) (first .value .next .room) (heldAt (patientIn before)) u (omega (arith, k₁ .follows .inside)) (first .kept .room));
-                  events-at = third .kept .place ∙ placed (e .own) base (length s) (p .next .at) (second .value .next .room) 0 u (omega (arith, k₂ .follows .inside)) (second .kept .room);
-                  stand = stand o base s (h .at) (b .channels) file before held (c .own) (c .at) (first .value .value) is has (first .kept .value) place;
-                };
-              }
+          module _ {e : Part} (k₃ : Third p (Parted.On e)) (is : s ≡ take (length s) (drop base file)) where
+            abbrev third : Goes seen₃ (Parts (λ _. Unit {0}) (some []) base (length s) (p .next) (Held.At 0) e)
+            third = judged₃ (Parted.On e) k₃
+
+            -- the channels that hold
+            abbrev place : c .at ≡ pick (c .own) (base + h .at) (heldAt (channelsIn before))
+            place = rw xs at (first .kept .place)
+
+            abbrev stood : ChannelsStand o file (subsAt (c .at) (pick (c .own) (b .channels) (countIn before))) (first .value .value)
+            stood = stand o base s (h .at) (b .channels) file before held (c .own) (c .at) (first .value .value) is has (first .kept .value) place
+
+            -- and of the 350
+            abbrev seen₄ : Verdict (R.Part (List R.Channel))
+            seen₄ = see o base s (base + (e .next .at + 16)) (R.part (16 + length s) 350 (R.montage label (first .value .value)) (some []) (third .value .next))
+
+            judged₄ : (a : Parted) → Fourth c e a → parted (λ _. Unit {0}) (some []) base (length s) (e .next) (Held.At 0) a seen₄
+            judged₄ a k = k .told (first .value .value) (stood .count) (some []) (third .value .next) (16 + length s) (record { holds = tt; head = third .kept .head; room = third .kept .room; enough = omega arith })
+
+            reached₄ : whole label held ≡ see o base s (base + (e .next .at + 16)) (to350 label held (g .basic) (g .next) (first .value) (second .value) (third .value))
+            reached₄ = reached₃ ∙ bind-goes o base s _ _ _ (rw (third .kept .end) at (third .is))
+
+            montage-stop : {r : Refusal} → Fourth c e (Parted.Stop r) → whole label held ≡ halts r
+            montage-stop k = reached₄ ∙ bind-stops o base s _ _ _ (judged₄ (Parted.Stop _) k)
+
+            tables-hold : {m : Part} → Fourth c e (Parted.On m) → 16 ≤ base → Goes (whole label held) (Keeps o file base (length s) before (describedOf b before c p e m))
+            tables-hold {m} k u =
+                let fourth : Goes seen₄ (Parts (λ _. Unit {0}) (some []) base (length s) (e .next) (Held.At 0) m) = judged₄ (Parted.On m) k in
+                record {
+                  value = record { basic = g .basic; next = g .next; channels = first .value; patient = second .value; events = third .value; montage = fourth .value };
+                  end = fourth .end;
+                  is = reached₄ ∙ bind-goes o base s _ _ _ (fourth .is) ∙ see-give o base s _ _;
+                  kept = record {
+                    basic = g .same;
+                    own = first .kept .own;
+                    has-events = third .kept .own;
+                    has-montage = fourth .kept .own;
+                    head = fourth .kept .head;
+                    room = fourth .kept .room;
+                    end = fourth .kept .end;
+                    channels-at = place ∙ placed (c .own) base (length s) (h .at) (g .next .room) (heldAt (channelsIn before)) u (omega (arith, g .stands .inside)) (g .room);
+                    patient-at = rw (second .kept .own) (rw ys at (second .kept .place) ∙ placed (p .own) base (length s) (c .next .at) (first .value .next .room) (heldAt (patientIn before)) u (omega (arith, k₁ .follows .inside)) (first .kept .room));
+                    events-at = third .kept .place ∙ placed (e .own) base (length s) (p .next .at) (second .value .next .room) 0 u (omega (arith, k₂ .follows .inside)) (second .kept .room);
+                    montage-at = fourth .kept .place ∙ placed (m .own) base (length s) (e .next .at) (third .value .next .room) 0 u (omega (arith, k₃ .follows .inside)) (third .kept .room);
+                    stand = stood;
+                  };
+                }
 
     -- so of the answer
-    pub stops-channels : {r : Refusal} → First (Parted.Stop r) → DescriptionsOf o base s before (DescriptionsJudged.Stop r)
-    stops-channels k = refused (λ file held has. channels-stop file held has k)
+    pub stops-channels : {r : Refusal} → First (Parted.Stop r) → DescriptionsOf o label base s before (DescriptionsJudged.Stop r)
+    stops-channels k = refused (λ file held is has. channels-stop file held has k)
 
-    pub stops-patient : {c : Part} {r : Refusal} → First (Parted.On c) → Second c (Parted.Stop r) → DescriptionsOf o base s before (DescriptionsJudged.Stop r)
-    stops-patient k₁ k = refused (λ file held has. patient-stop file held has k₁ k)
+    pub stops-patient : {c : Part} {r : Refusal} → First (Parted.On c) → Second c (Parted.Stop r) → DescriptionsOf o label base s before (DescriptionsJudged.Stop r)
+    stops-patient k₁ k = refused (λ file held is has. patient-stop file held has k₁ k)
 
-    pub stops-events : {c p : Part} {r : Refusal} → First (Parted.On c) → Second c (Parted.On p) → Third p (Parted.Stop r) → DescriptionsOf o base s before (DescriptionsJudged.Stop r)
-    stops-events k₁ k₂ k = refused (λ file held has. events-stop file held has k₁ k₂ k)
+    pub stops-events : {c p : Part} {r : Refusal} → First (Parted.On c) → Second c (Parted.On p) → Third p (Parted.Stop r) → DescriptionsOf o label base s before (DescriptionsJudged.Stop r)
+    stops-events k₁ k₂ k = refused (λ file held is has. events-stop file held has k₁ k₂ k)
 
-    pub holds : {c p e : Part} → First (Parted.On c) → Second c (Parted.On p) → Third p (Parted.On e) → 16 ≤ base → DescriptionsOf o base s before (DescriptionsJudged.On (describedOf b before c p e))
-    holds k₁ k₂ k₃ u = record { told = λ file held is has. tables-hold file held has k₁ k₂ k₃ u is; bounds = ready k₁ k₂ k₃ }
+    pub stops-montage : {c p e : Part} {r : Refusal} → First (Parted.On c) → Second c (Parted.On p) → Third p (Parted.On e) → Fourth c e (Parted.Stop r) → DescriptionsOf o label base s before (DescriptionsJudged.Stop r)
+    stops-montage k₁ k₂ k₃ k = refused (λ file held is has. montage-stop file held has k₁ k₂ k₃ is k)
+
+    pub holds : {c p e m : Part} → First (Parted.On c) → Second c (Parted.On p) → Third p (Parted.On e) → Fourth c e (Parted.On m) → 16 ≤ base →
+        DescriptionsOf o label base s before (DescriptionsJudged.On (describedOf b before c p e m))
+    holds k₁ k₂ k₃ k₄ u = record { told = λ file held is has. tables-hold file held has k₁ k₂ k₃ is k₄ u; bounds = ready k₁ k₂ k₃ k₄ }

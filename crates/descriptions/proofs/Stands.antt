@@ -1,6 +1,6 @@
--- The channels of a 120 that passed stand in its bytes, and so in the file; and the counts of a 100 that passed.
+-- The channels of a 120 or 320 that passed stand in its bytes, and so in the file; and the counts of a 100 that passed.
 -- Assumes nothing.
-use mathlib.Core.Path.{_≡_, ap, _∙_}
+use mathlib.Core.Path.{_≡_, refl, ap, _∙_}
 use mathlib.Core.Bool.{Bool, true, false}
 use mathlib.Core.List.{List, [], _∷_}
 use mathlib.Core.Option.{Option, none, some}
@@ -12,15 +12,19 @@ use lib.ListN.{length, take, drop}
 use Rattle.words.specs.declared.Order.{Order}
 use Rattle.words.specs.Numbers.{wordIn, bytesAt, numberAt}
 use Rattle.walk.specs.Walk.{laid, Walk, give, refuse, check, number, read, skip, list, pick, _>>=_, _>>_}
-use Rattle.walk.specs.See.{goes, see, Yields}
+use Rattle.walk.specs.See.{stops, goes, see, Yields, over, ends}
 use Rattle.walk.proofs.Apart.{none-some}
-use Rattle.walk.proofs.Seen.{yields, yields-bind, part-bytes}
+use Rattle.walk.proofs.Seen.{see-refuse, yields, yields-bind, part-bytes}
 use Rattle.rules.specs.Rules as R
-use Rattle.rules.specs.Rules.{fixed, head, admit, basicBody, channels, channelsBody, channel, series}
-use Rattle.records.specs.Says.{Kept, subsAt, ChannelsIn, ChannelsStand}
+use Rattle.rules.specs.declared.Form.the-variants as Form
+use Rattle.rules.specs.declared.Head.{Head}
+use Rattle.rules.specs.declared.Label.{Label}
+use Rattle.rules.specs.Rules.{fixed, head, admit, basicBody, channelsGroup, channels, channelsBody, channel, series}
+use Rattle.rules.proofs.Cases.{by-form}
+use Rattle.records.specs.Says.{headOf, groupOf, Kept, subsAt, ChannelsIn, ChannelsStand}
 use Rattle.records.proofs.Facts.{between-in}
 use Rattle.records.proofs.Steps.{yields-channels}
-use Rattle.descriptions.specs.DescriptionsJudged.{HeldIs, HeldAs, HeldWithin, Owned, PartValue, heldAt, channelsIn, countIn}
+use Rattle.descriptions.specs.DescriptionsJudged.{groupFor, HeldIs, HeldAs, HeldWithin, Owned, PartValue, heldAt, channelsIn, countIn}
 use Rattle.descriptions.specs.declared.Before.{Before}
 use Rattle.descriptions.specs.declared.Before.the-variants as Before
 
@@ -58,28 +62,49 @@ yields-any o b s (list p l c m w) at = yields-any o b s w at
 pub yields-past : {A B : Type 0} (o : Order) (b : ℕ) (s : List ℕ) (w : Walk A) (k : A → Walk B) (at : ℕ) (R : B → ℕ → Type 0) → ((a : A) (e : ℕ) → Yields o b s e (k a) R) → Yields o b s at (w >>= k) R
 yields-past o b s w k at R g = yields-bind o b s w k at (λ _ _. Unit {0}) R (yields-any o b s w at) (λ a e _. g a e)
 
--- the rest of the 120 at byte p, which stops at e
+-- the rest of the 120 or 320 at byte p, which stops at e
 record Ends (o : Order) (b : ℕ) (s : List ℕ) (p m : ℕ) (cs : List R.Channel) (e : ℕ) : Type 0 where
   stand : ChannelsStand o s (subsAt p m) cs
   few : m ≤ 128
   end : e ≡ b + (p + 32 + 256 * m)
 
-yields-rest : (o : Order) (b : ℕ) (s : List ℕ) (x : R.Basic) (room : ℕ) (h : R.Head) (p : ℕ) → Yields o b s (b + (p + 16)) (channels x room h) (Ends o b s p (x .channels))
+-- the code's group for a label is the rules'
+pub group-is : (label : Label) (n : ℕ) → groupOf (groupFor label n) ≡ channelsGroup label n
+unfolding groupFor channelsGroup
+group-is label n = by-form (λ l. groupOf (groupFor l n) ≡ channelsGroup l n) refl refl label
+
+-- a 350: in form 00 it is refused at its code, in form 01 its channels are read
+pub montage-none : (o : Order) (base : ℕ) (s : List ℕ) (label : Label) → label .form ≡ Form.Channels → (cs : List R.Channel) (h : Head) →
+    ends (see o base s (base + (h .at + 16)) (R.montage label cs (length s - h .at) (headOf h))) ≡ stops 9 (base + h .at + 4)
+unfolding R.montage over
+montage-none o base s label f cs h = let z : base + (h .at + 16) - 12 ≡ base + h .at + 4 = omega arith in rw (R.montage, f, see-refuse, z)
+
+pub montage-some : (label : Label) → label .form ≡ Form.Electrodes → (cs : List R.Channel) (room : ℕ) (h : R.Head) → R.montage label cs room h ≡ channels (R.montageGroup (length cs)) room h
+unfolding R.montage
+montage-some label f cs room h = rw (R.montage, f)
+
+-- it has as many channels as record 100 says, in either form
+counts-label : (label : Label) (n m : ℕ) → channelsGroup label n .counts m ≡ true → m ≡ n
+unfolding channelsGroup
+counts-label label n m = by-form (λ l. channelsGroup l n .counts m ≡ true → m ≡ n) (eqb-true m n) (eqb-true m n) label
+
+yields-rest : (o : Order) (b : ℕ) (s : List ℕ) (label : Label) (n room : ℕ) (h : R.Head) (p : ℕ) → Yields o b s (b + (p + 16)) (channels (channelsGroup label n) room h) (Ends o b s p n)
 unfolding channels channelsBody admit _>>=_ _>>_
-yields-rest o b s x room h p _ _ _ c₁ c₂ _ _ =
+yields-rest o b s label n room h p _ _ _ c₁ c₂ _ _ =
     let m : ℕ = numberAt o 4 s (b + (p + 16) - b) in
-    let d : m ≡ x .channels = eqb-true m (x .channels) c₂ in
+    let d : m ≡ n = counts-label label n m c₂ in
     let l : m ≤ 128 = between-in 1 128 m c₁ .1 in
     let z : b + (p + 16) + 4 + 4 + 8 ≡ b + (p + 32) = omega arith in
-    rw z (yields-weaken o b s (series m 1 256 (R.span h - 32) channel) (b + (p + 32)) _ _
+    rw z (yields-weaken o b s (series m 1 256 (R.span h - 32) (channel (channelsGroup label n .sub))) (b + (p + 32)) _ _
     (λ cs e q. record { stand = record { count = q .1 ∙ d; kept = q .0 }; few = omega arith; end = rw d at (q .2) })
-    (yields-channels o b s (R.span h - 32) m 1 (p + 32)))
+    (yields-channels o b s (channelsGroup label n .sub) (R.span h - 32) m 1 (p + 32)))
 
 -- so of the channels that the walk gives, where it ends at byte q
-pub owned : (o : Order) (b : ℕ) (s : List ℕ) (x : R.Basic) (room : ℕ) (h : R.Head) (p q m : ℕ) → x .channels ≡ m → q ≤ length s → (cs : List R.Channel) → see o b s (b + (p + 16)) (channels x room h) ≡ goes cs (b + q) → Owned o s p m cs
-owned o b s x room h p q m i l cs k =
-    let y : Ends o b s p (x .channels) cs (b + q) = yields o b s (channels x room h) (b + (p + 16)) _ (yields-rest o b s x room h p) k in
-    rw (← i) (record { stand = y .stand; room = record { inside = omega (arith, y .end); few = y .few } })
+pub owned : (o : Order) (b : ℕ) (s : List ℕ) (label : Label) (room : ℕ) (h : R.Head) (p q n : ℕ) → q ≤ length s → (cs : List R.Channel) →
+    see o b s (b + (p + 16)) (channels (channelsGroup label n) room h) ≡ goes cs (b + q) → Owned o s p n cs
+owned o b s label room h p q n l cs k =
+    let y : Ends o b s p n cs (b + q) = yields o b s (channels (channelsGroup label n) room h) (b + (p + 16)) _ (yields-rest o b s label n room h p) k in
+    record { stand = y .stand; room = record { inside = omega (arith, y .end); few = y .few } }
 
 -- what stands in a part of the file stands in the file
 module _ (o : Order) (base n : ℕ) (s file : List ℕ) (is : s ≡ take n (drop base file)) where

@@ -11,9 +11,13 @@ use Rattle.words.specs.declared.Order.{Order}
 use Rattle.walk.specs.Walk.{pick, Walk}
 use Rattle.walk.specs.See.{Verdict, goes, see, Goes, over}
 use Rattle.rules.specs.Rules as R
+use Rattle.rules.specs.declared.Form.the-variants as Form
+use Rattle.rules.specs.declared.Group.{Group}
+use Rattle.rules.specs.declared.Group.the-variants as Group
 use Rattle.rules.specs.declared.Head.{Head}
 use Rattle.rules.specs.declared.Kind.{Kind}
 use Rattle.rules.specs.declared.Kind.the-variants as Kind
+use Rattle.rules.specs.declared.Label.{Label}
 use Rattle.rules.specs.declared.Refusal.{Refusal}
 use Rattle.records.specs.declared.basic.Basiced.{Basiced}
 use Rattle.records.specs.declared.basic.Basiced.the-variants as Basiced
@@ -43,7 +47,11 @@ abbrev pub refusalDescriptions : DescriptionsJudged → Refusal
 refusalDescriptions (DescriptionsJudged.On t) = record { 0 = 0; 1 = 0 }
 refusalDescriptions (DescriptionsJudged.Stop r) = r
 
--- what the recording before leaves to hold: its 120, its 130, and how many channels
+-- the 120 or 320 of a file with this label, of so many channels
+unfoldable pub groupFor : Label → ℕ → Group
+groupFor l n = elim (l .form) [ Form.Channels ↦ Group.Channels n | Form.Electrodes ↦ Group.Electrodes n ]
+
+-- what the recording before leaves to hold: its 120 or 320, its 130, and how many channels
 abbrev pub channelsIn : Before → Held
 channelsIn Before.Nothing = Held.Nothing
 channelsIn (Before.These p) = Held.At (p .channels)
@@ -75,14 +83,14 @@ HeldIs Held.Nothing (some a) = ⊥
 HeldIs (Held.At p) none = ⊥
 HeldIs (Held.At p) (some a) = Unit {0}
 
--- so many channels are those of the 120 at this byte of s
+-- so many channels are those of the 120, 320 or 350 at this byte of s
 pub record Owned (o : Order) (s : List ℕ) (at count : ℕ) (ch : List R.Channel) : Type 0 where
-  -- they stand in its records 125
+  -- they stand in its subs
   pub stand : ChannelsStand o s (subsAt at count) ch
   -- for which there is room
   pub room : ChannelsIn (length s) (subsAt at count)
 
--- the records 125 that hold behind the recording before, in a file of n bytes; and what the walk holds of it
+-- the subs that hold behind the recording before, in a file of n bytes; and what the walk holds of it
 abbrev pub HeldWithin : ℕ → Before → Type 0
 HeldWithin n Before.Nothing = Unit {0}
 HeldWithin n (Before.These p) = ChannelsIn n (subsAt (p .channels) (p .count))
@@ -159,17 +167,20 @@ pub record Keeps (o : Order) (file : List ℕ) (base n : ℕ) (before : Before) 
   pub basic : basicOf (x .basic) ≡ t .basic
   pub own : x .channels .own ≡ t .own
   pub has-events : x .events .own ≡ t .«has_events»
-  pub head : x .events .next .head ≡ headOf (t .next)
-  pub room : x .events .next .room ≡ n - t .next .at
+  pub has-montage : x .montage .own ≡ t .«has_montage»
+  pub head : x .montage .next .head ≡ headOf (t .next)
+  pub room : x .montage .next .room ≡ n - t .next .at
   pub end : e ≡ base + (t .next .at + 16)
   pub channels-at : t .channels ≡ pick (t .own) (placeOf base n (x .next .room)) (heldAt (channelsIn before))
   pub patient-at : t .patient ≡ pick (x .patient .own) (placeOf base n (x .channels .next .room)) (heldAt (patientIn before))
   pub events-at : t .events ≡ pick (t .«has_events») (placeOf base n (x .patient .next .room)) 0
+  pub montage-at : t .montage ≡ pick (t .«has_montage») (placeOf base n (x .events .next .room)) 0
   pub stand : ChannelsStand o file (subsAt (t .channels) (t .count)) (x .channels .value)
 
-abbrev pub described : Order → List ℕ → ℕ → Option R.Held → List ℕ → Before → DescriptionsJudged → Type 0
-described o file base held s before (DescriptionsJudged.On t) = Goes (see o base s base (R.descriptions held (16 + length s))) (Keeps o file base (length s) before t)
-described o file base held s before (DescriptionsJudged.Stop r) = see o base s base (R.descriptions held (16 + length s)) ≡ halts r
+abbrev pub described : Order → Label → List ℕ → ℕ → Option R.Held → List ℕ → Before → DescriptionsJudged → Type 0
+described o label file base held s before (DescriptionsJudged.On t) =
+    Goes (see o base s base (R.descriptions label held (16 + length s))) (Keeps o file base (length s) before t)
+described o label file base held s before (DescriptionsJudged.Stop r) = see o base s base (R.descriptions label held (16 + length s)) ≡ halts r
 
 -- the bounds that hold whatever the walk holds, in a body of n bytes that stands at `base`
 pub record DescribedBounds (base n : ℕ) (before : Before) (t : Described) : Type 0 where
@@ -199,9 +210,14 @@ pub record Behind (o : Order) (base : ℕ) (s : List ℕ) (at end : ℕ) (a : Pa
   pub seen : (fuel : ℕ) → length s < end + fuel → over headroom (see o base s (base + end) (R.next fuel (length s - end))) ≡ followed base (length s) a
   pub stands : Stood (base + at) end (length s) a
 
--- the 120, or what holds in its place, for any 100 with so many channels
-pub record ChannelsPart (o : Order) (base : ℕ) (s : List ℕ) (h : Head) (channels : ℕ) (held : Held) (a : Parted) : Type 0 where
-  pub told : (b : R.Basic) → b .channels ≡ channels → Judges o base s 120 (R.channels b) (Owned o s (h .at) channels) h held a
+-- the 120 or 320, or what holds in its place
+pub record ChannelsPart (o : Order) (label : Label) (base : ℕ) (s : List ℕ) (h : Head) (channels : ℕ) (held : Held) (a : Parted) : Type 0 where
+  pub told : Judges o base s (R.channelsGroup label channels .code) (R.channels (R.channelsGroup label channels)) (Owned o s (h .at) channels) h held a
+  pub follows : Follows (h .at) (length s) a
+
+-- the 350, if there is one: over so many electrodes
+pub record MontagePart (o : Order) (label : Label) (base : ℕ) (s : List ℕ) (h : Head) (electrodes : ℕ) (a : Parted) : Type 0 where
+  pub told : (cs : List R.Channel) → length cs ≡ electrodes → Judges o base s 350 (R.montage label cs) (λ _. Unit {0}) h (Held.At 0) a
   pub follows : Follows (h .at) (length s) a
 
 -- the 130 or the 200, or what holds in its place
@@ -210,6 +226,7 @@ pub record ItemsPart (o : Order) (k : Holder) (base : ℕ) (s : List ℕ) (h : H
   pub follows : Follows (h .at) (length s) a
 
 -- the descriptions of the recording whose body is s, for any file that it stands in, where the code and the walk hold the same of the recording before
-pub record DescriptionsOf (o : Order) (base : ℕ) (s : List ℕ) (before : Before) (a : DescriptionsJudged) : Type 0 where
-  pub told : (file : List ℕ) (held : Option R.Held) → s ≡ take (length s) (drop base file) → HeldAs o file before held → described o file base held s before a
+pub record DescriptionsOf (o : Order) (label : Label) (base : ℕ) (s : List ℕ) (before : Before) (a : DescriptionsJudged) : Type 0 where
+  pub told : (file : List ℕ) (held : Option R.Held) → s ≡ take (length s) (drop base file) → HeldAs o file before held →
+      described o label file base held s before a
   pub bounds : Ready base (length s) before a

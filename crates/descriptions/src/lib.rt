@@ -1,4 +1,4 @@
-// The descriptions of a recording: record 100, and 120, 130 and 200, each of which may be absent.
+// The descriptions of a recording: record 100, and 120 or 320, 130, 200 and 350, each of which may be absent.
 ghost use mathlib.Core.Path.{_≡_};
 ghost use Prim.Native.Nat.{_+_, _<_};
 ghost use Rattle.words.specs.Sizes.{Addressable};
@@ -6,17 +6,22 @@ ghost use Rattle.walk.specs.Walk.{pick};
 ghost use Rattle.records.specs.Asks.{HeadIn, BytesIn};
 ghost use Rattle.records.specs.Says.{subsAt};
 ghost use Rattle.descriptions.specs.DescriptionsJudged.{refusalBasic, refusalPart, refusalDescriptions, channelsIn, patientIn, countIn, kindOf, lacking};
-ghost use Rattle.descriptions.specs.DescriptionsJudged.{BodyAt, Behind, ChannelsPart, ItemsPart, DescriptionsOf};
+ghost use Rattle.descriptions.specs.DescriptionsJudged.{groupFor, BodyAt, Behind, ChannelsPart, MontagePart, ItemsPart, DescriptionsOf};
 use records::Headed;
 use records::Step;
 use records::basic::Basiced;
+use records::channels::group_code;
 use records::items::Holder;
 use records::kinds::has_code;
 use rules::Basic;
 use rules::Channels;
 use rules::Events;
+use rules::Form;
+use rules::Group;
 use rules::Head;
 use rules::Kind;
+use rules::Label;
+use rules::Montage;
 use rules::Patient;
 use rules::Refusal;
 use words::Order;
@@ -30,13 +35,15 @@ pub struct Places {
     pub patient: usize,
     pub has_events: bool,
     pub events: usize,
+    pub has_montage: bool,
+    pub montage: usize,
     pub frames: usize,
     pub frame: usize,
     pub total: u32,
     pub seconds: u32,
 }
 
-// The recording before, whose 120 and 130 hold where a recording has none.
+// The recording before, whose 120 or 320 and 130 hold where a recording has none.
 pub enum Before {
     Nothing,
     These(Places),
@@ -69,6 +76,8 @@ pub struct Described {
     pub patient: usize,
     pub has_events: bool,
     pub events: usize,
+    pub has_montage: bool,
+    pub montage: usize,
     pub next: Head,
 }
 
@@ -181,14 +190,34 @@ fn behind(o: Order, s: &[u8], base: usize, at: usize, end: usize) -> Parted
     })
 }
 
-fn channels_part(o: Order, s: &[u8], base: usize, h: Head, channels: u32, held: Held) -> Parted
-    requires { ⌜ HeadIn base (now s) h ⌝ }
-    ensures { λ a. ⌜ ChannelsPart o base (now (s .entry)) h channels held a ⌝ }
+// The record 120 or 320 of a file with this label, of so many channels.
+fn group_for(label: Label, channels: u32) -> Group
+    ensures { λ r. ⌜ r ≡ groupFor label channels ⌝ }
 {
-    if !has_code(Kind::Channels, h.code) {
+    let form = label.form;
+    match form {
+        Form::Channels => Group::Channels(channels),
+        Form::Electrodes => Group::Electrodes(channels),
+    }
+}
+
+fn channels_part(
+    o: Order,
+    label: Label,
+    s: &[u8],
+    base: usize,
+    h: Head,
+    channels: u32,
+    held: Held,
+) -> Parted
+    requires { ⌜ HeadIn base (now s) h ⌝ }
+    ensures { λ a. ⌜ ChannelsPart o label base (now (s .entry)) h channels held a ⌝ }
+{
+    let g = group_for(label, channels);
+    if !has_code(Kind::Channels(group_code(g)), h.code) {
         return absent(base, h, held);
     }
-    let step = records::channels::channels_at(o, s, base, h, channels);
+    let step = records::channels::channels_at(o, g, s, base, h);
     let Step::On(end) = step else {
         return Parted::Stop(records::of_step(step));
     };
@@ -209,10 +238,35 @@ fn items_part(o: Order, k: Holder, s: &[u8], base: usize, h: Head, held: Held) -
     behind(o, s, base, h.at, end)
 }
 
+// The record 350, over so many electrodes: there is none in form 00.
+fn montage_part(o: Order, label: Label, s: &[u8], base: usize, h: Head, electrodes: u32) -> Parted
+    requires { ⌜ HeadIn base (now s) h ⌝ }
+    ensures { λ a. ⌜ MontagePart o label base (now (s .entry)) h electrodes a ⌝ }
+{
+    if !has_code(Kind::Channels(Montage::CODE), h.code) {
+        return absent(base, h, Held::At(0));
+    }
+    let form = label.form;
+    let Form::Electrodes = form else {
+        return Parted::Stop(Refusal(9, base + h.at + Head::CODE));
+    };
+    let step = records::channels::channels_at(o, Group::Montage(electrodes), s, base, h);
+    let Step::On(end) = step else {
+        return Parted::Stop(records::of_step(step));
+    };
+    behind(o, s, base, h.at, end)
+}
+
 // Judges the descriptions of the recording whose body is s, which stands at `base` in the file.
-pub fn judge_descriptions(o: Order, s: &[u8], base: usize, before: Before) -> DescriptionsJudged
+pub fn judge_descriptions(
+    o: Order,
+    label: Label,
+    s: &[u8],
+    base: usize,
+    before: Before,
+) -> DescriptionsJudged
     requires { ⌜ BodyAt base (now s) ⌝ }
-    ensures { λ a. ⌜ DescriptionsOf o base (now (s .entry)) before a ⌝ }
+    ensures { λ a. ⌜ DescriptionsOf o label base (now (s .entry)) before a ⌝ }
 {
     let first = records::basic::basic_at(o, s, base, 0);
     let Basiced::Holds(basic) = first else {
@@ -222,7 +276,7 @@ pub fn judge_descriptions(o: Order, s: &[u8], base: usize, before: Before) -> De
     let Headed::At(h) = found else {
         return DescriptionsJudged::Stop(records::of_head(found));
     };
-    let cs = channels_part(o, s, base, h, basic.channels, held_channels(before));
+    let cs = channels_part(o, label, s, base, h, basic.channels, held_channels(before));
     let Parted::On(c) = cs else {
         return DescriptionsJudged::Stop(of_part(cs));
     };
@@ -234,15 +288,22 @@ pub fn judge_descriptions(o: Order, s: &[u8], base: usize, before: Before) -> De
     let Parted::On(e) = es else {
         return DescriptionsJudged::Stop(of_part(es));
     };
-    let next = e.next;
+    let count = count_of(c.own, basic.channels, before);
+    let ms = montage_part(o, label, s, base, e.next, count);
+    let Parted::On(m) = ms else {
+        return DescriptionsJudged::Stop(of_part(ms));
+    };
+    let next = m.next;
     DescriptionsJudged::On(Described {
         basic,
         own: c.own,
         channels: c.at,
-        count: count_of(c.own, basic.channels, before),
+        count,
         patient: p.at,
         has_events: e.own,
         events: e.at,
+        has_montage: m.own,
+        montage: m.at,
         next,
     })
 }

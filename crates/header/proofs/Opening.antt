@@ -19,14 +19,29 @@ use Rattle.walk.specs.See.{Verdict, gate, see, stops, goes}
 use Rattle.walk.specs.Walk.{pick, swap, laid, Letter, _>>=_, _>>_}
 use Rattle.walk.proofs.Apart.{zero-one}
 use Rattle.walk.proofs.Laid.{laid-text}
-use Rattle.rules.specs.Rules.{between, sameBytes, isSpelling, spelled, spellingOf, allSpaces, isDigit, decimal, countOf, countFits, countIs, isScript, FileHeader, fileHeader, orderOf}
-use Rattle.rules.specs.declared.Spelling.{Spelling}
-use Rattle.rules.specs.declared.Spelling.the-variants as Spelling
+use Rattle.rules.specs.Rules.{between, sameBytes, isOneOf, oneOf, isSpelling, spellingOf, version, isForm, formOf, allSpaces, isDigit, decimal, countOf, countFits, countIs, isScript, FileHeader, fileHeader, orderOf}
 use Rattle.header.specs.Letters.{lettered}
-use Rattle.header.specs.Opened.{names, spelledAs, isName, nameTests}
+use Rattle.header.specs.Opened.{names}
 use Rattle.header.specs.declared.Lettered.{Lettered}
 use Rattle.header.specs.declared.Lettered.the-variants as Lettered
-use Rattle.header.specs.declared.Spelled.the-variants as Spelled
+
+-- bytes that name one of two things, by the answers of the comparisons with their texts
+module _ {A : Type 0} (text : A → List ℕ) (a b : A) (bs : List ℕ) (x : Bool) (is : x ≡ sameBytes bs (text a)) where
+  pub is-first : x ≡ true → true ≡ isOneOf text a b bs
+  unfolding isOneOf
+  is-first e = simp (← is, e)
+
+  pub is-second : x ≡ false → (y : Bool) → y ≡ sameBytes bs (text b) → y ≡ isOneOf text a b bs
+  unfolding isOneOf
+  is-second e y f = simp (← is, e, ← f)
+
+  pub names-first : x ≡ true → a ≡ oneOf text a b bs
+  unfolding oneOf
+  names-first e = simp (← is, e)
+
+  pub names-second : x ≡ false → b ≡ oneOf text a b bs
+  unfolding oneOf
+  names-second e = simp (← is, e)
 
 -- spaces, one more and none
 module _ (s : List ℕ) (i : ℕ) where
@@ -122,32 +137,13 @@ letter-order s o h = go (eqb (getD s 16 0) 76) (eqb (getD s 16 0) 66) refl refl
     go false true e f = let l : Lettered.Names Big ≡ Lettered.Names o = rw (lettered, e, f) at h in rw (orderOf, f) (cc)
     go false false e f = nothing-names (rw (lettered, e, f) at h)
 
--- bytes that are a spelling, and which
-spelling-named : (bs : List ℕ) → isSpelling bs ≡ isName (spelledAs bs)
-unfolding isSpelling spelledAs
-spelling-named bs = go (sameBytes bs (spelled Spelling.Spg)) (sameBytes bs (spelled Spelling.Psg)) refl refl
-  where
-    go : (x y : Bool) → sameBytes bs (spelled Spelling.Spg) ≡ x → sameBytes bs (spelled Spelling.Psg) ≡ y → isSpelling bs ≡ isName (spelledAs bs)
-    go true y e f = rw (isSpelling, spelledAs, e)
-    go false true e f = rw (isSpelling, spelledAs, e, f)
-    go false false e f = rw (isSpelling, spelledAs, e, f)
-
-pub spelling-is : (bs : List ℕ) (x : Spelling) → spelledAs bs ≡ Spelled.As x → spellingOf bs ≡ x
-unfolding spelledAs spellingOf
-spelling-is bs x h = go (sameBytes bs (spelled Spelling.Spg)) (sameBytes bs (spelled Spelling.Psg)) refl refl
-  where
-    go : (a b : Bool) → sameBytes bs (spelled Spelling.Spg) ≡ a → sameBytes bs (spelled Spelling.Psg) ≡ b → spellingOf bs ≡ x
-    go true b e f = let l : Spelled.As Spelling.Spg ≡ Spelled.As x = rw (spelledAs, e) at h in rw (spellingOf, e) (cc)
-    go false true e f = let l : Spelled.As Spelling.Psg ≡ Spelled.As x = rw (spelledAs, e, f) at h in rw (spellingOf, e) (cc)
-    go false false e f = let l : Spelled.Nothing ≡ Spelled.As x = rw (spelledAs, e, f) at h in zero-one (cc)
-
 -- the walk of the file header: its tests, one after the other, each with those behind it
 module _ (s : List ℕ) where
   abbrev pub walk : Verdict FileHeader
   walk = see (orderOf s) 0 s 0 (fileHeader (length s))
 
   abbrev pub holds : Verdict FileHeader
-  holds = goes (record { heading = record { spelling = spellingOf (bytesAt 8 s 0); script = getD s 17 0 }; count = countIs (countOf (bytesAt 4 s 18)) }) 32
+  holds = goes (record { heading = record { spelling = spellingOf (bytesAt 8 s 0); label = record { form = formOf (bytesAt 2 s 14) }; script = getD s 17 0 }; count = countIs (countOf (bytesAt 4 s 18)) }) 32
 
   abbrev pub fromSpaces : Verdict FileHeader
   fromSpaces = gate (allSpaces (bytesAt 10 s 22)) holds 8 22
@@ -161,15 +157,18 @@ module _ (s : List ℕ) where
   abbrev pub fromLetter : Verdict FileHeader
   fromLetter = gate (names (lettered (getD s 16 0))) fromScript 5 16
 
-  abbrev pub fromNames : Verdict FileHeader
-  fromNames = nameTests s fromLetter
+  abbrev pub fromForm : Verdict FileHeader
+  fromForm = gate (isForm (bytesAt 2 s 14)) fromLetter 4 14
+
+  abbrev pub fromVersion : Verdict FileHeader
+  fromVersion = gate (sameBytes (bytesAt 6 s 8) version) fromForm 3 8
 
   abbrev pub fromSpelling : Verdict FileHeader
-  fromSpelling = gate (isName (spelledAs (bytesAt 8 s 0))) fromNames 2 0
+  fromSpelling = gate (isSpelling (bytesAt 8 s 0)) fromVersion 2 0
 
   pub header-open : walk ≡ gate (leb 32 (length s)) fromSpelling 1 0
   unfolding fileHeader see _>>=_ _>>_
-  header-open = simp (laid-text, byte-at, letter-names, spelling-named, count-fits)
+  header-open = simp (laid-text, byte-at, letter-names, count-fits)
 
 -- a test that is passed, and one that is not
 pub passing : {A : Type 0} {w : Verdict A} (c : Bool) (v : Verdict A) (n p : ℕ) → w ≡ gate c v n p → c ≡ true → w ≡ v

@@ -16,4 +16,4 @@ lettered b = pick (eqb b (letterOf Little)) (Lettered.Names Little) (pick (eqb b
 
 -- the header's values that the code keeps, as the rules have them
 abbrev pub headingOf : Heading → R.Heading
-headingOf g = record { spelling = g .spelling; script = g .script }
+headingOf g = record { spelling = g .spelling; label = g .label; script = g .script }

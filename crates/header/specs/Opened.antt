@@ -4,22 +4,17 @@ use mathlib.Core.Bool.{Bool, true, false}
 use mathlib.Core.List.{List}
 use Prim.Native.Nat.{ℕ, _≤_}
 use lib.ListN.{length}
-use Rattle.words.specs.Numbers.{bytesAt}
 use Rattle.words.specs.declared.Order.{Order}
-use Rattle.walk.specs.Walk.{pick}
-use Rattle.walk.specs.See.{Verdict, goes, gate, see}
+use Rattle.walk.specs.See.{Verdict, goes, see}
 use Rattle.rules.specs.declared.FileHeader.{FileHeader}
 use Rattle.rules.specs.declared.Refusal.{Refusal}
-use Rattle.rules.specs.declared.Spelling.the-variants as Spelling
 use Rattle.rules.specs.Rules as R
 use Rattle.records.specs.Says.{halts}
 use Rattle.header.specs.Letters.{headingOf}
 use Rattle.header.specs.declared.Lettered.{Lettered}
 use Rattle.header.specs.declared.Opened.{Opened}
-use Rattle.header.specs.declared.Spelled.{Spelled}
 use Rattle.header.specs.declared.Lettered.the-variants as Lettered
 use Rattle.header.specs.declared.Opened.the-variants as Opened
-use Rattle.header.specs.declared.Spelled.the-variants as Spelled
 
 -- whether it names one
 abbrev pub names : Lettered → Bool
@@ -30,20 +25,6 @@ names Lettered.Nothing = false
 abbrev pub opened : Opened → Verdict R.FileHeader
 opened (Opened.Holds h) = goes (record { heading = headingOf (h .heading); count = h .count }) 32
 opened (Opened.Stop r) = halts r
-
--- the spelling that the first eight bytes have
-unfoldable pub spelledAs : List ℕ → Spelled
-spelledAs bs = pick (R.sameBytes bs (R.spelled Spelling.Spg)) (Spelled.As Spelling.Spg) (pick (R.sameBytes bs (R.spelled Spelling.Psg)) (Spelled.As Spelling.Psg) Spelled.Nothing)
-
--- whether they have one
-abbrev pub isName : Spelled → Bool
-isName (Spelled.As x) = true
-isName Spelled.Nothing = false
-
--- the version and the form are tested; then the verdict that follows
-abbrev pub nameTests : List ℕ → Verdict R.FileHeader → Verdict R.FileHeader
-nameTests s v =
-    gate (R.sameBytes (bytesAt 6 s 8) R.version) (gate (R.sameBytes (bytesAt 2 s 14) R.form) v 4 14) 3 8
 
 -- what else holds of a header in this order, in a file of n bytes
 pub record Named (o : Order) (n : ℕ) (h : FileHeader) : Type 0 where

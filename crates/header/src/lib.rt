@@ -2,16 +2,15 @@
 ghost use mathlib.Core.Path.{_≡_};
 ghost use Prim.Native.Nat.{_≤_};
 ghost use lib.ListN.{length, drop};
-ghost use Rattle.walk.specs.See.{Verdict};
 ghost use Rattle.rules.specs.Rules as R;
-ghost use Rattle.records.specs.Says.{resumed};
 ghost use Rattle.header.specs.Letters.{lettered};
-ghost use Rattle.header.specs.Opened.{spelledAs, nameTests, HeaderRead, refusalO};
-use records::Tested;
+ghost use Rattle.header.specs.Opened.{HeaderRead, refusalO};
 use records::between;
 use records::same;
 use rules::FileHeader;
+use rules::Form;
 use rules::Heading;
+use rules::Label;
 use rules::Refusal;
 use rules::Spelling;
 use words::Order;
@@ -25,12 +24,6 @@ pub enum Opened {
 // The order that a letter names.
 pub enum Lettered {
     Names(Order),
-    Nothing,
-}
-
-// The spelling that the first eight bytes have.
-enum Spelled {
-    As(Spelling),
     Nothing,
 }
 
@@ -55,16 +48,23 @@ pub fn order_of(letter: u32) -> Lettered
     Lettered::Nothing
 }
 
-fn spelling_of(name: &[u8]) -> Spelled
-    ensures { λ a. ⌜ a ≡ spelledAs (now (name .entry)) ⌝ }
+// Whether bytes are a spelling of the format's name, and which.
+fn is_spelling(name: &[u8]) -> bool
+    ensures { λ r. ⌜ r ≡ R.isSpelling (now (name .entry)) ⌝ }
 {
     if same(name, b"JSSR-SPG") {
-        return Spelled::As(Spelling::Spg);
+        return true;
     }
-    if same(name, b"JSSR-PSG") {
-        return Spelled::As(Spelling::Psg);
+    same(name, b"JSSR-PSG")
+}
+
+fn spelling_of(name: &[u8]) -> Spelling
+    ensures { λ r. ⌜ r ≡ R.spellingOf (now (name .entry)) ⌝ }
+{
+    if same(name, b"JSSR-SPG") {
+        return Spelling::Spg;
     }
-    Spelled::Nothing
+    Spelling::Psg
 }
 
 fn script_ok(letter: u32) -> bool
@@ -117,18 +117,23 @@ fn count_of(s: &[u8]) -> u32
     value
 }
 
-// The version and the form.
-fn names_ok(s: &[u8]) -> Tested
-    requires { ⌜ 32 ≤ length (now s) ⌝ }
-    ensures { λ a. ⌜ ((K : Verdict R.FileHeader) → nameTests (now (s .entry)) K ≡ resumed a K) ⌝ }
+// Whether bytes are the digits of a form, and of which.
+fn is_form(digits: &[u8]) -> bool
+    ensures { λ r. ⌜ r ≡ R.isForm (now (digits .entry)) ⌝ }
 {
-    if !same(&s[FileHeader::VERSION..FileHeader::FORM], b"000300") {
-        return Tested::Stop(Refusal(3, FileHeader::VERSION));
+    if same(digits, b"00") {
+        return true;
     }
-    if !same(&s[FileHeader::FORM..FileHeader::ORDER], b"00") {
-        return Tested::Stop(Refusal(4, FileHeader::FORM));
+    same(digits, b"01")
+}
+
+fn form_of(digits: &[u8]) -> Form
+    ensures { λ r. ⌜ r ≡ R.formOf (now (digits .entry)) ⌝ }
+{
+    if same(digits, b"00") {
+        return Form::Channels;
     }
-    Tested::Fine
+    Form::Electrodes
 }
 
 // The file header, in the order that its letter names.
@@ -138,14 +143,17 @@ pub fn file_header(s: &[u8]) -> Opened
     if s.len() < FileHeader::LENGTH {
         return Opened::Stop(Refusal(1, 0));
     }
-    let spelled = spelling_of(&s[FileHeader::IDENTIFIER..FileHeader::VERSION]);
-    let Spelled::As(spelling) = spelled else {
+    let name = &s[FileHeader::IDENTIFIER..FileHeader::VERSION];
+    if !is_spelling(name) {
         return Opened::Stop(Refusal(2, FileHeader::IDENTIFIER));
-    };
-    let names = names_ok(s);
-    let Tested::Fine = names else {
-        return Opened::Stop(records::of_test(names));
-    };
+    }
+    if !same(&s[FileHeader::VERSION..FileHeader::FORM], b"000300") {
+        return Opened::Stop(Refusal(3, FileHeader::VERSION));
+    }
+    let digits = &s[FileHeader::FORM..FileHeader::ORDER];
+    if !is_form(digits) {
+        return Opened::Stop(Refusal(4, FileHeader::FORM));
+    }
     let letter = order_of(byte(s, FileHeader::ORDER));
     let Lettered::Names(order) = letter else {
         return Opened::Stop(Refusal(5, FileHeader::ORDER));
@@ -161,7 +169,13 @@ pub fn file_header(s: &[u8]) -> Opened
     if !spaces(&s[FileHeader::SPACES..FileHeader::LENGTH], 0) {
         return Opened::Stop(Refusal(8, FileHeader::SPACES));
     }
-    let heading = Heading { spelling, script };
+    let heading = Heading {
+        spelling: spelling_of(name),
+        label: Label {
+            form: form_of(digits),
+        },
+        script,
+    };
     Opened::Holds(FileHeader {
         order,
         heading,

@@ -30,7 +30,7 @@ silent-fileHeader n = λ _ _ _ _ _ _ _. tt
 
 -- the walk of a file behind its header
 abbrev pub behindHeader : ℕ → FileHeader → Walk File
-behindHeader n d = recordings (d .count) none (n - 32) 1 >>= λ rs. give (record { heading = d .heading; recordings = rs })
+behindHeader n d = recordings (d .heading .label) (d .count) none (n - 32) 1 >>= λ rs. give (record { heading = d .heading; recordings = rs })
 
 module _ (s : List ℕ) (h : Declared.FileHeader) (x : AcceptedAs s h) where
   -- its header, and the walk over its recordings
@@ -38,7 +38,7 @@ module _ (s : List ℕ) (h : Declared.FileHeader) (x : AcceptedAs s h) where
   headed = record { heading = headingOf (h .heading); count = h .count }
 
   abbrev pub walked : Walk (List Placed)
-  walked = recordings (h .count) none (length s - 32) 1
+  walked = recordings (h .heading .label) (h .count) none (length s - 32) 1
 
   pub accepted-long : 32 ≤ length s
   accepted-long = accepted-seen s h x .long

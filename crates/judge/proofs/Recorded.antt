@@ -24,6 +24,7 @@ use Rattle.rules.specs.declared.Channels.{Channels}
 use Rattle.rules.specs.declared.Frames.{Frames}
 use Rattle.rules.specs.declared.Head.{Head}
 use Rattle.rules.specs.declared.Kind.the-variants as Kind
+use Rattle.rules.specs.declared.Label.{Label}
 use Rattle.rules.specs.declared.Refusal.{Refusal}
 use Rattle.rules.proofs.Room.{stays-recordingBody}
 use Rattle.records.specs.Says.{halts, headOf, subsAt, ChannelsIn, opened, OpenAt}
@@ -56,9 +57,10 @@ picked : (x y : Bool) (v a b other : ℕ) → v ≡ pick x a other → y ≡ x �
 picked x y v a b other k e d = rw (e, ← d) k
 
 -- places that agree in each field
-alike : {a a' b b' c c' d d' e e' g g' k k' l l' m m' n n' : ℕ} {x x' : Bool} → a ≡ a' → b ≡ b' → c ≡ c' → d ≡ d' → e ≡ e' → x ≡ x' → g ≡ g' → k ≡ k' → l ≡ l' → m ≡ m' → n ≡ n' →
-    _≡_ {A = Places} (record { start = a; end = b; channels = c; count = d; patient = e; «has_events» = x; events = g; frames = k; frame = l; total = m; seconds = n }) (record { start = a'; end = b'; channels = c'; count = d'; patient = e'; «has_events» = x'; events = g'; frames = k'; frame = l'; total = m'; seconds = n' })
-alike e₁ e₂ e₃ e₄ e₅ e₆ e₇ e₈ e₉ e₁₀ e₁₁ = cc
+alike : {a a' b b' c c' d d' e e' g g' k k' l l' m m' n n' y y' : ℕ} {x x' z z' : Bool} → a ≡ a' → b ≡ b' → c ≡ c' → d ≡ d' → e ≡ e' → x ≡ x' → g ≡ g' → z ≡ z' → y ≡ y' → k ≡ k' → l ≡ l' → m ≡ m' → n ≡ n' →
+    _≡_ {A = Places} (record { start = a; end = b; channels = c; count = d; patient = e; «has_events» = x; events = g; «has_montage» = z; montage = y; frames = k; frame = l; total = m; seconds = n })
+    (record { start = a'; end = b'; channels = c'; count = d'; patient = e'; «has_events» = x'; events = g'; «has_montage» = z'; montage = y'; frames = k'; frame = l'; total = m'; seconds = n' })
+alike e₁ e₂ e₃ e₄ e₅ e₆ e₇ e₈ e₉ e₁₀ e₁₁ e₁₂ e₁₃ = cc
 
 -- the code's places are the walk's
 places-same : (o : Order) (file : List ℕ) (at n : ℕ) (before : Before) (t : Described) (f : Frames) (X : R.Descriptions) (e : ℕ) (h : R.Head) (x : R.Placed) → Keeps o file (at + 16) n before t X e → Whole X h f x → R.span h ≡ 16 + n → t .next .at + 16 ≤ n → placesFor at n t (f .size) (f .seconds) ≡ placesOf at before x
@@ -67,7 +69,8 @@ places-same o file at n before t f X e h x k w s l =
     let at120 : x .layout .at120 ≡ R.span h - X .next .room = ap (λ (y : R.Layout). y .at120) (w .layout) in
     let at130 : x .layout .at130 ≡ R.span h - X .channels .next .room = ap (λ (y : R.Layout). y .at130) (w .layout) in
     let at200 : x .layout .at200 ≡ R.span h - X .patient .next .room = ap (λ (y : R.Layout). y .at200) (w .layout) in
-    let at140 : x .layout .at140 ≡ R.span h - X .events .next .room = ap (λ (y : R.Layout). y .at140) (w .layout) in
+    let at350 : x .layout .at350 ≡ R.span h - X .events .next .room = ap (λ (y : R.Layout). y .at350) (w .layout) in
+    let at140 : x .layout .at140 ≡ R.span h - X .montage .next .room = ap (λ (y : R.Layout). y .at140) (w .layout) in
     let total : x .recording .basic .frames ≡ t .basic .frames = ap (λ (y : R.Basic). y .frames) (w .basic) ∙ ap (λ (y : Basic). y .frames) (k .basic) in
     let count : length (x .recording .channels) ≡ t .count = ap length (w .channels) ∙ k .stand .count in
     alike
@@ -78,26 +81,28 @@ places-same o file at n before t f X e h x k w s l =
     (picked (X .patient .own) (x .recording .ownPatient) (t .patient) (placeOf (at + 16) n (X .channels .next .room)) (at + x .layout .at130) (heldAt (patientIn before)) (k .patient-at) (w .ownPatient) (part-place at n (X .channels .next .room) (R.span h) (x .layout .at130) s at130))
     (sym (w .ownEvents ∙ k .has-events))
     (picked (t .«has_events») (x .recording .ownEvents) (t .events) (placeOf (at + 16) n (X .patient .next .room)) (at + x .layout .at200) 0 (k .events-at) (w .ownEvents ∙ k .has-events) (part-place at n (X .patient .next .room) (R.span h) (x .layout .at200) s at200))
-    (frames-place at n (X .events .next .room) (R.span h) (x .layout .at140) (t .next .at) s at140 (k .room) l)
+    (sym (w .ownMontage ∙ k .has-montage))
+    (picked (t .«has_montage») (x .recording .ownMontage) (t .montage) (placeOf (at + 16) n (X .events .next .room)) (at + x .layout .at350) 0 (k .montage-at) (w .ownMontage ∙ k .has-montage) (part-place at n (X .events .next .room) (R.span h) (x .layout .at350) s at350))
+    (frames-place at n (X .montage .next .room) (R.span h) (x .layout .at140) (t .next .at) s at140 (k .room) l)
     (sym (ap (λ (y : R.Layout). y .frame) (w .layout)))
     (sym total)
     (sym (w .seconds))
 
 -- the body of a recording with the head h
-module _ (o : Order) (file : List ℕ) (at : ℕ) (s : List ℕ) (before : Before) (held : Option R.Held) (h : R.Head) (fills : R.span h ≡ 16 + length s) where
+module _ (o : Order) (label : Label) (file : List ℕ) (at : ℕ) (s : List ℕ) (before : Before) (held : Option R.Held) (h : R.Head) (fills : R.span h ≡ 16 + length s) where
   abbrev body : Verdict R.Placed
-  body = see o (at + 16) s (at + 16) (R.recordingBody held h)
+  body = see o (at + 16) s (at + 16) (R.recordingBody label held h)
 
-  halves : body ≡ onward (see o (at + 16) s (at + 16) (R.descriptions held (16 + length s))) (λ t e. see o (at + 16) s e (R.signals t h))
+  halves : body ≡ onward (see o (at + 16) s (at + 16) (R.descriptions label held (16 + length s))) (λ t e. see o (at + 16) s e (R.signals t h))
   unfolding R.recordingBody
   halves =
-      see-bind o (at + 16) s (at + 16) (R.descriptions held (R.span h)) (λ t. R.signals t h)
-      ∙ ap (λ (n : ℕ). onward (see o (at + 16) s (at + 16) (R.descriptions held n)) (λ t e. see o (at + 16) s e (R.signals t h))) fills
+      see-bind o (at + 16) s (at + 16) (R.descriptions label held (R.span h)) (λ t. R.signals t h)
+      ∙ ap (λ (n : ℕ). onward (see o (at + 16) s (at + 16) (R.descriptions label held n)) (λ t e. see o (at + 16) s e (R.signals t h))) fills
 
-  tables-stop : {r : Refusal} → described o file (at + 16) held s before (DescriptionsJudged.Stop r) → body ≡ halts r
+  tables-stop : {r : Refusal} → described o label file (at + 16) held s before (DescriptionsJudged.Stop r) → body ≡ halts r
   tables-stop k = halves ∙ rw k
 
-  module _ {t : Described} (kept : described o file (at + 16) held s before (DescriptionsJudged.On t)) where
+  module _ {t : Described} (kept : described o label file (at + 16) held s before (DescriptionsJudged.On t)) where
     reached : body ≡ see o (at + 16) s (at + 16 + (t .next .at + 16)) (R.signals (kept .value) h)
     reached = halves ∙ rw (kept .is, kept .kept .end)
 
@@ -130,7 +135,7 @@ module _ (o : Order) (file : List ℕ) (at : ℕ) (s : List ℕ) (before : Befor
       abbrev numbers : Frames
       numbers = record { seconds = numberAt o 4 s (t .next .at + 16); size = numberAt o 4 s (t .next .at + 20); padded = 0 }
 
-      told : (32 ≤ kept .value .events .next .room) × Whole (kept .value) h numbers x
+      told : (32 ≤ kept .value .montage .next .room) × Whole (kept .value) h numbers x
       told =
           let i : at + 16 + (t .next .at + 16) - (at + 16) ≡ t .next .at + 16 = omega arith in
           let j : at + 16 + (t .next .at + 16) + 4 - (at + 16) ≡ t .next .at + 20 = omega arith in
@@ -141,7 +146,7 @@ module _ (o : Order) (file : List ℕ) (at : ℕ) (s : List ℕ) (before : Befor
 
       found : (frame seconds : ℕ) → seconds ≡ numberAt o 4 s (t .next .at + 16) → frame ≡ numberAt o 4 s (t .next .at + 20) → t .next .at + 16 ≤ length s → Goes body (Places-of o file at before (placesFor at (length s) t frame seconds))
       found frame seconds i j l =
-          let z = stays-goes o (at + 16) s (at + 16 + (R.span h - 16)) (omega arith) (R.recordingBody held h) (at + 16) _ (omega arith) (stays-recordingBody held h (at + 16) (omega arith)) g in
+          let z = stays-goes o (at + 16) s (at + 16 + (R.span h - 16)) (omega arith) (R.recordingBody label held h) (at + 16) _ (omega arith) (stays-recordingBody label held h (at + 16) (omega arith)) g in
           rw (i, j) (placed numbers g (omega (arith, z .1)) (told .1) l)
 
 -- the bounds of its places, in a file of n bytes
@@ -149,8 +154,8 @@ continues : (at n : ℕ) (s : List ℕ) (before : Before) (t : Described) → De
 continues at n s before t b fits within frame seconds = record { start = omega arith; end = fits; channels = b .room n fits within }
 
 -- what `recording_body` asks of the functions that it calls, and what it answers at each return
-module _ (o : Order) (file s : List ℕ) (at : ℕ) (before : Before) (i : BodyIn file s at before) where
-  module _ {t : Described} (k : DescriptionsOf o (at + 16) s before (DescriptionsJudged.On t)) where
+module _ (o : Order) (label : Label) (file s : List ℕ) (at : ℕ) (before : Before) (i : BodyIn file s at before) where
+  module _ {t : Described} (k : DescriptionsOf o label (at + 16) s before (DescriptionsJudged.On t)) where
     room : ChannelsIn (length file) (subsAt (t .channels) (t .count))
     room = k .bounds .room (length file) (i .inside) (i .held)
 
@@ -167,42 +172,42 @@ module _ (o : Order) (file s : List ℕ) (at : ℕ) (before : Before) (i : BodyI
           channels = rw c room;
         }
 
-  pub stops-descriptions : {m : ℕ} {r : Refusal} → DescriptionsOf o (at + 16) s before (DescriptionsJudged.Stop r) → BodyJudged o file s at m before (Recorded.Stop r)
-  stops-descriptions k = record { told = λ held h has fills times. tables-stop o file at s before held h fills (k .told file held (i .part) has); continues = tt }
+  pub stops-descriptions : {m : ℕ} {r : Refusal} → DescriptionsOf o label (at + 16) s before (DescriptionsJudged.Stop r) → BodyJudged o label file s at m before (Recorded.Stop r)
+  stops-descriptions k = record { told = λ held h has fills times. tables-stop o label file at s before held h fills (k .told file held (i .part) has); continues = tt }
 
-  module _ {m : ℕ} {t : Described} (k : DescriptionsOf o (at + 16) s before (DescriptionsJudged.On t)) {cs : Channels} (c : cs ≡ subsAt (t .channels) (t .count)) where
-    pub stops-signals : {r : Refusal} → SignalsOf o file cs (t .own) (t .basic) (t .next) (at + 16) s m (FramesJudged.Stop r) → BodyJudged o file s at m before (Recorded.Stop r)
-    stops-signals j = record { told = λ held h has fills times. signals-stop o file at s before held h fills (k .told file held (i .part) has) c times j; continues = tt }
+  module _ {m : ℕ} {t : Described} (k : DescriptionsOf o label (at + 16) s before (DescriptionsJudged.On t)) {cs : Channels} (c : cs ≡ subsAt (t .channels) (t .count)) where
+    pub stops-signals : {r : Refusal} → SignalsOf o file cs (t .own) (t .basic) (t .next) (at + 16) s m (FramesJudged.Stop r) → BodyJudged o label file s at m before (Recorded.Stop r)
+    stops-signals j = record { told = λ held h has fills times. signals-stop o label file at s before held h fills (k .told file held (i .part) has) c times j; continues = tt }
 
-    pub holds : {f : Frames} (q : ℕ) → SignalsOf o file cs (t .own) (t .basic) (t .next) (at + 16) s m (FramesJudged.On f q) → BodyJudged o file s at m before (Recorded.On (placesFor at (length s) t (f .size) (f .seconds)))
+    pub holds : {f : Frames} (q : ℕ) → SignalsOf o file cs (t .own) (t .basic) (t .next) (at + 16) s m (FramesJudged.On f q) → BodyJudged o label file s at m before (Recorded.On (placesFor at (length s) t (f .size) (f .seconds)))
     holds {f} q j = record {
-      told = λ held h has fills times. body-holds o file at s before held h fills (k .told file held (i .part) has) c times q j (k .bounds .fits);
+      told = λ held h has fills times. body-holds o label file at s before held h fills (k .told file held (i .part) has) c times q j (k .bounds .fits);
       continues = continues at (length file) s before t (k .bounds) (i .inside) (i .held) (f .size) (f .seconds);
     }
 
 -- what `body_again` answers
-module _ (o : Order) (s : List ℕ) (at : ℕ) (before : Before) where
-  pub again-stops : {r : Refusal} → DescriptionsOf o (at + 16) s before (DescriptionsJudged.Stop r) → BodyAgain o s at before (Recorded.Stop r)
-  again-stops k = record { told = λ file held h x e is has fills g. tables-stop o file at s before held h fills (k .told file held is has); continues = λ n l w. tt }
+module _ (o : Order) (label : Label) (s : List ℕ) (at : ℕ) (before : Before) where
+  pub again-stops : {r : Refusal} → DescriptionsOf o label (at + 16) s before (DescriptionsJudged.Stop r) → BodyAgain o label s at before (Recorded.Stop r)
+  again-stops k = record { told = λ file held h x e is has fills g. tables-stop o label file at s before held h fills (k .told file held is has); continues = λ n l w. tt }
 
-  module _ {t : Described} (k : DescriptionsOf o (at + 16) s before (DescriptionsJudged.On t)) where
-    pub again-short : {r : Refusal} → length s < t .next .at + 32 → BodyAgain o s at before (Recorded.Stop r)
-    again-short l = record { told = λ file held h x e is has fills g. absurd (long o file at s before held h fills (k .told file held is has) g l); continues = λ n l w. tt }
+  module _ {t : Described} (k : DescriptionsOf o label (at + 16) s before (DescriptionsJudged.On t)) where
+    pub again-short : {r : Refusal} → length s < t .next .at + 32 → BodyAgain o label s at before (Recorded.Stop r)
+    again-short l = record { told = λ file held h x e is has fills g. absurd (long o label file at s before held h fills (k .told file held is has) g l); continues = λ n l w. tt }
 
-    pub again-holds : {frame seconds : ℕ} → seconds ≡ numberAt o 4 s (t .next .at + 16) → frame ≡ numberAt o 4 s (t .next .at + 20) → BodyAgain o s at before (Recorded.On (placesFor at (length s) t frame seconds))
+    pub again-holds : {frame seconds : ℕ} → seconds ≡ numberAt o 4 s (t .next .at + 16) → frame ≡ numberAt o 4 s (t .next .at + 20) → BodyAgain o label s at before (Recorded.On (placesFor at (length s) t frame seconds))
     again-holds {frame} {seconds} i j = record {
-      told = λ file held h x e is has fills g. found o file at s before held h fills (k .told file held is has) g frame seconds i j (k .bounds .fits);
+      told = λ file held h x e is has fills g. found o label file at s before held h fills (k .told file held is has) g frame seconds i j (k .bounds .fits);
       continues = λ n l w. continues at n s before t (k .bounds) l w frame seconds;
     }
 
 -- a recording at byte p of the file
-module _ (o : Order) (file : List ℕ) (p i : ℕ) where
+module _ (o : Order) (label : Label) (file : List ℕ) (p i : ℕ) where
   abbrev walk : Option R.Held → Verdict R.Placed
-  walk held = see o 0 file p (R.recording held (length file - p) i)
+  walk held = see o 0 file p (R.recording label held (length file - p) i)
 
-  begins : (held : Option R.Held) → walk held ≡ onward (see o 0 file p (opened (R.recordingRule i) (length file - p))) (λ h e. see o 0 file e (R.recordingBody held h))
+  begins : (held : Option R.Held) → walk held ≡ onward (see o 0 file p (opened (R.recordingRule i) (length file - p))) (λ h e. see o 0 file e (R.recordingBody label held h))
   unfolding recording
-  begins held = body-opened o 0 file (R.recordingRule i) (R.recordingBody held) (length file - p) p
+  begins held = body-opened o 0 file (R.recordingRule i) (R.recordingBody label held) (length file - p) p
 
   open-stop : {r : Refusal} → OpenAt o 0 file p (Kind.Recording i) (Opened.Stop r) → (held : Option R.Held) → walk held ≡ halts r
   open-stop a held = begins held ∙ rw (rw zero-add at (a .seen))
@@ -215,12 +220,12 @@ module _ (o : Order) (file : List ℕ) (p i : ℕ) where
         let l : 16 + length (take (q - (p + 16)) (drop (p + 16) file)) ≡ q - p = body-length p q file (omega (arith, st .end, st .spans)) (st .inside) in
         omega (arith, l, st .end)
 
-    in-body : (held : Option R.Held) → see o (p + 16) (take (q - (p + 16)) (drop (p + 16) file)) (p + 16) (R.recordingBody held (headOf h)) ≡ walk held
+    in-body : (held : Option R.Held) → see o (p + 16) (take (q - (p + 16)) (drop (p + 16) file)) (p + 16) (R.recordingBody label held (headOf h)) ≡ walk held
     in-body held =
         let st = a .stands in
         let n : ℕ = R.span (headOf h) in
         let z : p + 16 + (n - 16) ≡ p + 16 + (q - (p + 16)) = omega (arith, st .end) in
-        see-part o 0 (p + 16) (p + 16) (q - (p + 16)) file (sym (zero-add (p + 16))) (omega (arith, st .inside, st .end, st .spans)) (R.recordingBody held (headOf h)) (p + 16) (λ x e. (x .layout .bytes ≡ n) × (e ≡ p + 16 + (q - (p + 16)))) (omega arith) (rw z at (stays-recordingBody held (headOf h) (p + 16) (st .spans))) ∙
+        see-part o 0 (p + 16) (p + 16) (q - (p + 16)) file (sym (zero-add (p + 16))) (omega (arith, st .inside, st .end, st .spans)) (R.recordingBody label held (headOf h)) (p + 16) (λ x e. (x .layout .bytes ≡ n) × (e ≡ p + 16 + (q - (p + 16)))) (omega arith) (rw z at (stays-recordingBody label held (headOf h) (p + 16) (st .spans))) ∙
         sym (begins held ∙ rw (rw (zero-add p, zero-add (h .at + 16), st .at) at (a .seen)))
 
 -- it is accepted whatever its serial, where the head is looked at for no more than that
@@ -249,20 +254,20 @@ module _ (file : List ℕ) (p q : ℕ) {before : Before} (low : p + 16 ≤ q) (i
     held = i .held;
   }
 
-pub at-stops : {o : Order} {file : List ℕ} {p i : ℕ} {before : Before} {r : Refusal} → OpenAt o 0 file p (Kind.Recording i) (Opened.Stop r) → RecordingAt o file p i before (Recorded.Stop r)
-at-stops {o} {file} {p} {i} a = record { told = λ held has. open-stop o file p i a held; continues = tt }
+pub at-stops : {o : Order} {label : Label} {file : List ℕ} {p i : ℕ} {before : Before} {r : Refusal} → OpenAt o 0 file p (Kind.Recording i) (Opened.Stop r) → RecordingAt o label file p i before (Recorded.Stop r)
+at-stops {o} {label} {file} {p} {i} a = record { told = λ held has. open-stop o label file p i a held; continues = tt }
 
-pub at-body : {o : Order} {file : List ℕ} {p i : ℕ} {before : Before} {h : Head} {q : ℕ} {x : Recorded} → OpenAt o 0 file p (Kind.Recording i) (Opened.On h q) →
-    BodyJudged o file (take (q - (p + 16)) (drop (p + 16) file)) p (h .multiplier) before x → RecordingAt o file p i before x
-at-body {o} {file} {p} {i} {before} {h} {q} {x} a k = record {
-  told = λ held has. subst (λ (v : Verdict R.Placed). recorded o file p before v x) (in-body o file p i a held) (k .told held (headOf h) has (fills o file p i a) refl);
+pub at-body : {o : Order} {label : Label} {file : List ℕ} {p i : ℕ} {before : Before} {h : Head} {q : ℕ} {x : Recorded} → OpenAt o 0 file p (Kind.Recording i) (Opened.On h q) →
+    BodyJudged o label file (take (q - (p + 16)) (drop (p + 16) file)) p (h .multiplier) before x → RecordingAt o label file p i before x
+at-body {o} {label} {file} {p} {i} {before} {h} {q} {x} a k = record {
+  told = λ held has. subst (λ (v : Verdict R.Placed). recorded o file p before v x) (in-body o label file p i a held) (k .told held (headOf h) has (fills o label file p i a) refl);
   continues = k .continues;
 }
 
 -- a recording that the walk accepts: its head was opened as one
-module _ (o : Order) (file : List ℕ) (p i : ℕ) (held : Option R.Held) {x : R.Placed} {e : ℕ} (g : see o 0 file p (R.recording held (length file - p) i) ≡ goes x e) where
-  begun : Goes (see o 0 file p (opened (R.recordingRule i) (length file - p))) (λ h m. see o 0 file m (R.recordingBody held h) ≡ goes x e)
-  begun = onward-went _ _ (sym (begins o file p i held) ∙ g)
+module _ (o : Order) (label : Label) (file : List ℕ) (p i : ℕ) (held : Option R.Held) {x : R.Placed} {e : ℕ} (g : see o 0 file p (R.recording label held (length file - p) i) ≡ goes x e) where
+  begun : Goes (see o 0 file p (opened (R.recordingRule i) (length file - p))) (λ h m. see o 0 file m (R.recordingBody label held h) ≡ goes x e)
+  begun = onward-went _ _ (sym (begins o label file p i held) ∙ g)
 
   any : see o 0 file p (opened R.anyRule (length file - p)) ≡ goes (begun .value) (begun .end)
   any = opened-any o file p (length file - p) i (begun .is)
@@ -276,15 +281,15 @@ module _ (o : Order) (file : List ℕ) (p i : ℕ) (held : Option R.Held) {x : R
       let st = a .stands in
       record { seen = rw zero-add (begun .is ∙ cc (y .0, y .1)); stands = record { at = st .at; end = st .end; inside = st .inside; spans = st .spans } }
 
-pub again-refused : {o : Order} {file : List ℕ} {p : ℕ} {before : Before} {r : Refusal} → OpenAt o 0 file p Kind.Any (Opened.Stop r) → RecordingAgain o file p before (Recorded.Stop r)
-again-refused {o} {file} {p} a = record { told = λ held i x e has g. absurd (not-stopped o file p i held g a); continues = tt }
+pub again-refused : {o : Order} {label : Label} {file : List ℕ} {p : ℕ} {before : Before} {r : Refusal} → OpenAt o 0 file p Kind.Any (Opened.Stop r) → RecordingAgain o label file p before (Recorded.Stop r)
+again-refused {o} {label} {file} {p} a = record { told = λ held i x e has g. absurd (not-stopped o label file p i held g a); continues = tt }
 
-pub again-body : {o : Order} {file : List ℕ} {p : ℕ} {before : Before} {h : Head} {q : ℕ} {x : Recorded} → OpenAt o 0 file p Kind.Any (Opened.On h q) → BodyIn file (take (q - (p + 16)) (drop (p + 16) file)) p before →
-    BodyAgain o (take (q - (p + 16)) (drop (p + 16) file)) p before x → RecordingAgain o file p before x
-again-body {o} {file} {p} {before} {h} {q} {x} a b k = record {
+pub again-body : {o : Order} {label : Label} {file : List ℕ} {p : ℕ} {before : Before} {h : Head} {q : ℕ} {x : Recorded} → OpenAt o 0 file p Kind.Any (Opened.On h q) → BodyIn file (take (q - (p + 16)) (drop (p + 16) file)) p before →
+    BodyAgain o label (take (q - (p + 16)) (drop (p + 16) file)) p before x → RecordingAgain o label file p before x
+again-body {o} {label} {file} {p} {before} {h} {q} {x} a b k = record {
   told = λ held i y e has g.
-      let r = as-recording o file p i held g a in
-      let d = in-body o file p i r held in
-      subst (λ (v : Verdict R.Placed). recorded o file p before v x) d (k .told file held (headOf h) y e (b .part) has (fills o file p i r) (d ∙ g));
+      let r = as-recording o label file p i held g a in
+      let d = in-body o label file p i r held in
+      subst (λ (v : Verdict R.Placed). recorded o file p before v x) d (k .told file held (headOf h) y e (b .part) has (fills o label file p i r) (d ∙ g));
   continues = k .continues (length file) (b .inside) (b .held);
 }

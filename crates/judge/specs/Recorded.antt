@@ -10,6 +10,7 @@ use Rattle.words.specs.declared.Order.{Order}
 use Rattle.walk.specs.Walk.{pick}
 use Rattle.walk.specs.See.{Verdict, goes, see, Goes}
 use Rattle.rules.specs.Rules as R
+use Rattle.rules.specs.declared.Label.{Label}
 use Rattle.records.specs.Says.{halts, subsAt, ChannelsIn}
 use Rattle.descriptions.specs.declared.Before.{Before}
 use Rattle.descriptions.specs.declared.Before.the-variants as Before
@@ -19,7 +20,7 @@ use Rattle.descriptions.specs.DescriptionsJudged.{channelsIn, patientIn, heldAt
 use Rattle.judge.specs.declared.recording.Recorded.{Recorded}
 use Rattle.judge.specs.declared.recording.Recorded.the-variants as Recorded
 
--- where a recording that starts here stands, as the walk's value has it: a 120 or a 130 of its own, or the one taken over from before
+-- where a recording that starts here stands, as the walk's value has it: a 120 or 320, or a 130, of its own, or the one taken over from before
 abbrev pub placesOf : ℕ → Before → R.Placed → Places
 placesOf start before x = record {
   start = start;
@@ -29,6 +30,8 @@ placesOf start before x = record {
   patient = pick (x .recording .ownPatient) (start + x .layout .at130) (heldAt (patientIn before));
   «has_events» = x .recording .ownEvents;
   events = pick (x .recording .ownEvents) (start + x .layout .at200) 0;
+  «has_montage» = x .recording .ownMontage;
+  montage = pick (x .recording .ownMontage) (start + x .layout .at350) 0;
   frames = start + x .layout .at140;
   frame = x .layout .frame;
   total = x .recording .basic .frames;
@@ -45,6 +48,8 @@ placesFor start n t frame seconds = record {
   patient = t .patient;
   «has_events» = t .«has_events»;
   events = t .events;
+  «has_montage» = t .«has_montage»;
+  montage = t .montage;
   frames = start + 16 + t .next .at;
   frame = frame;
   total = t .basic .frames;
@@ -69,7 +74,7 @@ recorded o file start before v (Recorded.Stop r) = v ≡ halts r
 pub record PlacedIn (p n : ℕ) (q : Places) : Type 0 where
   pub start : p ≤ q .end
   pub end : q .end ≤ n
-  -- the records 125 that hold for it, and behind it
+  -- the subs that hold for it, and behind it
   pub channels : ChannelsIn n (subsAt (q .channels) (q .count))
 
 abbrev pub Continues : ℕ → ℕ → Recorded → Type 0
@@ -106,26 +111,26 @@ pub record TablesIn (at n : ℕ) (t : Described) : Type 0 where
 -- and what they promise. `told`: the answer is what the rules' walk comes to, where the code and the walk hold the same of the recording before
 
 -- the body s of the recording at `at`, for any head of its length and multiplier
-pub record BodyJudged (o : Order) (file s : List ℕ) (at multiplier : ℕ) (before : Before) (a : Recorded) : Type 0 where
+pub record BodyJudged (o : Order) (label : Label) (file s : List ℕ) (at multiplier : ℕ) (before : Before) (a : Recorded) : Type 0 where
   pub told : (held : Option R.Held) (h : R.Head) → HeldAs o file before held → R.span h ≡ 16 + length s → h .multiplier ≡ multiplier →
-      recorded o file at before (see o (at + 16) s (at + 16) (R.recordingBody held h)) a
+      recorded o file at before (see o (at + 16) s (at + 16) (R.recordingBody label held h)) a
   pub continues : Continues at (length file) a
 
 -- the recording at byte p, with the serial i
-pub record RecordingAt (o : Order) (file : List ℕ) (p i : ℕ) (before : Before) (a : Recorded) : Type 0 where
-  pub told : (held : Option R.Held) → HeldAs o file before held → recorded o file p before (see o 0 file p (R.recording held (length file - p) i)) a
+pub record RecordingAt (o : Order) (label : Label) (file : List ℕ) (p i : ℕ) (before : Before) (a : Recorded) : Type 0 where
+  pub told : (held : Option R.Held) → HeldAs o file before held → recorded o file p before (see o 0 file p (R.recording label held (length file - p) i)) a
   pub continues : Continues p (length file) a
 
 -- a body that the walk accepts, in any file where it stands
-pub record BodyAgain (o : Order) (s : List ℕ) (at : ℕ) (before : Before) (a : Recorded) : Type 0 where
+pub record BodyAgain (o : Order) (label : Label) (s : List ℕ) (at : ℕ) (before : Before) (a : Recorded) : Type 0 where
   pub told : (file : List ℕ) (held : Option R.Held) (h : R.Head) (x : R.Placed) (e : ℕ) → s ≡ take (length s) (drop (at + 16) file) →
-      HeldAs o file before held → R.span h ≡ 16 + length s → see o (at + 16) s (at + 16) (R.recordingBody held h) ≡ goes x e →
-      recorded o file at before (see o (at + 16) s (at + 16) (R.recordingBody held h)) a
+      HeldAs o file before held → R.span h ≡ 16 + length s → see o (at + 16) s (at + 16) (R.recordingBody label held h) ≡ goes x e →
+      recorded o file at before (see o (at + 16) s (at + 16) (R.recordingBody label held h)) a
   pub continues : (n : ℕ) → at + 16 + length s ≤ n → HeldWithin n before → Continues at n a
 
 -- a recording that the walk accepts, at byte p, whatever its serial
-pub record RecordingAgain (o : Order) (file : List ℕ) (p : ℕ) (before : Before) (a : Recorded) : Type 0 where
+pub record RecordingAgain (o : Order) (label : Label) (file : List ℕ) (p : ℕ) (before : Before) (a : Recorded) : Type 0 where
   pub told : (held : Option R.Held) (i : ℕ) (x : R.Placed) (e : ℕ) → HeldAs o file before held →
-      see o 0 file p (R.recording held (length file - p) i) ≡ goes x e →
-      recorded o file p before (see o 0 file p (R.recording held (length file - p) i)) a
+      see o 0 file p (R.recording label held (length file - p) i) ≡ goes x e →
+      recorded o file p before (see o 0 file p (R.recording label held (length file - p) i)) a
   pub continues : Continues p (length file) a

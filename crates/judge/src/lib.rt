@@ -14,6 +14,7 @@ use descriptions::Before;
 use header::Opened;
 use records::Step;
 use rules::FileHeader;
+use rules::Label;
 use rules::Refusal;
 use words::Order;
 
@@ -33,16 +34,16 @@ pub fn of_recording(a: Recorded) -> Refusal
 }
 
 // So many recordings from byte 32 of the file on: where they end.
-fn recordings_from(o: Order, file: &[u8], count: u32) -> Step
+fn recordings_from(o: Order, label: Label, file: &[u8], count: u32) -> Step
     requires { ⌜ HeaderIn (length (now file)) ⌝ }
     ensures { λ a. ⌜ StepOver o 0 (now (file .entry)) 32
-        (R.recordings count none (length (now (file .entry)) - 32) 1) (Beyond 32 (length (now (file .entry)))) a ⌝ }
+        (R.recordings label count none (length (now (file .entry)) - 32) 1) (Beyond 32 (length (now (file .entry)))) a ⌝ }
 {
     let mut p: usize = FileHeader::LENGTH;
     let mut i: u32 = 0;
     let mut before = Before::Nothing;
     while i < count {
-        let step = recording::recording_at(o, file, p, i + 1, before);
+        let step = recording::recording_at(o, label, file, p, i + 1, before);
         let Recorded::On(places) = step else {
             return Step::Stop(of_recording(step));
         };
@@ -62,8 +63,10 @@ pub fn judge(file: &[u8]) -> Judged
         return Judged::Refused(header::of_opened(opened));
     };
     let order = h.order;
+    let heading = h.heading;
+    let label = heading.label;
     let count = h.count;
-    let walked = recordings_from(order, file, count);
+    let walked = recordings_from(order, label, file, count);
     let Step::On(end) = walked else {
         let stop = records::of_step(walked);
         return Judged::Refused(stop);

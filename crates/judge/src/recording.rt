@@ -17,6 +17,7 @@ use records::kinds::open;
 use rules::Frames;
 use rules::Head;
 use rules::Kind;
+use rules::Label;
 use rules::Refusal;
 use signals::frames::FramesJudged;
 use signals::of_frames;
@@ -46,6 +47,8 @@ fn places_for(at: usize, n: usize, t: Described, frame: usize, seconds: u32) -> 
         patient: t.patient,
         has_events: t.has_events,
         events: t.events,
+        has_montage: t.has_montage,
+        montage: t.montage,
         frames: base + next.at,
         frame,
         total: basic.frames,
@@ -56,6 +59,7 @@ fn places_for(at: usize, n: usize, t: Described, frame: usize, seconds: u32) -> 
 // The body of the recording at `at`: the part of the file that starts 16 bytes into it.
 fn recording_body(
     o: Order,
+    label: Label,
     file: &[u8],
     s: &[u8],
     at: usize,
@@ -63,10 +67,10 @@ fn recording_body(
     before: Before,
 ) -> Recorded
     requires { ⌜ BodyIn (now file) (now s) at before ⌝ }
-    ensures { λ a. ⌜ BodyJudged o (now (file .entry)) (now (s .entry)) at multiplier before a ⌝ }
+    ensures { λ a. ⌜ BodyJudged o label (now (file .entry)) (now (s .entry)) at multiplier before a ⌝ }
 {
     let base = at + Head::LENGTH;
-    let described = judge_descriptions(o, s, base, before);
+    let described = judge_descriptions(o, label, s, base, before);
     let DescriptionsJudged::On(t) = described else {
         return Recorded::Stop(of_descriptions(described));
     };
@@ -81,9 +85,16 @@ fn recording_body(
 }
 
 // The recording at byte p of the file, with the serial i.
-pub fn recording_at(o: Order, file: &[u8], p: usize, i: u32, before: Before) -> Recorded
+pub fn recording_at(
+    o: Order,
+    label: Label,
+    file: &[u8],
+    p: usize,
+    i: u32,
+    before: Before,
+) -> Recorded
     requires { ⌜ RecordingIn (length (now file)) p before ⌝ }
-    ensures { λ a. ⌜ RecordingAt o (now (file .entry)) p i before a ⌝ }
+    ensures { λ a. ⌜ RecordingAt o label (now (file .entry)) p i before a ⌝ }
 {
     let opened = open(o, file, 0, p, Kind::Recording(i));
     let Opened::On(h, end) = opened else {
@@ -91,6 +102,7 @@ pub fn recording_at(o: Order, file: &[u8], p: usize, i: u32, before: Before) -> 
     };
     recording_body(
         o,
+        label,
         file,
         &file[p + Head::LENGTH..end],
         p,
@@ -100,12 +112,12 @@ pub fn recording_at(o: Order, file: &[u8], p: usize, i: u32, before: Before) -> 
 }
 
 // The body of a recording that the judge accepted.
-fn body_again(o: Order, s: &[u8], at: usize, before: Before) -> Recorded
+fn body_again(o: Order, label: Label, s: &[u8], at: usize, before: Before) -> Recorded
     requires { ⌜ Addressable (at + 16 + length (now s)) ⌝ }
-    ensures { λ a. ⌜ BodyAgain o (now (s .entry)) at before a ⌝ }
+    ensures { λ a. ⌜ BodyAgain o label (now (s .entry)) at before a ⌝ }
 {
     let base = at + Head::LENGTH;
-    let described = judge_descriptions(o, s, base, before);
+    let described = judge_descriptions(o, label, s, base, before);
     let DescriptionsJudged::On(t) = described else {
         return Recorded::Stop(of_descriptions(described));
     };
@@ -122,13 +134,13 @@ fn body_again(o: Order, s: &[u8], at: usize, before: Before) -> Recorded
 }
 
 // Where a recording stands that the judge accepted: its descriptions are read again, its frames are not.
-pub fn recording_again(o: Order, file: &[u8], p: usize, before: Before) -> Recorded
+pub fn recording_again(o: Order, label: Label, file: &[u8], p: usize, before: Before) -> Recorded
     requires { ⌜ RecordingIn (length (now file)) p before ⌝ }
-    ensures { λ a. ⌜ RecordingAgain o (now (file .entry)) p before a ⌝ }
+    ensures { λ a. ⌜ RecordingAgain o label (now (file .entry)) p before a ⌝ }
 {
     let opened = open(o, file, 0, p, Kind::Any);
     let Opened::On(_, end) = opened else {
         return Recorded::Stop(of_open(opened));
     };
-    body_again(o, &file[p + Head::LENGTH..end], p, before)
+    body_again(o, label, &file[p + Head::LENGTH..end], p, before)
 }

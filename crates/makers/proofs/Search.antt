@@ -11,6 +11,7 @@ use Rattle.words.specs.declared.Order.{Order}
 use Rattle.walk.specs.Walk.{pick, Row}
 use Rattle.rules.specs.declared.Head as At
 use Rattle.rules.specs.Rules.{Head, makerCode, recordingBody}
+use Rattle.records.specs.Says.{isGroup, subCode}
 use Rattle.children.specs.Children.{Said, said, _then_, Known, knownOf, Inner, Chain, Closed, RecordAt, NoRecord}
 use Rattle.children.specs.Recordings.{OfBody}
 use Rattle.children.proofs.Chained.{body-chain}
@@ -46,14 +47,24 @@ unfolding firstMaker seriesRows
 first-series zero i start step code m = refl
 first-series (suc n) i start step code m = rw m (first-series n (suc i) (start + step) step code m)
 
+-- a sub's code is no maker's
+sub-coded : (code : ℕ) → makerCode (subCode code) ≡ false
+unfolding subCode makerCode
+sub-coded code = go (eqb code 120) (eqb code 320)
+  where
+    go : (x y : Bool) → makerCode (pick x 125 (pick y 325 355)) ≡ false
+    go true y = refl
+    go false true = refl
+    go false false = refl
+
 module _ (o : Order) (b : ℕ) (s : List ℕ) (p : ℕ) where
   -- no record that another holds is a maker's
   held-first : (code : ℕ) → firstMaker (heldRows o b s p code) ≡ none
   unfolding heldRows firstMaker makerCode
-  held-first code = go (eqb code 120) (eqb code 140)
+  held-first code = go (isGroup code) (eqb code 140)
     where
-      go : (x y : Bool) → firstMaker (pick x (channelRows o b s p) (pick y (frameRows o b s p) [])) ≡ none
-      go true y = first-series _ 1 _ 256 125 refl
+      go : (x y : Bool) → firstMaker (pick x (channelRows o b s p code) (pick y (frameRows o b s p) [])) ≡ none
+      go true y = first-series _ 1 _ 256 (subCode code) (sub-coded code)
       go false true = first-series _ 1 _ _ 145 refl
       go false false = refl
 
@@ -77,7 +88,7 @@ pub record Sought (o : Order) (b : ℕ) (s : List ℕ) (p : ℕ) (m : Option ℕ
 module _ {o : Order} {b : ℕ} {s : List ℕ} where
   pub sought-all : OfBody o b s (λ rs. Sought o b s 0 (firstMaker rs))
   unfolding said
-  sought-all held h x e n g = record { left = said o b s b (recordingBody held h); known = knownOf x; chain = body-chain o b s held h n g; first = refl }
+  sought-all label held h x e n g = record { left = said o b s b (recordingBody label held h); known = knownOf x; chain = body-chain o label b s held h n g; first = refl }
 
   module _ {p : ℕ} {m : Option ℕ} (g : Sought o b s p m) where
     pub sought-none : p ≤ length s → NoRecord o b s p → none ≡ m

@@ -26,6 +26,7 @@ use Rattle.records.specs.Says.{headOf, Headroom, headroom}
 use Rattle.records.proofs.Facts.{both-false}
 use Rattle.signals.proofs.FramesBody.{Fields, yields-framesBody}
 use Rattle.records.proofs.Opened.{admit-went, require-went}
+use Rattle.rules.specs.declared.Label.{Label}
 use Rattle.rows.proofs.Lists.{frames-refused}
 use Rattle.measures.specs.Measures.{sizedFor, mostServed, Large, Serves, measureFor, measuredFor, MeasureBounds, Each, Given, MeasureOf}
 use Rattle.measures.specs.declared.Sized.{Sized}
@@ -129,7 +130,7 @@ fields-told o b s c cs h g =
     rw (z₀, z₁, z₂) at (yields o b s (R.framesBody c cs h) b _ (yields-framesBody o b s b c cs h) g)
 
 -- a recording's body s that the walk accepted, with the 140 at byte `at` of it
-module _ {o : Order} {base : ℕ} {s : List ℕ} {x : R.Placed} (v : Accepted o base s x) (at : ℕ) (is : 16 + at ≡ x .layout .at140) where
+module _ {o : Order} {label : Label} {base : ℕ} {s : List ℕ} {x : R.Placed} (v : Accepted o label base s x) (at : ℕ) (is : 16 + at ≡ x .layout .at140) where
   pub stands : see o base s (base + at) (R.head (length s - at)) ≡ goes (v .top) (base + (at + 16))
   stands = let e : v .at ≡ at = omega (arith, v .place) in rw e at (v .stands)
 
@@ -202,10 +203,10 @@ module _ {o : Order} {base : ℕ} {s : List ℕ} {x : R.Placed} (v : Accepted o 
                 let r : length s - d .at ≡ v .after .room = ap (λ (y : Headroom). y .room) (goes-same (sym (follows (v .fuel) enough) ∙ behind) .0) in
                 omega (arith, v .left, v .place, v .inside, ap (λ (y : R.Head). R.span y) same-head)
 
-            whole-is : 16 + (at + sizedFor (32 + (24 + bytes) * n) .length + (d .at + 16 - q)) ≡ 16 + W.size (C.content (x .recording))
+            whole-is : 16 + (at + sizedFor (32 + (24 + bytes) * n) .length + (d .at + 16 - q)) ≡ 16 + W.size (C.content label (x .recording))
             whole-is = rw (frames-is, rest-is) (omega (arith, v .long, v .place))
 
-            pub measure-told : Given (measuredFor at q (d .at + 16) t size (24 + bytes) n) (λ f. MeasureOf f x)
+            pub measure-told : Given (measuredFor at q (d .at + 16) t size (24 + bytes) n) (λ f. MeasureOf label f x)
             measure-told =
-                measure-given at q (d .at + 16) t size (24 + bytes) n (λ f. MeasureOf f x) (rw frames-is (v .few)) (rw whole-is (v .total))
+                measure-given at q (d .at + 16) t size (24 + bytes) n (λ f. MeasureOf label f x) (rw frames-is (v .few)) (rw whole-is (v .total))
                 (record { at = is; seconds = sym seconds-is; count = measure-fields .count ∙ sym (v .count); filled = rw (seconds-is, many); signals = ap sizedFor frames-is; whole = ap sizedFor whole-is })

@@ -13,6 +13,7 @@ use Rattle.words.specs.declared.Order.{Order}
 use Rattle.walk.specs.Walk.{Event, size, pick}
 use Rattle.walk.specs.See.{goes, see}
 use Rattle.rules.specs.Rules as R
+use Rattle.rules.specs.declared.Label.{Label}
 use Rattle.rules.specs.Canonical as C
 use Rattle.rules.specs.declared.Channels.{Channels}
 use Rattle.records.specs.Asks.{PartAt}
@@ -64,14 +65,14 @@ unfoldable pub measuredFor : ℕ → ℕ → ℕ → ℕ → ℕ → ℕ → ℕ
 measuredFor at end last seconds size filled count =
     pick (leb (32 + filled * count) mostServed && leb (16 + (at + sizedFor (32 + filled * count) .length + (last - end))) mostServed) (Measured.On (measureFor at end last seconds size filled count)) Measured.Nothing
 
--- what a measure says of a recording: its 140's own fields, and the sizes of its canonical form
-pub record MeasureOf (f : Measure) (x : R.Placed) : Type 0 where
+-- what a measure says of a recording in a file with this label: its 140's own fields, and the sizes of its canonical form
+pub record MeasureOf (label : Label) (f : Measure) (x : R.Placed) : Type 0 where
   pub at : 16 + f .at ≡ x .layout .at140
   pub seconds : f .seconds ≡ x .recording .seconds
   pub count : f .count ≡ length (x .recording .frames)
   pub filled : f .filled ≡ C.frameSize (x .recording .seconds) (x .recording .channels)
   pub signals : f .signals ≡ sizedFor (C.framesBytes (x .recording .seconds) (x .recording .channels) (x .recording .frames))
-  pub whole : f .whole ≡ sizedFor (16 + size (C.content (x .recording)))
+  pub whole : f .whole ≡ sizedFor (16 + size (C.content label (x .recording)))
 
 -- the bounds that hold whatever the bytes are, in a body of n bytes
 pub record MeasureBounds (n : ℕ) (f : Measure) : Type 0 where
@@ -116,7 +117,7 @@ pub record MeasureIn (o : Order) (b : ℕ) (s : List ℕ) (f : Measure) : Type 0
   pub end : (h : R.Head) (e : ℕ) → see o b s (b + f .at) (R.head (length s - f .at)) ≡ goes h e → f .end ≡ f .at + R.span h
   pub says : FramesSay o (signalsIn s f) (f .seconds) (f .size) (f .count)
 
--- a recording's body s stands at `base`, its 140 at byte `at` of it, and the records 125 that hold for it at cs in the file
+-- a recording's body s stands at `base`, its 140 at byte `at` of it, and the subs that hold for it at cs in the file
 pub record Measurable (file s : List ℕ) (cs : Channels) (at base : ℕ) : Type 0 where
   -- they are in the file
   pub channels : ChannelsIn (length file) cs
@@ -129,9 +130,9 @@ pub record MeasuredAs (o : Order) (file s : List ℕ) (cs : Channels) (at base :
   pub bounds : Each a (MeasureBounds (length s))
   pub reads : Each a (MeasureIn o base s)
   -- where the walk accepts the body, there is a measure, and it is the recording's
-  pub told : (held : Option R.Held) (h : R.Head) (x : R.Placed) (e : ℕ) →
+  pub told : (label : Label) (held : Option R.Held) (h : R.Head) (x : R.Placed) (e : ℕ) →
       R.span h ≡ 16 + length s → ChannelsStand o file cs (x .recording .channels) → 16 + at ≡ x .layout .at140 →
-      see o base s base (R.recordingBody held h) ≡ goes x e → Given a (λ f. MeasureOf f x)
+      see o base s base (R.recordingBody label held h) ≡ goes x e → Given a (λ f. MeasureOf label f x)
 
 -- a frame's clock and samples as they stand in the bytes s, its padding left out
 pub record FrameIn (o : Order) (t : ℕ) (cs : List R.Channel) (s : List ℕ) (f : R.Frame) : Type 0 where
@@ -141,5 +142,5 @@ pub record FrameIn (o : Order) (t : ℕ) (cs : List R.Channel) (s : List ℕ) (f
   pub samples : (b : ℕ) → see o b s (b + 24) (R.samples t cs) ≡ goes (f .channels) (b + length s)
 
 -- what stands behind the head of a canonical recording
-abbrev pub behindHead : R.Recording → List Event
-behindHead r = C.content r ++ (C.zeroes (R.span (C.recordingHead 0 r) - (16 + size (C.content r))) ∷ [])
+abbrev pub behindHead : Label → R.Recording → List Event
+behindHead label r = C.content label r ++ (C.zeroes (R.span (C.recordingHead label 0 r) - (16 + size (C.content label r))) ∷ [])

@@ -7,7 +7,8 @@ use Prim.Native.Nat.{ℕ}
 use lib.IntN.{ℤ}
 use Rattle.answers.specs.Flat.{Leaves}
 use Rattle.psg.specs.Calls.{JudgeAnswers, TableAnswers, TurnAnswers, RewriteAnswers}
-use Rattle.psg.specs.Calls.{HeaderAnswers, FactsAnswers, ChannelAnswers, PatientItemAnswers, EventItemAnswers, ClockAnswers, CountAnswers, SampleAnswers, ViewAnswers}
+use Rattle.psg.specs.Calls.{HeaderAnswers, FactsAnswers, ChannelAnswers, MontageCountAnswers, MontageAnswers, PatientItemAnswers, EventItemAnswers}
+use Rattle.psg.specs.Calls.{ClockAnswers, CountAnswers, SampleAnswers, ViewAnswers}
 use Rattle.answers.specs.declared.Channel.{Channel}
 use Rattle.answers.specs.declared.Clock.{Clock}
 use Rattle.answers.specs.declared.Counted.{Counted}
@@ -15,6 +16,7 @@ use Rattle.answers.specs.declared.Facts.{Facts}
 use Rattle.answers.specs.declared.Header.{Header}
 use Rattle.answers.specs.declared.Heading.{Heading}
 use Rattle.answers.specs.declared.Item.{Item}
+use Rattle.answers.specs.declared.Montage.{Montage}
 use Rattle.answers.specs.declared.Sample.{Sample}
 use Rattle.answers.specs.declared.View.{View}
 
@@ -48,6 +50,12 @@ module _ (s : List ℕ) where
 
   pub psg-channel-unique : (i j : ℕ) (a b : Channel) → ChannelAnswers s i j a → ChannelAnswers s i j b → a ≡ b
   psg-channel-unique i j a b = only
+
+  pub psg-montage-count-unique : (i : ℕ) (a b : Counted) → MontageCountAnswers s i a → MontageCountAnswers s i b → a ≡ b
+  psg-montage-count-unique i a b = only
+
+  pub psg-montage-unique : (i j : ℕ) (a b : Montage) → MontageAnswers s i j a → MontageAnswers s i j b → a ≡ b
+  psg-montage-unique i j a b = only
 
   pub psg-patient-item-unique : (i j : ℕ) (a b : Item) → PatientItemAnswers s i j a → PatientItemAnswers s i j b → a ≡ b
   psg-patient-item-unique i j a b = only

@@ -10,8 +10,8 @@ use Rattle.rules.specs.Rules as R
 use Rattle.table.specs.Table as Table
 use Rattle.turn.specs.Turn as Turn
 use Rattle.rewrite.specs.Rewrite as Rewrite
-use Rattle.questions.specs.Questions.{headerOf, factsOf, channelOf, patientItemOf, eventItemOf, clockOf, countOf, sampleOf, viewOf}
-use Rattle.answers.specs.Flat.{Leaves, countedRows, countedBytes, flatHeader, flatHeading, flatFacts, flatChannel, flatItem, flatClock, flatCount, flatSample, flatView}
+use Rattle.questions.specs.Questions.{headerOf, factsOf, channelOf, montageCountOf, montageOf, patientItemOf, eventItemOf, clockOf, countOf, sampleOf, viewOf}
+use Rattle.answers.specs.Flat.{Leaves, countedRows, countedBytes, flatHeader, flatHeading, flatFacts, flatChannel, flatMontage, flatItem, flatClock, flatCount, flatSample, flatView}
 use Rattle.answers.specs.declared.Channel.{Channel}
 use Rattle.answers.specs.declared.Clock.{Clock}
 use Rattle.answers.specs.declared.Counted.{Counted}
@@ -19,6 +19,7 @@ use Rattle.answers.specs.declared.Facts.{Facts}
 use Rattle.answers.specs.declared.Header.{Header}
 use Rattle.answers.specs.declared.Heading.{Heading}
 use Rattle.answers.specs.declared.Item.{Item}
+use Rattle.answers.specs.declared.Montage.{Montage}
 use Rattle.answers.specs.declared.Sample.{Sample}
 use Rattle.answers.specs.declared.View.{View}
 
@@ -45,6 +46,12 @@ FactsAnswers s i a = a ≡ flatFacts (factsOf s i)
 
 abbrev pub ChannelAnswers : List ℕ → ℕ → ℕ → Channel → Type 0
 ChannelAnswers s i j a = a ≡ flatChannel (channelOf s i j)
+
+abbrev pub MontageCountAnswers : List ℕ → ℕ → Counted → Type 0
+MontageCountAnswers s i a = a ≡ flatCount (montageCountOf s i)
+
+abbrev pub MontageAnswers : List ℕ → ℕ → ℕ → Montage → Type 0
+MontageAnswers s i j a = a ≡ flatMontage (montageOf s i j)
 
 abbrev pub PatientItemAnswers : List ℕ → ℕ → ℕ → Item → Type 0
 PatientItemAnswers s i j a = a ≡ flatItem (patientItemOf s i j)

@@ -1,6 +1,7 @@
 // What C and Rust link: each call takes a proved answer apart into a struct of numbers, and adds nothing.
 ghost use Rattle.psg.specs.Calls.{JudgeAnswers, TableAnswers, TurnAnswers, RewriteAnswers};
-ghost use Rattle.psg.specs.Calls.{HeaderAnswers, FactsAnswers, ChannelAnswers, PatientItemAnswers, EventItemAnswers, ClockAnswers};
+ghost use Rattle.psg.specs.Calls.{HeaderAnswers, FactsAnswers, ChannelAnswers, MontageCountAnswers, MontageAnswers};
+ghost use Rattle.psg.specs.Calls.{PatientItemAnswers, EventItemAnswers, ClockAnswers};
 ghost use Rattle.psg.specs.Calls.{CountAnswers, SampleAnswers, ViewAnswers};
 use answers::Channel;
 use answers::Clock;
@@ -9,6 +10,7 @@ use answers::Facts;
 use answers::Header;
 use answers::Heading;
 use answers::Item;
+use answers::Montage;
 use answers::Sample;
 use answers::View;
 use judge::Judged;
@@ -76,6 +78,20 @@ pub extern "C" fn psg_channel(file: &[u8], recording: usize, channel: usize) -> 
     ensures { λ a. ⌜ ChannelAnswers (now (file .entry)) recording channel a ⌝ }
 {
     answers::channel_of(questions::channel(file, recording, channel))
+}
+
+#[no_mangle]
+pub extern "C" fn psg_montage_count(file: &[u8], recording: usize) -> Counted
+    ensures { λ a. ⌜ MontageCountAnswers (now (file .entry)) recording a ⌝ }
+{
+    answers::montage_count_of(questions::montage_count(file, recording))
+}
+
+#[no_mangle]
+pub extern "C" fn psg_montage(file: &[u8], recording: usize, channel: usize) -> Montage
+    ensures { λ a. ⌜ MontageAnswers (now (file .entry)) recording channel a ⌝ }
+{
+    answers::montage_of(questions::montage(file, recording, channel))
 }
 
 #[no_mangle]

@@ -11,25 +11,24 @@ use Rattle.words.specs.Numbers.{Bytes}
 use Rattle.words.proofs.Values.{signed-pos}
 use Rattle.walk.specs.Walk.{Event, pick, passed}
 use Rattle.rules.specs.Rules as R
-use Rattle.rules.specs.Reading.{Value, ChannelReading, channelReading, ItemReading, itemReading, frameReading, recordingReading, samplesReading, reading}
-use Rattle.rules.proofs.Asked.{recording-at}
-use Rattle.rules.proofs.Renewed.{recording-ok}
+use Rattle.rules.specs.Reading.{Value, ChannelReading, channelReading, ItemReading, itemReading, frameReading, RecordingReading, recordingReading, samplesReading, reading}
 use Rattle.records.specs.declared.items.Holder.{Holder}
 use Rattle.records.specs.declared.items.Holder.the-variants as Holder
 use Rattle.records.proofs.Facts.{between-in}
 use Rattle.recordings.specs.Answers.{Answer, value, refusal, _>>=_, indexed, numbered}
 use Rattle.recordings.specs.Recordings.{Chosen, recordingOf}
-use Rattle.recordings.proofs.Chosen.{refusal-value, numbered-out, chosen-in}
+use Rattle.recordings.proofs.Chosen.{refusal-value, numbered-out}
 use Rattle.samples.specs.Frames.{ChosenFrame, frameOf, timeOf, Samples, samplesOf}
-use Rattle.samples.proofs.Framing.{numbered-some, frameAt, this-one, frame-of}
+use Rattle.samples.proofs.Framing.{numbered-some, frameAt, frame-of}
 use Rattle.samples.proofs.Readings.{samples-many}
 use Rattle.samples.proofs.Sampling.{frame-samples}
-use Rattle.questions.specs.Questions.{factsOf, channelOf, itemsOf, itemsAt, itemIn, itemOf, clockOf}
-use Rattle.questions.specs.Tied.{recordingRead, channelRead, itemsRead, itemRead, frameRead, samplesRead, Alike, values, refusals, FactsAre, NumbersAre, ClockIs}
-use Rattle.questions.specs.Values.{descriptorOf, entryOf}
+use Rattle.questions.specs.Questions.{factsOf, channelOf, montageCountOf, montageOf, itemsOf, itemsAt, itemIn, itemOf, clockOf}
+use Rattle.questions.specs.Tied.{recordingRead, channelRead, montageRead, itemsRead, itemRead, frameRead, samplesRead, Alike, values, refusals, FactsAre, MontageCountIs, NumbersAre, ClockIs}
+use Rattle.questions.specs.Values.{descriptorOf, wiredOf, entryOf}
 use Rattle.questions.specs.declared.channels.Descriptor.{Descriptor}
+use Rattle.questions.specs.declared.channels.Wired.{Wired}
 use Rattle.questions.specs.declared.items.Entry.{Entry}
-use Rattle.questions.proofs.Described.{subAt}
+use Rattle.questions.proofs.Described.{subAt, wiredAt, recording-well}
 
 -- Answers that are alike
 
@@ -75,6 +74,11 @@ module _ {A B : Type 0} (f : A → B) where
   known : {a : Answer A} {b : Answer B} {x : A} → Alike (λ x y. y ≡ f x) a b → a ≡ value x → b ≡ value (f x)
   known h e = let g = alike-value h e in g .is ∙ ap value (g .like)
 
+-- the whole numbers of a channel
+pub numbers-are : (c : R.Channel) (p : ℕ) → NumbersAre (descriptorOf c p) (channelReading c)
+unfolding descriptorOf
+numbers-are c p = record { number = refl; flags = refl; kind = refl; format = refl; rate = refl; frequency = refl; lowCut = refl; highCut = refl; sensitivity = refl }
+
 -- An accepted file
 
 module _ (s : List ℕ) (b : Bytes s) {v : R.File} {t : List Event} (h : R.judge s ≡ passed v [] t) (i : ℕ) where
@@ -83,14 +87,27 @@ module _ (s : List ℕ) (b : Bytes s) {v : R.File} {t : List Event} (h : R.judge
       rw (h, map-map recordingReading (λ (p : R.Placed). p .recording) (v .recordings))
       (alike-then (λ x. record { all = v .recordings; index = i - 1; this = x }) (alike-numbered (λ (p : R.Placed). recordingReading (p .recording)) (v .recordings) i) (λ x y _ e. e))
 
-  -- a channel: what is asked of it and of its reading
+  -- a channel of one of its lists: what is asked of it and of its reading
+  sub-alike : {A : Type 0} {K : A → ChannelReading → Type 0} (list : Chosen → List R.Channel) (read : RecordingReading → List ChannelReading) → ((r : Chosen) → read (recordingReading (r .this .recording)) ≡ map channelReading (list r)) →
+      (told : Chosen → R.Channel → A) (j : ℕ) → ((r : Chosen) (c : R.Channel) → recordingOf s i ≡ value r → numbered (list r) j ≡ value c → K (told r c) (channelReading c)) →
+      Alike K (recordingOf s i >>= λ r. numbered (list r) j >>= λ c. value (told r c)) (recordingRead (reading v) i >>= λ r. numbered (read r) j)
+  sub-alike list read same told j f =
+      alike-bind _ _ recording-alike
+      (λ r x is e. rw (e, same r)
+      (alike-then (told r) (alike-numbered channelReading (list r) j)
+      (λ c y nth d. rw d (f r c is nth))))
+
   pub channel-alike : {K : Descriptor → ChannelReading → Type 0} (j : ℕ) →
       ((r : Chosen) (c : R.Channel) → recordingOf s i ≡ value r → numbered (r .this .recording .channels) j ≡ value c → K (descriptorOf c (subAt r j)) (channelReading c)) → Alike K (channelOf s i j) (channelRead (reading v) i j)
-  channel-alike j f =
-      alike-bind _ _ recording-alike
-      (λ r x is e. rw e
-      (alike-then (λ c. descriptorOf c (subAt r j)) (alike-numbered channelReading (r .this .recording .channels) j)
-      (λ c y nth d. rw d (f r c is nth))))
+  channel-alike j = sub-alike (λ r. r .this .recording .channels) (λ r. r .channels) (λ r. refl) (λ r c. descriptorOf c (subAt r j)) j
+
+  -- so of its own montage
+  pub montage-alike : {K : Wired → ChannelReading → Type 0} (j : ℕ) →
+      ((r : Chosen) (c : R.Channel) → recordingOf s i ≡ value r → numbered (r .this .recording .montage) j ≡ value c → K (wiredOf c (wiredAt r j)) (channelReading c)) → Alike K (montageOf s i j) (montageRead (reading v) i j)
+  montage-alike j = sub-alike (λ r. r .this .recording .montage) (λ r. r .montage) (λ r. refl) (λ r c. wiredOf c (wiredAt r j)) j
+
+  pub montage-count-read : Alike MontageCountIs (montageCountOf s i) (recordingRead (reading v) i)
+  montage-count-read = alike-then _ recording-alike (λ r x is e. rw e (sym (length-map (r .this .recording .montage) channelReading)))
 
   pub channel-known : (r : Chosen) (j : ℕ) {c : R.Channel} → recordingOf s i ≡ value r → numbered (r .this .recording .channels) j ≡ value c → channelRead (reading v) i j ≡ value (channelReading c)
   channel-known r j is nth = rw (known (λ r. recordingReading (r .this .recording)) recording-alike is) (known channelReading (alike-numbered channelReading (r .this .recording .channels) j) nth)
@@ -154,11 +171,7 @@ module _ (s : List ℕ) (b : Bytes s) {v : R.File} {t : List Event} (h : R.judge
 
   -- M, F and T
   seconds-small : (r : Chosen) → recordingOf s i ≡ value r → r .this .recording .seconds ≤ 3600
-  seconds-small r is =
-      let x = chosen-in s b i r is in
-      let a = recording-at s b (x .judged) (r .this) (r .index) (x .one .inside) in
-      let k = recording-ok (a .held) (a .room) (1 + r .index) (a .found .plays) .frames .seconds in
-      between-in 1 3600 _ (rw (this-one s b i r x) at k) .1
+  seconds-small r is = between-in 1 3600 _ (recording-well s b h i r is .1 .frames .seconds) .1
 
   pub facts-read : Alike FactsAre (factsOf s i) (recordingRead (reading v) i)
   facts-read =
@@ -172,8 +185,7 @@ module _ (s : List ℕ) (b : Bytes s) {v : R.File} {t : List Event} (h : R.judge
 
   -- the whole numbers of a channel
   pub numbers-read : (j : ℕ) → Alike NumbersAre (channelOf s i j) (channelRead (reading v) i j)
-  unfolding descriptorOf
-  numbers-read j = channel-alike j (λ r c _ _. record { number = refl; flags = refl; kind = refl; format = refl; rate = refl; frequency = refl; lowCut = refl; highCut = refl; sensitivity = refl })
+  numbers-read j = channel-alike j (λ r c _ _. numbers-are c (subAt r j))
 
   -- the clock of a frame
   pub clock-read : (j : ℕ) → Alike ClockIs (clockOf s i j) (frameRead (reading v) i j)

@@ -15,10 +15,14 @@ use Rattle.samples.specs.declared.SampleTold.{SampleTold}
 use Rattle.samples.specs.declared.SampleTold.the-variants as SampleTold
 use Rattle.samples.specs.declared.ClockTold.{ClockTold}
 use Rattle.samples.specs.declared.ClockTold.the-variants as ClockTold
-use Rattle.questions.specs.Contracts.{HeaderAnswer, FactsAnswer, ChannelAnswer, PatientItemAnswer, EventItemAnswer, ClockAnswer, CountAnswer, SampleAnswer, ViewAnswer}
-use Rattle.questions.specs.Meanings.{meaningH, meaningF, meaningD, meaningI, meaningT, meaningC, meaningS}
+use Rattle.questions.specs.Contracts.{HeaderAnswer, FactsAnswer, ChannelAnswer, MontageCountAnswer, MontageAnswer, PatientItemAnswer, EventItemAnswer, ClockAnswer, CountAnswer, SampleAnswer, ViewAnswer}
+use Rattle.questions.specs.Meanings.{meaningH, meaningF, meaningD, meaningN, meaningM, meaningI, meaningT, meaningC, meaningS}
 use Rattle.questions.specs.declared.channels.ChannelTold.{ChannelTold}
 use Rattle.questions.specs.declared.channels.ChannelTold.the-variants as ChannelTold
+use Rattle.questions.specs.declared.channels.MontageCountTold.{MontageCountTold}
+use Rattle.questions.specs.declared.channels.MontageCountTold.the-variants as MontageCountTold
+use Rattle.questions.specs.declared.channels.MontageTold.{MontageTold}
+use Rattle.questions.specs.declared.channels.MontageTold.the-variants as MontageTold
 use Rattle.questions.specs.declared.headers.HeaderTold.{HeaderTold}
 use Rattle.questions.specs.declared.headers.HeaderTold.the-variants as HeaderTold
 use Rattle.questions.specs.declared.items.ItemTold.{ItemTold}
@@ -40,6 +44,14 @@ facts-back (FactsTold.Refused r) = refl
 channel-back : (a : ChannelTold) → answer ChannelTold.Channel ChannelTold.Refused (meaningD a) ≡ a
 channel-back (ChannelTold.Channel x) = refl
 channel-back (ChannelTold.Refused r) = refl
+
+montage-count-back : (a : MontageCountTold) → answer MontageCountTold.Channels MontageCountTold.Refused (meaningN a) ≡ a
+montage-count-back (MontageCountTold.Channels n) = refl
+montage-count-back (MontageCountTold.Refused r) = refl
+
+montage-back : (a : MontageTold) → answer MontageTold.Channel MontageTold.Refused (meaningM a) ≡ a
+montage-back (MontageTold.Channel x) = refl
+montage-back (MontageTold.Refused r) = refl
 
 item-back : (a : ItemTold) → answer ItemTold.Item ItemTold.Refused (meaningI a) ≡ a
 item-back (ItemTold.Item x) = refl
@@ -68,6 +80,12 @@ module _ (s : List ℕ) (i : ℕ) where
 
   pub channel-unique : (j : ℕ) (a b : ChannelTold) → ChannelAnswer s i j a → ChannelAnswer s i j b → a ≡ b
   channel-unique j a b = one meaningD (answer ChannelTold.Channel ChannelTold.Refused) channel-back
+
+  pub montage-count-unique : (a b : MontageCountTold) → MontageCountAnswer s i a → MontageCountAnswer s i b → a ≡ b
+  montage-count-unique a b = one meaningN (answer MontageCountTold.Channels MontageCountTold.Refused) montage-count-back
+
+  pub montage-unique : (j : ℕ) (a b : MontageTold) → MontageAnswer s i j a → MontageAnswer s i j b → a ≡ b
+  montage-unique j a b = one meaningM (answer MontageTold.Channel MontageTold.Refused) montage-back
 
   pub patient-item-unique : (j : ℕ) (a b : ItemTold) → PatientItemAnswer s i j a → PatientItemAnswer s i j b → a ≡ b
   patient-item-unique j a b = one meaningI (answer ItemTold.Item ItemTold.Refused) item-back

@@ -74,8 +74,8 @@ module _ (s : List ℕ) (b : Bytes s) {v : R.File} {t : List Event} (h : R.judge
   view-is x a =
       let y = samples-from s b i j k a in
       let f = frame-of s b i j (y .framed) in
-      let c = channel-seen s b i (y .frame .of) (f .asked) k (y .described) in
-      let e : formatIn (channelReading (y .channel)) ≡ x .format = format-is c ∙ sym (y .format) in
+      let c = channel-seen s b h i (y .frame .of) (f .asked) k (y .described) in
+      let e : formatIn (channelReading (y .channel)) ≡ x .format = format-is (v .heading .label) _ c ∙ sym (y .format) in
       let p = part-shows s x (y .located) in
       record {
         count = refl;

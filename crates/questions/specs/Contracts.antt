@@ -8,9 +8,11 @@ use Rattle.recordings.specs.declared.FactsTold.{FactsTold}
 use Rattle.samples.specs.declared.ClockTold.{ClockTold}
 use Rattle.samples.specs.declared.CountTold.{CountTold}
 use Rattle.samples.specs.declared.SampleTold.{SampleTold}
-use Rattle.questions.specs.Meanings.{meaningH, meaningF, meaningD, meaningI, meaningT, meaningC, meaningS}
-use Rattle.questions.specs.Questions.{headerOf, factsOf, channelOf, patientItemOf, eventItemOf, clockOf, countOf, sampleOf, viewOf, Shows}
+use Rattle.questions.specs.Meanings.{meaningH, meaningF, meaningD, meaningN, meaningM, meaningI, meaningT, meaningC, meaningS}
+use Rattle.questions.specs.Questions.{headerOf, factsOf, channelOf, montageCountOf, montageOf, patientItemOf, eventItemOf, clockOf, countOf, sampleOf, viewOf, Shows}
 use Rattle.questions.specs.declared.channels.ChannelTold.{ChannelTold}
+use Rattle.questions.specs.declared.channels.MontageCountTold.{MontageCountTold}
+use Rattle.questions.specs.declared.channels.MontageTold.{MontageTold}
 use Rattle.questions.specs.declared.headers.HeaderTold.{HeaderTold}
 use Rattle.questions.specs.declared.items.ItemTold.{ItemTold}
 
@@ -25,6 +27,12 @@ module _ (s : List ℕ) (i : ℕ) where
 
   abbrev pub ChannelAnswer : ℕ → ChannelTold → Type 0
   ChannelAnswer j a = meaningD a ≡ channelOf s i j
+
+  abbrev pub MontageCountAnswer : MontageCountTold → Type 0
+  MontageCountAnswer a = meaningN a ≡ montageCountOf s i
+
+  abbrev pub MontageAnswer : ℕ → MontageTold → Type 0
+  MontageAnswer j a = meaningM a ≡ montageOf s i j
 
   abbrev pub PatientItemAnswer : ℕ → ItemTold → Type 0
   PatientItemAnswer j a = meaningI a ≡ patientItemOf s i j

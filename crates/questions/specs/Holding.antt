@@ -1,11 +1,13 @@
--- What the functions say that find an item: the record it is in, its place there, and the answer.
+-- What the functions say that find an item: the record it is in, its place there, and the answer. And what a montage counts.
 -- Assumes nothing.
 use mathlib.Core.Path.{_≡_}
 use mathlib.Core.Bool.{Bool, true, false}
 use mathlib.Core.List.{List}
 use Prim.Native.Nat.{ℕ, _+_, _≤_}
 use lib.ListN.{length, take}
+use Rattle.words.specs.Numbers.{numberAt}
 use Rattle.words.specs.declared.Order.{Order}
+use Rattle.walk.specs.Walk.{pick}
 use Rattle.walk.specs.See.{see, goes}
 use Rattle.rules.specs.Rules as R
 use Rattle.records.specs.declared.items.Holder.{Holder}
@@ -42,3 +44,10 @@ pub record PlaceOf (o : Order) (s : List ℕ) (first n r : ℕ) : Type 0 where
 abbrev pub TellsItem : Order → List ℕ → ℕ → ℕ → ItemTold → Type 0
 TellsItem o s at j a =
     (ok : ℕ → Bool) (room : ℕ) (h : R.Head) (is : List R.Item) (e : ℕ) → e ≤ length s → see o 0 s (at + 16) (R.items ok room h) ≡ goes is e → meaningI a ≡ itemIn is at j
+
+-- the 350 of the recording at q, where it has one, begins in a file of n bytes; and its count, 0 where it has none
+abbrev pub MontageInside : Places → ℕ → Type 0
+MontageInside q n = q .«has_montage» ≡ true → q .montage + 32 ≤ n
+
+unfoldable pub montageChannels : Order → List ℕ → Places → ℕ
+montageChannels o s q = pick (q .«has_montage») (numberAt o 4 s (q .montage + 16)) 0

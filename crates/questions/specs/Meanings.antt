@@ -16,6 +16,11 @@ use Rattle.samples.specs.declared.ClockTold.the-variants as ClockTold
 use Rattle.questions.specs.declared.channels.ChannelTold.{ChannelTold}
 use Rattle.questions.specs.declared.channels.ChannelTold.the-variants as ChannelTold
 use Rattle.questions.specs.declared.channels.Descriptor.{Descriptor}
+use Rattle.questions.specs.declared.channels.MontageCountTold.{MontageCountTold}
+use Rattle.questions.specs.declared.channels.MontageCountTold.the-variants as MontageCountTold
+use Rattle.questions.specs.declared.channels.MontageTold.{MontageTold}
+use Rattle.questions.specs.declared.channels.MontageTold.the-variants as MontageTold
+use Rattle.questions.specs.declared.channels.Wired.{Wired}
 use Rattle.questions.specs.declared.headers.Header.{Header}
 use Rattle.questions.specs.declared.headers.HeaderTold.{HeaderTold}
 use Rattle.questions.specs.declared.headers.HeaderTold.the-variants as HeaderTold
@@ -34,6 +39,14 @@ meaningF (FactsTold.Refused r) = refusal (r .0) (r .1)
 abbrev pub meaningD : ChannelTold → Answer Descriptor
 meaningD (ChannelTold.Channel x) = value x
 meaningD (ChannelTold.Refused r) = refusal (r .0) (r .1)
+
+abbrev pub meaningN : MontageCountTold → Answer ℕ
+meaningN (MontageCountTold.Channels n) = value n
+meaningN (MontageCountTold.Refused r) = refusal (r .0) (r .1)
+
+abbrev pub meaningM : MontageTold → Answer Wired
+meaningM (MontageTold.Channel x) = value x
+meaningM (MontageTold.Refused r) = refusal (r .0) (r .1)
 
 abbrev pub meaningI : ItemTold → Answer Entry
 meaningI (ItemTold.Item x) = value x

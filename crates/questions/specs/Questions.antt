@@ -11,6 +11,7 @@ use Rattle.words.specs.Numbers.{bytesAt}
 use Rattle.words.specs.declared.Order.{Order}
 use Rattle.walk.specs.Walk.{pick, Outcome, refused, passed}
 use Rattle.rules.specs.Rules as R
+use Rattle.rules.specs.declared.Label.{Label}
 use Rattle.records.specs.declared.items.Holder.{Holder}
 use Rattle.records.specs.declared.items.Holder.the-variants as Holder
 use Rattle.recordings.specs.Answers.{Answer, value, refusal, _>>=_, indexed, numbered}
@@ -19,19 +20,23 @@ use Rattle.recordings.specs.declared.Counts.{Counts}
 use Rattle.samples.specs.Frames.{frameOf, timeOf, Samples, samplesOf, numberIn}
 use Rattle.samples.specs.declared.Number.{Number}
 use Rattle.samples.specs.declared.Time.{Time}
-use Rattle.questions.specs.Values.{textAt, descriptorOf, entryOf}
+use Rattle.questions.specs.Values.{textAt, descriptorOf, wiredOf, entryOf}
 use Rattle.questions.specs.declared.channels.Descriptor.{Descriptor}
 use Rattle.questions.specs.declared.channels.Text.{Text}
+use Rattle.questions.specs.declared.channels.Wired.{Wired}
 use Rattle.questions.specs.declared.headers.Header.{Header}
 use Rattle.questions.specs.declared.items.Entry.{Entry}
 
--- the header of a file in this order, with these values and K recordings; the version and the form are the numbers of their digits
+-- the number of a form's digits
+abbrev pub formNumber : Label → ℕ
+formNumber label = R.countIs (R.decimal 0 (R.formed (label .form)))
 
+-- the header of a file in this order, with these values and K recordings; the version is the number of its digits
 abbrev pub headerIn : Order → R.Heading → ℕ → Header
 headerIn o g k = record {
   spelling = g .spelling;
   version = R.countIs (R.decimal 0 R.version);
-  form = R.countIs (R.decimal 0 R.form);
+  form = formNumber (g .label);
   order = o;
   script = g .script;
   recordings = k;
@@ -59,6 +64,17 @@ channelOf s i j = do
   r ← recordingOf s i
   c ← numbered (r .this .recording .channels) j
   value (descriptorOf c (at120 r + (32 + 256 * (j - 1))))
+
+-- the channels of a recording's own montage: 0 where it has none; and one of them
+
+abbrev pub montageCountOf : List ℕ → ℕ → Answer ℕ
+montageCountOf s i = recordingOf s i >>= λ r. value (length (r .this .recording .montage))
+
+abbrev pub montageOf : List ℕ → ℕ → ℕ → Answer Wired
+montageOf s i j = do
+  r ← recordingOf s i
+  c ← numbered (r .this .recording .montage) j
+  value (wiredOf c (startOf r + r .this .layout .at350 + (32 + 256 * (j - 1))))
 
 -- the items of a 130 or a 200, and where it stands
 

@@ -19,6 +19,7 @@ use Rattle.samples.specs.declared.Time.{Time}
 use Rattle.questions.specs.Questions.{viewOf}
 use Rattle.questions.specs.declared.channels.Descriptor.{Descriptor}
 use Rattle.questions.specs.declared.channels.Text.{Text}
+use Rattle.questions.specs.declared.channels.Wired.{Wired}
 use Rattle.questions.specs.declared.items.Entry.{Entry}
 
 -- In a reading: recordings, channels, items and frames from 1, samples from 0
@@ -28,6 +29,10 @@ recordingRead v i = numbered (v .recordings) i
 
 abbrev pub channelRead : Reading → ℕ → ℕ → Answer ChannelReading
 channelRead v i j = recordingRead v i >>= λ r. numbered (r .channels) j
+
+-- of its own montage
+abbrev pub montageRead : Reading → ℕ → ℕ → Answer ChannelReading
+montageRead v i j = recordingRead v i >>= λ r. numbered (r .montage) j
 
 -- the patient items that hold; the event items of its own 200
 abbrev pub itemsRead : Holder → RecordingReading → List ItemReading
@@ -58,6 +63,10 @@ pub record FactsAre (x : Counts) (r : RecordingReading) : Type 0 where
   pub frames : x .frames ≡ length (r .frames)
   pub seconds : pos (x .seconds) ≡ r .seconds
 
+-- the channels of its own montage: none where it has none
+abbrev pub MontageCountIs : ℕ → RecordingReading → Type 0
+MontageCountIs n r = n ≡ length (r .montage)
+
 -- the whole numbers of a channel
 pub record NumbersAre (d : Descriptor) (c : ChannelReading) : Type 0 where
   pub number : d .number ≡ c .channel
@@ -82,6 +91,13 @@ pub record TextsAre (s : List ℕ) (d : Descriptor) (c : ChannelReading) : Type 
   pub label : TextIs s (d .label) (c .label)
   pub unit : TextIs s (d .unit) (c .unit)
   pub comment : TextIs s (d .comment) (c .comment)
+
+-- a montage's channel: its descriptor, as that of a channel, and its inputs
+pub record WiredIs (s : List ℕ) (w : Wired) (c : ChannelReading) : Type 0 where
+  pub numbers : NumbersAre (w .channel) c
+  pub texts : TextsAre s (w .channel) c
+  pub g1 : w .g1 ≡ c .g1
+  pub g2 : w .g2 ≡ c .g2
 
 -- an item
 pub record ItemIs (s : List ℕ) (e : Entry) (x : ItemReading) : Type 0 where

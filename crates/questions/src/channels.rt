@@ -1,9 +1,14 @@
-// The descriptor of a channel: record 125.
+// The descriptor of a channel: record 125, 325 or 355.
 ghost use mathlib.Core.Path.{_≡_};
 ghost use Prim.Native.Nat.{_+_, _≤_};
 ghost use lib.ListN.{length};
-ghost use Rattle.questions.specs.Values.{someNan, floatsOf, calibrationAt, DescriptorAt};
+ghost use Rattle.questions.specs.Values.{someNan, floatsOf, calibrationAt, FieldOf, fieldIn, DescriptorAt, WiredAt};
+ghost use Rattle.questions.specs.Holding.{MontageInside, montageChannels};
+use descriptions::Places;
 use rules::Channel;
+use rules::Channels;
+use rules::Electrode;
+use rules::Head;
 use rules::Refusal;
 use words::Order;
 use words::int4;
@@ -45,6 +50,23 @@ pub enum ChannelTold {
     Refused(Refusal),
 }
 
+// A montage's channel, with its inputs.
+pub struct Wired {
+    pub channel: Descriptor,
+    pub g1: i32,
+    pub g2: i32,
+}
+
+pub enum MontageTold {
+    Channel(Wired),
+    Refused(Refusal),
+}
+
+pub enum MontageCountTold {
+    Channels(u32),
+    Refused(Refusal),
+}
+
 // Whether one of the four is a NaN's pattern.
 fn some_nan(cal: u32, cal_ad: u32, offset_ad: u32, offset_cal: u32) -> bool
     ensures { λ r. ⌜ r ≡ someNan cal «cal_ad» «offset_ad» «offset_cal» ⌝ }
@@ -76,7 +98,7 @@ fn floats_of(cal: u32, cal_ad: u32, offset_ad: u32, offset_cal: u32) -> Calibrat
     )
 }
 
-// The calibration numbers of the record 125 at byte p of s, in a channel of this format.
+// The calibration numbers of the sub at byte p of s, in a channel of this format.
 fn calibration_at(o: Order, s: &[u8], p: usize, format: u32) -> Calibration
     requires { ⌜ p + 256 ≤ length (now s) ⌝ }
     ensures { λ r. ⌜ r ≡ calibrationAt o (now (s .entry)) p format ⌝ }
@@ -97,7 +119,18 @@ fn calibration_at(o: Order, s: &[u8], p: usize, format: u32) -> Calibration
     )
 }
 
-// What the record 125 at byte p of s says.
+// A field of the sub at byte p of s that an electrode does not have: 0 for an electrode.
+fn field_if(o: Order, s: &[u8], p: usize, offset: usize) -> i32
+    requires { ⌜ FieldOf p offset (length (now s)) ⌝ }
+    ensures { λ r. ⌜ r ≡ fieldIn o (now (s .entry)) p offset ⌝ }
+{
+    if number4(o, s, p + Head::CODE) == Electrode::CODE {
+        return 0;
+    }
+    int4(o, s, p + offset)
+}
+
+// What the sub at byte p of s says.
 pub fn descriptor_at(o: Order, s: &[u8], p: usize) -> Descriptor
     requires { ⌜ p + 256 ≤ length (now s) ⌝ }
     ensures { λ r. ⌜ DescriptorAt o (now (s .entry)) p r ⌝ }
@@ -110,10 +143,10 @@ pub fn descriptor_at(o: Order, s: &[u8], p: usize) -> Descriptor
         format: int4(o, s, p + Channel::FORMAT),
         rate: int4(o, s, p + Channel::RATE),
         calibration,
-        frequency: int4(o, s, p + Channel::CAL_FREQUENCY),
+        frequency: field_if(o, s, p, Channel::CAL_FREQUENCY),
         low_cut: int4(o, s, p + Channel::LOW_CUT),
         high_cut: int4(o, s, p + Channel::HIGH_CUT),
-        sensitivity: int4(o, s, p + Channel::SENSITIVITY),
+        sensitivity: field_if(o, s, p, Channel::SENSITIVITY),
         label: Text {
             at: p + Channel::LABEL,
             length: Channel::LABEL_LENGTH,
@@ -127,4 +160,28 @@ pub fn descriptor_at(o: Order, s: &[u8], p: usize) -> Descriptor
             length: Channel::COMMENT_LENGTH,
         },
     }
+}
+
+// What the record 355 at byte p of s says.
+pub fn wired_at(o: Order, s: &[u8], p: usize) -> Wired
+    requires { ⌜ p + 256 ≤ length (now s) ⌝ }
+    ensures { λ r. ⌜ WiredAt o (now (s .entry)) p r ⌝ }
+{
+    let channel = descriptor_at(o, s, p);
+    Wired {
+        channel,
+        g1: int4(o, s, p + Channel::G1),
+        g2: int4(o, s, p + Channel::G2),
+    }
+}
+
+// How many channels the montage of the recording at q has: 0 where it has none.
+pub fn montage_channels(o: Order, s: &[u8], q: Places) -> u32
+    requires { ⌜ MontageInside q (length (now s)) ⌝ }
+    ensures { λ r. ⌜ r ≡ montageChannels o (now (s .entry)) q ⌝ }
+{
+    if q.has_montage {
+        return number4(o, s, q.montage + Channels::COUNT);
+    }
+    0
 }

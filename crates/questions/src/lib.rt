@@ -4,10 +4,14 @@ pub mod channels;
 pub mod headers;
 pub mod items;
 
-ghost use Rattle.questions.specs.Contracts.{HeaderAnswer, FactsAnswer, ChannelAnswer, PatientItemAnswer, EventItemAnswer};
+ghost use mathlib.Core.Path.{_≡_};
+ghost use Rattle.questions.specs.Contracts.{HeaderAnswer, FactsAnswer, ChannelAnswer, MontageCountAnswer, MontageAnswer};
+ghost use Rattle.questions.specs.Contracts.{PatientItemAnswer, EventItemAnswer};
 ghost use Rattle.questions.specs.Contracts.{ClockAnswer, CountAnswer, SampleAnswer, ViewAnswer};
-ghost use Rattle.questions.specs.Questions.{viewOf, PartIs};
+ghost use Rattle.questions.specs.Questions.{formNumber, viewOf, PartIs};
 use crate::channels::ChannelTold;
+use crate::channels::MontageCountTold;
+use crate::channels::MontageTold;
 use crate::channels::Text;
 use crate::headers::Header;
 use crate::headers::HeaderTold;
@@ -19,12 +23,25 @@ use records::items::Holder;
 use rules::Channel;
 use rules::Channels;
 use rules::FileHeader;
+use rules::Form;
+use rules::Label;
 use rules::Refusal;
 use samples::ClockTold;
 use samples::CountTold;
 use samples::FrameFound;
 use samples::SampleTold;
 use samples::SamplesFound;
+
+// The number of the form's digits.
+fn form_number(label: Label) -> u32
+    ensures { λ r. ⌜ r ≡ formNumber label ⌝ }
+{
+    let form = label.form;
+    match form {
+        Form::Channels => FileHeader::CHANNELS_NUMBER,
+        Form::Electrodes => FileHeader::ELECTRODES_NUMBER,
+    }
+}
 
 // What the file header says.
 pub fn header(file: &[u8]) -> HeaderTold
@@ -36,11 +53,12 @@ pub fn header(file: &[u8]) -> HeaderTold
     };
     let heading = h.heading;
     let spelling = heading.spelling;
+    let label = heading.label;
     let order = h.order;
     HeaderTold::Header(Header {
         spelling,
         version: FileHeader::VERSION_NUMBER,
-        form: FileHeader::FORM_NUMBER,
+        form: form_number(label),
         order,
         script: heading.script,
         recordings: h.count,
@@ -71,6 +89,33 @@ pub fn channel(file: &[u8], recording: usize, channel: usize) -> ChannelTold
     }
     let at = q.channels + Channels::SUBS + Channel::LENGTH * (channel - 1);
     ChannelTold::Channel(channels::descriptor_at(order, file, at))
+}
+
+// How many channels the montage of a recording has: 0 where it has none.
+pub fn montage_count(file: &[u8], recording: usize) -> MontageCountTold
+    ensures { λ a. ⌜ MontageCountAnswer (now (file .entry)) recording a ⌝ }
+{
+    let found = recordings::recording_asked(file, recording);
+    let RecordingFound::At(order, q) = found else {
+        return MontageCountTold::Refused(recordings::of_recording_found(found));
+    };
+    MontageCountTold::Channels(channels::montage_channels(order, file, q))
+}
+
+// A channel of a recording's own montage.
+pub fn montage(file: &[u8], recording: usize, channel: usize) -> MontageTold
+    ensures { λ a. ⌜ MontageAnswer (now (file .entry)) recording channel a ⌝ }
+{
+    let found = recordings::recording_asked(file, recording);
+    let RecordingFound::At(order, q) = found else {
+        return MontageTold::Refused(recordings::of_recording_found(found));
+    };
+    let count = channels::montage_channels(order, file, q);
+    if !recordings::within(channel, count) {
+        return MontageTold::Refused(Refusal(19, 0));
+    }
+    let at = q.montage + Channels::SUBS + Channel::LENGTH * (channel - 1);
+    MontageTold::Channel(channels::wired_at(order, file, at))
 }
 
 // An item of the record 130 that holds for a recording.

@@ -17,6 +17,7 @@ use Rattle.walk.proofs.Apart.{false-true}
 use Rattle.rules.specs.Rules as R
 use Rattle.rules.specs.Places.{bytesBefore, holder}
 use Rattle.rules.specs.declared.FileHeader.{FileHeader}
+use Rattle.rules.specs.declared.Label.{Label}
 use Rattle.rules.proofs.Canon.{RecordingsOk, readings, file-ok}
 use Rattle.rules.proofs.Holders.{channels-hold, patient-holds}
 use Rattle.rules.proofs.Renewed.{RecordingOk}
@@ -120,8 +121,8 @@ pub record Came (o : Order) (s : List ℕ) (ps : List R.Placed) (p i : ℕ) (bef
   pub place : p ≡ 32 + bytesBefore i ps
   pub reached : Behind o s ps i before
 
-abbrev pub Going : Order → List ℕ → ℕ → List R.Placed → ℕ → ℕ → Before → Type 0
-Going o s count ps p i before = Sofar o s count ps p i (Knowing o s before (λ _ _. Came o s ps p i before))
+abbrev pub Going : Order → Label → List ℕ → ℕ → List R.Placed → ℕ → ℕ → Before → Type 0
+Going o label s count ps p i before = Sofar o label s count ps p i (Knowing o s before (λ _ _. Came o s ps p i before))
 
 tail-one : {A : Type 0} {a x : A} {l : List A} {i : ℕ} → One (a ∷ l) (suc i) x → One l i x
 tail-one o = record { inside = omega (arith, o .inside); is = o .is }
@@ -133,12 +134,12 @@ bytes-more (p ∷ ps) zero x o = let e : p ≡ x = o .is p in rw e (omega arith)
 bytes-more (p ∷ ps) (suc i) x o = rw (bytes-more ps i x (tail-one o)) (omega arith)
 
 -- the recordings of a file are as the rules ask
-pub ok-of : (s : List ℕ) → Bytes s → (h : FileHeader) (x : AcceptedAs s h) → RecordingsOk none (readings (x .file .recordings))
-ok-of s b h x = file-ok (length s) (accepted s b (x .judged) .plays) .recordings
+pub ok-of : (s : List ℕ) → Bytes s → (h : FileHeader) (x : AcceptedAs s h) {label : Label} → label ≡ h .heading .label → RecordingsOk label none (readings (x .file .recordings))
+ok-of s b h x e = rw (e, ap (λ (g : R.Heading). g .label) (x .heading)) (file-ok (length s) (accepted s b (x .judged) .plays) .recordings)
 
-pub going-start : (s : List ℕ) (h : FileHeader) (x : AcceptedAs s h) (o : Order) → o ≡ h .order → Going o s (h .count) (x .file .recordings) 32 0 Before.Nothing
+pub going-start : (s : List ℕ) (h : FileHeader) (x : AcceptedAs s h) (o : Order) (label : Label) → o ≡ h .order → label ≡ h .heading .label → Going o label s (h .count) (x .file .recordings) 32 0 Before.Nothing
 unfolding bytesBefore
-going-start s h x o e = sofar-start {e = length s} (rw e (went s h x)) (record { holds = tt; is = record { place = refl; reached = refl } })
+going-start s h x o label e d = sofar-start {e = length s} (rw (e, d) (went s h x)) (record { holds = tt; is = record { place = refl; reached = refl } })
 
 -- the first recording has its own 120 and 130
 first-own : (ps : List R.Placed) (own : R.Recording → Bool) → ((d : R.Recording) → 0 < length (readings ps) → own (getD (readings ps) (holder own d 0 (readings ps)) d) ≡ true) → (k : ℕ) (x : R.Placed) → One ps k x → k ≡ 0 → own (x .recording) ≡ true
@@ -156,7 +157,7 @@ reached-before o s ps i (Before.These b) r j y e q =
     (b, refl, r .same ∙ rw (d, t))
 
 -- where the next one stands
-module _ (o : Order) (s : List ℕ) (ps : List R.Placed) (ok : RecordingsOk none (readings ps)) (i : ℕ) (before : Before) (r : Behind o s ps i before) (x : R.Placed) (one : One ps i x) where
+module _ (o : Order) (label : Label) (s : List ℕ) (ps : List R.Placed) (ok : RecordingsOk label none (readings ps)) (i : ℕ) (before : Before) (r : Behind o s ps i before) (x : R.Placed) (one : One ps i x) where
   -- the record that holds: its own, or what `held` has of the recording before, whose places have it at `at`
   next-held : (own : R.Recording → Bool) (place : R.Layout → ℕ) (held : Before → Held) (at : Places → ℕ) → ((b : Places) → DescriptionsJudged.heldAt (held (Before.These b)) ≡ at b) → ((y : Chosen) → at (placesAt y) ≡ heldAt own place y) →
       ((d : R.Recording) → 0 < length (readings ps) → own (getD (readings ps) (holder own d 0 (readings ps)) d) ≡ true) → pick (own (x .recording)) (32 + bytesBefore i ps + place (x .layout)) (DescriptionsJudged.heldAt (held before)) ≡ heldAt own place (chosen ps i x)
@@ -165,10 +166,10 @@ module _ (o : Order) (s : List ℕ) (ps : List R.Placed) (ok : RecordingsOk none
       (λ j y e q. let t = reached-before o s ps i before r j y e q in ap (λ (b : Before). DescriptionsJudged.heldAt (held b)) (t .1) ∙ takes (t .0) ∙ ap at (t .2) ∙ stands (chosen ps j y))
 
   next-120 : pick (x .recording .ownChannels) (32 + bytesBefore i ps + x .layout .at120) (DescriptionsJudged.heldAt (channelsIn before)) ≡ at120 (chosen ps i x)
-  next-120 = next-held (λ r. r .ownChannels) (λ y. y .at120) channelsIn (λ b. b .channels) (λ b. refl) (λ y. refl) (λ d m. channels-hold d 0 (readings ps) ok m .owned)
+  next-120 = next-held (λ r. r .ownChannels) (λ y. y .at120) channelsIn (λ b. b .channels) (λ b. refl) (λ y. refl) (λ d m. channels-hold label d 0 (readings ps) ok m .owned)
 
   next-130 : pick (x .recording .ownPatient) (32 + bytesBefore i ps + x .layout .at130) (DescriptionsJudged.heldAt (patientIn before)) ≡ at130 (chosen ps i x)
-  next-130 = next-held (λ r. r .ownPatient) (λ y. y .at130) patientIn (λ b. b .patient) (λ b. refl) (λ y. refl) (λ d m. patient-holds d 0 (readings ps) ok m .owned)
+  next-130 = next-held (λ r. r .ownPatient) (λ y. y .at130) patientIn (λ b. b .patient) (λ b. refl) (λ y. refl) (λ d m. patient-holds label d 0 (readings ps) ok m .owned)
 
   next-places : (p : ℕ) → p ≡ 32 + bytesBefore i ps → placesOf p before x ≡ placesAt (chosen ps i x)
   next-places p e = rw (e, next-120, next-130)
@@ -185,48 +186,48 @@ module _ (o : Order) (s : List ℕ) (ps : List R.Placed) (ok : RecordingsOk none
 
 -- The answer of the code for recording i
 
-abbrev pub Met : Order → List ℕ → ℕ → List R.Placed → ℕ → Recorded → Type 0
-Met o s count ps i (Recorded.On q) = Going o s count ps (q .end) i (Before.These q)
-Met o s count ps i (Recorded.Stop r) = ⊥
+abbrev pub Met : Order → Label → List ℕ → ℕ → List R.Placed → ℕ → Recorded → Type 0
+Met o label s count ps i (Recorded.On q) = Going o label s count ps (q .end) i (Before.These q)
+Met o label s count ps i (Recorded.Stop r) = ⊥
 
-module _ {o : Order} {s : List ℕ} {count : ℕ} {ps : List R.Placed} {p i : ℕ} (before : Before) (g : Going o s count ps p i before) (l : i < count) (f : p ≤ length s) where
+module _ {o : Order} {label : Label} {s : List ℕ} {count : ℕ} {ps : List R.Placed} {p i : ℕ} (before : Before) (g : Going o label s count ps p i before) (l : i < count) (f : p ≤ length s) where
   -- the next of the recordings
-  next-one : {x : R.Placed} {q : ℕ} → see o 0 s p (R.recording (g .at .held) (length s - p) (i + 1)) ≡ goes x q → One ps i x
+  next-one : {x : R.Placed} {q : ℕ} → see o 0 s p (R.recording label (g .at .held) (length s - p) (i + 1)) ≡ goes x q → One ps i x
   next-one {x} h =
       let n = passed-next (g .at) l f h in
       let e : ps ≡ g .at .done ++ (x ∷ n .to .left) = n .to .all ∙ rw (n .more, append-assoc) in
       record { inside = omega (arith, ap length e, length-append (g .at .done) (x ∷ n .to .left), g .at .many); is = λ d. rw e (getD-at (g .at .done) x (n .to .left) d i (g .at .many)) }
 
-  came : RecordingsOk none (readings ps) → {q : Places} {x : R.Placed} → ChannelsIn (length s) (subsAt (q .channels) (q .count)) → Next o s p i before (g .at .held) q x → Came o s ps (q .end) (i + 1) (Before.These q)
+  came : RecordingsOk label none (readings ps) → {q : Places} {x : R.Placed} → ChannelsIn (length s) (subsAt (q .channels) (q .count)) → Next o label s p i before (g .at .held) q x → Came o s ps (q .end) (i + 1) (Before.These q)
   came ok {q} {x} room n =
       let one = next-one (n .is) in
       record {
         place = ap (λ (y : Places). y .end) (n .same) ∙ rw (add-one i, bytes-more ps i x one) (omega (arith, g .is .is .place));
-        reached = next-standing o s ps ok i before (g .is .is .reached) x one p (g .is .is .place) q (n .same) (n .stands) room;
+        reached = next-standing o label s ps ok i before (g .is .is .reached) x one p (g .is .is .place) q (n .same) (n .stands) room;
       }
 
   -- by what `recording_again` says of it
-  pub met : RecordingsOk none (readings ps) → (a : Recorded) → RecordingAgain o s p before a → Met o s count ps (i + 1) a
+  pub met : RecordingsOk label none (readings ps) → (a : Recorded) → RecordingAgain o label s p before a → Met o label s count ps (i + 1) a
   met ok (Recorded.On q) k = again-next g l f (Recorded.On q) k refl (λ x n. came ok (k .continues .channels) n)
   met ok (Recorded.Stop r) k = again-stop g l f (Recorded.Stop r) k refl
 
-pub met-reached : (o : Order) (s : List ℕ) (count : ℕ) (ps : List R.Placed) (n : ℕ) (a : Recorded) → Met o s count ps n a → Reached o s ps n a
-met-reached o s count ps n (Recorded.On q) g = g .is .is .reached
-met-reached o s count ps n (Recorded.Stop r) g = g
+pub met-reached : (o : Order) (label : Label) (s : List ℕ) (count : ℕ) (ps : List R.Placed) (n : ℕ) (a : Recorded) → Met o label s count ps n a → Reached o s ps n a
+met-reached o label s count ps n (Recorded.On q) g = g .is .is .reached
+met-reached o label s count ps n (Recorded.Stop r) g = g
 
 -- the code has the answer for recording i, on the way to recording n
-pub record Walked (o : Order) (s : List ℕ) (n i : ℕ) (a : Recorded) : Type 0 where
+pub record Walked (o : Order) (label : Label) (s : List ℕ) (n i : ℕ) (a : Recorded) : Type 0 where
   pub within : i ≤ n
   pub start : ℕ
   pub bounds : Continues start (length s) a
-  pub meets : (h : FileHeader) (x : AcceptedAs s h) → o ≡ h .order → n ≤ h .count → Met o s (h .count) (x .file .recordings) i a
+  pub meets : (h : FileHeader) (x : AcceptedAs s h) → o ≡ h .order → label ≡ h .heading .label → n ≤ h .count → Met o label s (h .count) (x .file .recordings) i a
 
 -- The recording asked for
 
-one-ok : (held : Option R.Held) (ps : List R.Placed) → RecordingsOk held (readings ps) → (k : ℕ) (x : R.Placed) → One ps k x → (before : Option R.Held) × RecordingOk before (x .recording)
-one-ok held [] ok k x o = absurd (omega (arith, o .inside))
-one-ok held (p ∷ ps) ok zero x o = let e : p ≡ x = o .is p in (held, rw e at (ok .0))
-one-ok held (p ∷ ps) ok (suc k) x o = one-ok _ ps (ok .1) k x (tail-one o)
+one-ok : (label : Label) (held : Option R.Held) (ps : List R.Placed) → RecordingsOk label held (readings ps) → (k : ℕ) (x : R.Placed) → One ps k x → (before : Option R.Held) × RecordingOk label before (x .recording)
+one-ok label held [] ok k x o = absurd (omega (arith, o .inside))
+one-ok label held (p ∷ ps) ok zero x o = let e : p ≡ x = o .is p in (held, rw e at (ok .0))
+one-ok label held (p ∷ ps) ok (suc k) x o = one-ok label _ ps (ok .1) k x (tail-one o)
 
 pub asked-refused : (s : List ℕ) (i : ℕ) {n p : ℕ} → R.judge s ≡ refused n p → recordingOf s i ≡ refusal n p
 asked-refused s i h = rw h
@@ -237,7 +238,7 @@ module _ (s : List ℕ) (h : FileHeader) (x : AcceptedAs s h) where
 
   pub asked-found : Bytes s → (o : Order) → o ≡ h .order → (i : ℕ) (q : Places) → Standing o s (x .file .recordings) i q → (r : Chosen) × FoundIn s i o q r
   asked-found b o e i q t =
-      let k = one-ok none (x .file .recordings) (ok-of s b h x) (i - 1) (t .this) (numbered-one (x .file .recordings) i (t .is) .1) in (
+      let k = one-ok (h .heading .label) none (x .file .recordings) (ok-of s b h x refl) (i - 1) (t .this) (numbered-one (x .file .recordings) i (t .is) .1) in (
         chosen (x .file .recordings) (i - 1) (t .this),
         record {
           bytes = b;

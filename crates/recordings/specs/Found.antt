@@ -9,6 +9,7 @@ use Rattle.words.specs.declared.Order.{Order}
 use Rattle.walk.specs.Walk.{pick}
 use Rattle.rules.specs.Rules as R
 use Rattle.rules.specs.declared.FileHeader.{FileHeader}
+use Rattle.rules.specs.declared.Label.{Label}
 use Rattle.rules.specs.declared.Refusal.{Refusal}
 use Rattle.descriptions.specs.DescriptionsJudged.{Owned}
 use Rattle.descriptions.specs.declared.Places.{Places}
@@ -39,6 +40,8 @@ placesAt r = record {
   patient = at130 r;
   «has_events» = r .this .recording .ownEvents;
   events = pick (r .this .recording .ownEvents) (startOf r + r .this .layout .at200) 0;
+  «has_montage» = r .this .recording .ownMontage;
+  montage = pick (r .this .recording .ownMontage) (startOf r + r .this .layout .at350) 0;
   frames = startOf r + r .this .layout .at140;
   frame = r .this .layout .frame;
   total = r .this .recording .basic .frames;
@@ -67,8 +70,9 @@ abbrev pub Reached : Order → List ℕ → List R.Placed → ℕ → Recorded �
 Reached o s ps n (Recorded.On q) = Standing o s ps n q
 Reached o s ps n (Recorded.Stop r) = ⊥
 
-abbrev pub ReachedAs : Order → List ℕ → ℕ → Recorded → Type 0
-ReachedAs o s n a = (h : FileHeader) (x : AcceptedAs s h) → o ≡ h .order → n ≤ h .count → Reached o s (x .file .recordings) n a
+abbrev pub ReachedAs : Order → Label → List ℕ → ℕ → Recorded → Type 0
+ReachedAs o label s n a =
+    (h : FileHeader) (x : AcceptedAs s h) → o ≡ h .order → label ≡ h .heading .label → n ≤ h .count → Reached o s (x .file .recordings) n a
 
 -- the recording r is the one asked for, q are its places, and what is known of it
 pub record FoundIn (s : List ℕ) (i : ℕ) (o : Order) (q : Places) (r : Chosen) : Type 0 where

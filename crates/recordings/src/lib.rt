@@ -8,6 +8,7 @@ use judge::Judged;
 use judge::recording::Recorded;
 use judge::recording::recording_again;
 use rules::FileHeader;
+use rules::Label;
 use rules::Refusal;
 use words::Order;
 
@@ -59,17 +60,17 @@ pub fn within(n: usize, count: u32) -> bool
 }
 
 // The recordings of an accepted file, one after the other: where recording n stands, or the refusal that was met on the way.
-fn recordings_to(o: Order, file: &[u8], n: u32) -> Recorded
+fn recordings_to(o: Order, label: Label, file: &[u8], n: u32) -> Recorded
     requires { ⌜ Walkable (now file) n ⌝ }
-    ensures { λ a. ⌜ ReachedAs o (now (file .entry)) n a ⌝ }
+    ensures { λ a. ⌜ ReachedAs o label (now (file .entry)) n a ⌝ }
 {
-    let mut step = recording_again(o, file, FileHeader::LENGTH, Before::Nothing);
+    let mut step = recording_again(o, label, file, FileHeader::LENGTH, Before::Nothing);
     let mut i: u32 = 1;
     while i < n {
         let Recorded::On(places) = step else {
             return step;
         };
-        step = recording_again(o, file, places.end, Before::These(places));
+        step = recording_again(o, label, file, places.end, Before::These(places));
         i += 1;
     }
     step
@@ -87,7 +88,9 @@ pub fn recording_asked(file: &[u8], recording: usize) -> RecordingFound
         return RecordingFound::Refused(Refusal(19, 0));
     }
     let order = h.order;
-    let last = recordings_to(order, file, recording as u32);
+    let heading = h.heading;
+    let label = heading.label;
+    let last = recordings_to(order, label, file, recording as u32);
     let Recorded::On(q) = last else {
         return RecordingFound::Refused(judge::of_recording(last));
     };

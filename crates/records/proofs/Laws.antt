@@ -31,8 +31,8 @@ admitted-at e x o b s = rw e at (x .seen o b s)
 most-small : (k : Kind) → ruleOf k .most ≤ 128
 most-small (Kind.Recording i) = omega arith
 most-small Kind.Basic = omega arith
-most-small Kind.Channels = omega arith
-most-small (Kind.Channel i) = omega arith
+most-small (Kind.Channels code) = omega arith
+most-small (Kind.Channel code i) = omega arith
 most-small (Kind.Items code) = omega arith
 most-small Kind.Frames = omega arith
 most-small (Kind.Frame size filled i) = omega arith
@@ -42,8 +42,8 @@ most-small Kind.Any = omega arith
 spans : (k : Kind) (multiplier n : ℕ) → ruleOf k .fits multiplier n ≡ true → Spans k n
 spans (Kind.Recording i) m n e = leb-true 16 n e
 spans Kind.Basic m n e = sym (eqb-true 128 n e)
-spans Kind.Channels m n e = leb-true 32 n e
-spans (Kind.Channel i) m n e = sym (eqb-true 256 n e)
+spans (Kind.Channels code) m n e = leb-true 32 n e
+spans (Kind.Channel code i) m n e = sym (eqb-true 256 n e)
 spans (Kind.Items code) m n e = leb-true 24 n e
 spans Kind.Frames m n e = leb-true 32 n e
 spans (Kind.Frame size filled i) m n e = eqb-true n size (and-left (eqb n size) (R.padded m (n - filled)) e)

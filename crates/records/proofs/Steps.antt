@@ -17,7 +17,7 @@ use Rattle.walk.specs.See.{Yields, gate, ends, Verdict, stops, goes, Goes, see,
 use Rattle.walk.specs.Walk.{laid, Text, Walk, give, number, _>>=_, _>>_}
 use Rattle.walk.proofs.Laid.{laid-padding}
 use Rattle.walk.proofs.Seen.{yields-bind, yields-then, places, back, add-sub-add, eqb-add, then-gate, over-gate, over-goes, see-bind, then-skip, over-then, went, stopped, stays-goes, walks, see-read, over-give}
-use Rattle.rules.specs.Rules.{itemsBody, Head, head, admit, span, makerCode, next, zeros, padding, more, series, Item, item, itemSize, itemBytes, itemList, between, dated, daysIn, isMains, basicBody, Channel, width, samplesIn, samplesOf, sampleBytes, numberList, samples, coded, fixed, channelBody, channel, channels, frames, channelsBody, items, Basic}
+use Rattle.rules.specs.Rules.{itemsBody, Head, head, admit, span, makerCode, next, zeros, padding, more, series, Item, item, itemSize, itemBytes, itemList, between, dated, daysIn, isMains, basicBody, Channel, width, samplesIn, samplesOf, sampleBytes, numberList, samples, coded, fixed, Sub, Group, anything, fieldIf, channelBody, channel, channels, frames, channelsBody, items}
 use Rattle.rules.proofs.Room.{stays-item, stays-itemList}
 use Rattle.records.specs.Says.{Kept, headroom}
 
@@ -197,16 +197,24 @@ module _ {o : Order} {s : List ℕ} {p t sum : ℕ} {cs : List Channel} where
       go [] e k q = absurd (omega (arith, e))
       go (c ∷ r) e k q = record { rest = r; count = omega (arith, e); kept = k .3; total = rw (e₁, e₂, e₃, ← k .0, ← k .1, ← k .2, mul-comm (width (c .format)) (samplesIn t c), add-assoc) q }
 
--- what a record 125 that passed holds is what stands in its bytes
+-- what a sub that passed holds is what stands in its bytes
 pub record KeptOne (o : Order) (s : List ℕ) (p : ℕ) (c : Channel) : Type 0 where
   pub flags : c .flags ≡ numberAt o 4 s (p + 20)
   pub format : c .format ≡ numberAt o 4 s (p + 28)
   pub rate : c .rate ≡ numberAt o 4 s (p + 32)
 
 module _ (o : Order) (b : ℕ) (s : List ℕ) where
-  yields-channelBody : (p : ℕ) → Yields o b s (b + (p + 16)) channelBody (λ c e. KeptOne o s p c × (e ≡ b + (p + 256)))
+  -- a field that only some subs have takes its 4 bytes either way
+  pub yields-fieldIf : {A : Type 0} (c : Bool) (ok : ℕ → Bool) (f : ℕ → Walk A) (at : ℕ) (Q : A → ℕ → Type 0) → ((n : ℕ) → Yields o b s (at + 4) (f n) Q) → Yields o b s at (fieldIf c ok >>= f) Q
+  unfolding fieldIf _>>=_
+  yields-fieldIf true ok f at Q k = λ _. k _
+  yields-fieldIf false ok f at Q k = k 0
+
+  yields-channelBody : (k : Sub) (p : ℕ) → Yields o b s (b + (p + 16)) (channelBody k) (λ c e. KeptOne o s p c × (e ≡ b + (p + 256)))
   unfolding channelBody _>>=_ _>>_
-  yields-channelBody p _ _ _ = (record { flags = simp places; format = simp places; rate = simp places }, simp places)
+  yields-channelBody k p _ _ _ _ =
+      yields-fieldIf (k .calibrated) anything _ _ _ λ _. yields-fieldIf (k .calibrated) anything _ _ _ λ _. yields-fieldIf (k .wired) (k .input) _ _ _ λ _. yields-fieldIf (k .wired) (k .input) _ _ _ λ _.
+      (record { flags = simp places; format = simp places; rate = simp places }, simp places)
 
   yields-head : (room p : ℕ) → Yields o b s (b + p) (head room) (λ h e. e ≡ b + (p + 16))
   unfolding head _>>=_ _>>_
@@ -216,20 +224,20 @@ module _ (o : Order) (b : ℕ) (s : List ℕ) where
   unfolding admit _>>=_ _>>_
   yields-admit h room f g x _ _ _ = refl
 
-  yields-channel : (room i p : ℕ) → Yields o b s (b + p) (channel room i) (λ c e. KeptOne o s p c × (e ≡ b + (p + 256)))
+  yields-channel : (k : Sub) (room i p : ℕ) → Yields o b s (b + p) (channel k room i) (λ c e. KeptOne o s p c × (e ≡ b + (p + 256)))
   unfolding fixed
-  yields-channel room i p =
+  yields-channel k room i p =
       yields-bind o b s (head room) _ (b + p) (λ h e. e ≡ b + (p + 16)) _ (yields-head room p)
-      (λ h e q. yields-then o b s (coded h 125) _ e (λ _ x. x ≡ e) _ (λ _. refl)
+      (λ h e q. yields-then o b s (coded h (k .code)) _ e (λ _ x. x ≡ e) _ (λ _. refl)
       (λ _ x u. yields-then o b s (admit room 0 (eqb 256) (eqb i) h) _ x (λ _ y. y ≡ x) _ (yields-admit h room (eqb 256) (eqb i) x)
-      (λ _ y v. rw (v, u, q) (yields-channelBody p))))
+      (λ _ y v. rw (v, u, q) (yields-channelBody k p))))
 
-  pub yields-channels : (room n i p : ℕ) → Yields o b s (b + p) (series n i 256 room channel) (λ cs e. Kept o s p cs × (length cs ≡ n) × (e ≡ b + (p + 256 * n)))
+  pub yields-channels : (k : Sub) (room n i p : ℕ) → Yields o b s (b + p) (series n i 256 room (channel k)) (λ cs e. Kept o s p cs × (length cs ≡ n) × (e ≡ b + (p + 256 * n)))
   unfolding series
-  yields-channels room zero i p = (tt, refl, omega arith)
-  yields-channels room (suc n) i p =
-      yields-bind o b s (channel room i) _ (b + p) _ _ (yields-channel room i p)
-      (λ c e q. rw (q .1) (yields-bind o b s (series n (suc i) 256 (room - 256) channel) _ (b + (p + 256)) _ _ (yields-channels (room - 256) n (suc i) (p + 256))
+  yields-channels k room zero i p = (tt, refl, omega arith)
+  yields-channels k room (suc n) i p =
+      yields-bind o b s (channel k room i) _ (b + p) _ _ (yields-channel k room i p)
+      (λ c e q. rw (q .1) (yields-bind o b s (series n (suc i) 256 (room - 256) (channel k)) _ (b + (p + 256)) _ _ (yields-channels k (room - 256) n (suc i) (p + 256))
       (λ cs x r. ((q .0 .flags, q .0 .format, q .0 .rate, r .0), ap suc (r .1), r .2 ∙ omega arith))))
 
 -- samples are read, whatever they are
@@ -274,9 +282,9 @@ module _ (o : Order) (b at room f : ℕ) (s : List ℕ) where
     next-more m a = simp (walks, found, m, a) (over-give headroom (more _) (see o b s (e + (span h - 16)) (next f (room - span h))))
 
 -- the rest of a record whose head is read: it is admitted, and the body follows
-pub channels-split : (b : Basic) (room : ℕ) (h : Head) → channels b room h ≡ (admit room 0 (leb 32) (eqb 0) h >> channelsBody b (span h))
+pub channels-split : (g : Group) (room : ℕ) (h : Head) → channels g room h ≡ (admit room 0 (leb 32) (eqb 0) h >> channelsBody g (span h))
 unfolding channels
-channels-split b room h = refl
+channels-split g room h = refl
 
 pub items-split : (ok : ℕ → Bool) (room : ℕ) (h : Head) → items ok room h ≡ (admit room 0 (leb 24) (eqb 0) h >> itemsBody ok (span h))
 unfolding items

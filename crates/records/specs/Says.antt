@@ -2,16 +2,19 @@
 use Prim.Native.Nat.{ℕ, _+_, _*_, _-_, _≤_, _<_}
 use lib.ListN.{length}
 use mathlib.Core.Path.{_≡_}
-use mathlib.Core.Bool.{Bool, true, _&&_}
+use mathlib.Core.Bool.{Bool, true, _&&_, _||_, not}
 use mathlib.Core.List.{List, [], _∷_}
 use Rattle.words.specs.Numbers.{numberAt}
 use lib.Dec.{leb, eqb}
 use Rattle.words.specs.declared.Order.{Order}
-use Rattle.walk.specs.Walk.{Walk, give, _>>=_, _>>_}
+use Rattle.walk.specs.Walk.{pick, Walk, give, _>>=_, _>>_}
 use Rattle.walk.specs.See.{Verdict, stops, goes, gate, see, over, ends}
 use Rattle.rules.specs.declared.Refusal.{Refusal}
 use Rattle.rules.specs.Rules as R
 use Rattle.rules.specs.declared.Head.{Head}
+use Rattle.rules.specs.declared.Group.{Group}
+use Rattle.rules.specs.declared.Group.the-variants as Group
+use Rattle.rules.specs.declared.Shape.{Shape}
 use Rattle.rules.specs.declared.Kind.{Kind}
 use Rattle.rules.specs.declared.Kind.the-variants as Kind
 use Rattle.rules.specs.declared.Basic.{Basic}
@@ -53,11 +56,38 @@ abbrev pub Kept : Order → List ℕ → ℕ → List R.Channel → Type 0
 Kept o s p [] = Unit {0}
 Kept o s p (c ∷ cs) = (c .flags ≡ numberAt o 4 s (p + 20)) × (c .format ≡ numberAt o 4 s (p + 28)) × (c .rate ≡ numberAt o 4 s (p + 32)) × Kept o s (p + 256) cs
 
--- the records 125 of the 120 at this place, so many of them
+-- the records that hold subs, as the rules have them
+abbrev pub groupOf : Group → R.Group
+groupOf (Group.Channels n) = R.channelGroup n
+groupOf (Group.Electrodes n) = R.electrodeGroup n
+groupOf (Group.Montage n) = R.montageGroup n
+
+-- what the code of such a record tells of its subs: that it holds any, their code, and which fields they have
+unfoldable pub isGroup : ℕ → Bool
+isGroup code = eqb code 120 || (eqb code 320 || eqb code 350)
+
+unfoldable pub subCode : ℕ → ℕ
+subCode code = pick (eqb code 120) 125 (pick (eqb code 320) 325 355)
+
+unfoldable pub shapeOf : ℕ → Shape
+shapeOf code = record { calibrated = not (eqb code 320); wired = eqb code 350 }
+
+-- a sub with these fields
+pub record HasShape (u : R.Sub) (k : Shape) : Type 0 where
+  pub calibrated : u .calibrated ≡ k .calibrated
+  pub wired : u .wired ≡ k .wired
+
+-- a group of which its code tells this
+pub record Told (g : R.Group) : Type 0 where
+  pub group : isGroup (g .code) ≡ true
+  pub code : g .sub .code ≡ subCode (g .code)
+  pub shape : HasShape (g .sub) (shapeOf (g .code))
+
+-- the subs of the 120, 320 or 350 at this place, so many of them
 abbrev pub subsAt : ℕ → ℕ → Channels
 subsAt at count = record { subs = at + 32; count = count }
 
--- a file of n bytes has room for the records 125 at cs
+-- a file of n bytes has room for the subs at cs
 pub record ChannelsIn (n : ℕ) (cs : Channels) : Type 0 where
   -- they end inside it
   pub inside : cs .subs + 256 * cs .count ≤ n
@@ -66,7 +96,7 @@ pub record ChannelsIn (n : ℕ) (cs : Channels) : Type 0 where
 
 -- the channels ch stand in the file s, at cs
 pub record ChannelsStand (o : Order) (s : List ℕ) (cs : Channels) (ch : List R.Channel) : Type 0 where
-  -- as many as there are records 125
+  -- as many as there are subs
   pub count : length ch ≡ cs .count
   -- flags, format and rate of each
   pub kept : Kept o s (cs .subs) ch
@@ -124,8 +154,8 @@ loose codes = record { code = codes; most = 128; fits = λ _. leb 16; serial = �
 abbrev pub ruleOf : Kind → R.Rule
 ruleOf (Kind.Recording i) = R.recordingRule i
 ruleOf Kind.Basic = R.basicRule
-ruleOf Kind.Channels = R.channelsRule
-ruleOf (Kind.Channel i) = R.channelRule i
+ruleOf (Kind.Channels code) = R.channelsRule code
+ruleOf (Kind.Channel code i) = R.channelRule code i
 ruleOf (Kind.Items code) = R.itemsRule code
 ruleOf Kind.Frames = R.framesRule
 ruleOf (Kind.Frame size filled i) = R.frameRule size filled i
@@ -136,8 +166,8 @@ ruleOf Kind.Any = R.anyRule
 abbrev pub Spans : Kind → ℕ → Type 0
 Spans (Kind.Recording i) n = 16 ≤ n
 Spans Kind.Basic n = n ≡ 128
-Spans Kind.Channels n = 32 ≤ n
-Spans (Kind.Channel i) n = n ≡ 256
+Spans (Kind.Channels code) n = 32 ≤ n
+Spans (Kind.Channel code i) n = n ≡ 256
 Spans (Kind.Items code) n = 24 ≤ n
 Spans Kind.Frames n = 32 ≤ n
 Spans (Kind.Frame size filled i) n = n ≡ size
@@ -239,6 +269,17 @@ timeTested o s at K =
     (gate (leb (numberAt o 4 s 32) 59)
     (gate (leb (numberAt o 4 s 36) 59) K 13 (at + 52)) 13 (at + 48)) 13 (at + 44)
 
+-- the tests of a sub at `at`, whose body is s, and a verdict that follows them: G1 and G2, where they are fields; and all
+abbrev pub inputsTested : R.Sub → Order → List ℕ → ℕ → Verdict (Unit {0}) → Verdict (Unit {0})
+inputsTested k o s at K = pick (k .wired) (gate (k .input (numberAt o 4 s 88)) (gate (k .input (numberAt o 4 s 92)) K 13 (at + 108)) 13 (at + 104)) K
+
+abbrev pub subTested : R.Sub → Order → List ℕ → ℕ → Verdict (Unit {0}) → Verdict (Unit {0})
+subTested k o s at K =
+    gate (k .number (numberAt o 4 s 0))
+    (gate (k .type (numberAt o 4 s 8))
+    (gate (k .format (numberAt o 4 s 12))
+    (gate (k .rate (numberAt o 4 s 4) (numberAt o 4 s 8) (numberAt o 4 s 16)) (inputsTested k o s at K) 13 (at + 32)) 13 (at + 28)) 13 (at + 24)) 13 (at + 16)
+
 -- what the functions promise. In each, `seen`: the answer is what the rules' walk comes to over the part s, which stands at `base` in the file;
 -- `stands`: where the answer lies in the part
 
@@ -261,11 +302,6 @@ pub record AdmittedBy (h : Head) (base n : ℕ) (kind : Kind) (a : Step) : Type 
 pub record StepOver {A : Type 0} (o : Order) (base : ℕ) (s : List ℕ) (p : ℕ) (w : Walk A) (Stands : Step → Type 0) (a : Step) : Type 0 where
   pub seen : ends (see o base s (base + p) w) ≡ stepped base a
   pub stands : Stands a
-
--- the rest of a 120 whose head is h, for any 100 with so many channels
-pub record ChannelsAt (o : Order) (base : ℕ) (s : List ℕ) (h : Head) (channels : ℕ) (a : Step) : Type 0 where
-  pub seen : (b : R.Basic) → b .channels ≡ channels → ends (see o base s (base + (h .at + 16)) (R.channels b (length s - h .at) (headOf h))) ≡ stepped base a
-  pub stands : Beyond (h .at + 32) (length s) a
 
 -- a step from byte p over frames whose samples end at byte `filled` of each, for any T and channels that come to that
 pub record FramesOver {A : Type 0} (o : Order) (base : ℕ) (s : List ℕ) (p filled : ℕ) (w : ℕ → List R.Channel → Walk A) (Stands : Step → Type 0) (a : Step) : Type 0 where

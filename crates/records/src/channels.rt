@@ -1,13 +1,13 @@
-// Record 120 and its records 125.
+// Records 120, 320 and 350, and their subs 125, 325 and 355.
 ghost use mathlib.Core.Path.{_≡_};
 ghost use mathlib.Core.List.{List};
 ghost use Prim.Native.Nat.{_+_, _-_, _*_, _≤_};
 ghost use lib.ListN.{length};
-ghost use Rattle.walk.specs.See.{see, ends};
+ghost use Rattle.walk.specs.See.{Verdict, see, ends};
 ghost use Rattle.rules.specs.Rules as R;
-ghost use Rattle.rules.specs.Rules.{channelsBody};
 ghost use Rattle.records.specs.Asks.{PartAt, HeadIn, BodyOf, SecondsOf};
-ghost use Rattle.records.specs.Says.{Kept, Advances, tested, StepOver, ChannelsAt};
+ghost use Rattle.records.specs.Says.{headOf, groupOf, isGroup, subCode, shapeOf, inputsTested};
+ghost use Rattle.records.specs.Says.{Kept, Advances, Beyond, tested, resumed, StepOver};
 use crate::Step;
 use crate::Tested;
 use crate::between;
@@ -20,13 +20,86 @@ use crate::of_step;
 use crate::stops_at;
 use rules::Channel;
 use rules::Channels;
+use rules::Electrode;
+use rules::Electrodes;
+use rules::Group;
 use rules::Head;
 use rules::Kind;
+use rules::Montage;
+use rules::MontageChannel;
 use rules::Refusal;
+use rules::Shape;
 use words::Order;
 use words::number4;
 
-fn type_ok(n: u32) -> bool
+// Whether a record with this code holds subs.
+pub fn is_group(code: u32) -> bool
+    ensures { λ r. ⌜ r ≡ isGroup code ⌝ }
+{
+    if code == Channels::CODE {
+        return true;
+    }
+    if code == Electrodes::CODE {
+        return true;
+    }
+    code == Montage::CODE
+}
+
+// The code of its subs, and which fields they have.
+pub fn sub_code(code: u32) -> u32
+    ensures { λ r. ⌜ r ≡ subCode code ⌝ }
+{
+    if code == Channels::CODE {
+        return Channel::CODE;
+    }
+    if code == Electrodes::CODE {
+        return Electrode::CODE;
+    }
+    MontageChannel::CODE
+}
+
+pub fn shape_of(code: u32) -> Shape
+    ensures { λ r. ⌜ r ≡ shapeOf code ⌝ }
+{
+    Shape {
+        calibrated: code != Electrodes::CODE,
+        wired: code == Montage::CODE,
+    }
+}
+
+pub fn group_code(g: Group) -> u32
+    ensures { λ r. ⌜ r ≡ groupOf g .code ⌝ }
+{
+    match g {
+        Group::Channels(_) => Channels::CODE,
+        Group::Electrodes(_) => Electrodes::CODE,
+        Group::Montage(_) => Montage::CODE,
+    }
+}
+
+// The test of a group's count beside record 100's.
+fn counts_ok(g: Group, m: u32) -> bool
+    ensures { λ r. ⌜ r ≡ groupOf g .counts m ⌝ }
+{
+    match g {
+        Group::Channels(n) => m == n,
+        Group::Electrodes(n) => m == n,
+        Group::Montage(_electrodes) => true,
+    }
+}
+
+// The tests of a sub's fields, each by the group that holds it.
+fn number_ok(g: Group, n: u32) -> bool
+    ensures { λ r. ⌜ r ≡ groupOf g .sub .number n ⌝ }
+{
+    match g {
+        Group::Channels(_) => true,
+        Group::Electrodes(_) => n < Head::LIMIT,
+        Group::Montage(_) => true,
+    }
+}
+
+fn is_type(n: u32) -> bool
     ensures { λ r. ⌜ r ≡ R.isType n ⌝ }
 {
     if n <= 18 {
@@ -35,7 +108,32 @@ fn type_ok(n: u32) -> bool
     n == 20
 }
 
-fn rate_ok(flags: u32, kind: u32, rate: u32) -> bool
+fn type_ok(g: Group, n: u32) -> bool
+    ensures { λ r. ⌜ r ≡ groupOf g .sub .type n ⌝ }
+{
+    match g {
+        Group::Channels(_) => is_type(n),
+        Group::Electrodes(_) => {
+            if is_type(n) {
+                return true;
+            }
+            n == Electrode::TYPE
+        }
+        Group::Montage(_) => true,
+    }
+}
+
+fn format_ok(g: Group, n: u32) -> bool
+    ensures { λ r. ⌜ r ≡ groupOf g .sub .format n ⌝ }
+{
+    match g {
+        Group::Channels(_) => between(Channel::SHORTS, Channel::FLOATS, n),
+        Group::Electrodes(_) => between(Channel::SHORTS, Channel::FLOATS, n),
+        Group::Montage(_) => true,
+    }
+}
+
+fn is_rate(flags: u32, kind: u32, rate: u32) -> bool
     ensures { λ r. ⌜ r ≡ R.rateOk flags kind rate ⌝ }
 {
     if rate == 0 {
@@ -47,52 +145,91 @@ fn rate_ok(flags: u32, kind: u32, rate: u32) -> bool
     rate < Channel::PERIOD_LIMIT
 }
 
-// The body of the record 125 at `at`.
-fn channel_body(o: Order, s: &[u8], at: usize) -> Tested
-    requires { ⌜ BodyOf 240 at (now s) ⌝ }
-    ensures { λ a. ⌜ ends (see o (at + 16) (now (s .entry)) (at + 16) R.channelBody) ≡ tested a (at + 256) ⌝ }
+fn rate_ok(g: Group, flags: u32, kind: u32, rate: u32) -> bool
+    ensures { λ r. ⌜ r ≡ groupOf g .sub .rate flags kind rate ⌝ }
 {
-    let kind = field(o, s, Channel::TYPE);
-    if !type_ok(kind) {
-        return Tested::Stop(Refusal(13, at + Channel::TYPE));
+    match g {
+        Group::Channels(_) => is_rate(flags, kind, rate),
+        Group::Electrodes(_) => is_rate(flags, kind, rate),
+        Group::Montage(_) => true,
     }
-    if !between(
-        Channel::SHORTS,
-        Channel::FLOATS,
-        field(o, s, Channel::FORMAT),
-    ) {
-        return Tested::Stop(Refusal(13, at + Channel::FORMAT));
+}
+
+// An input of a montage's channel, over so many electrodes.
+fn is_input(electrodes: u32, n: u32) -> bool
+    ensures { λ r. ⌜ r ≡ R.isInput electrodes n ⌝ }
+{
+    let what = n / MontageChannel::INPUTS;
+    if what == 0 {
+        return n % MontageChannel::INPUTS <= electrodes;
     }
-    let flags = field(o, s, Channel::FLAGS);
-    if !rate_ok(flags, kind, field(o, s, Channel::RATE)) {
-        return Tested::Stop(Refusal(13, at + Channel::RATE));
+    what <= MontageChannel::MOST_INPUT
+}
+
+// G1 and G2 of the sub at `at`, where they are fields.
+fn inputs_ok(o: Order, g: Group, s: &[u8], at: usize) -> Tested
+    requires { ⌜ BodyOf 240 at (now s) ⌝ }
+    ensures { λ a. ⌜ ((K : Verdict (Unit {0})) → inputsTested (groupOf g .sub) o (now (s .entry)) at K ≡ resumed a K) ⌝ }
+{
+    let Group::Montage(electrodes) = g else {
+        return Tested::Fine;
+    };
+    if !is_input(electrodes, field(o, s, Channel::G1)) {
+        return Tested::Stop(Refusal(13, at + Channel::G1));
+    }
+    if !is_input(electrodes, field(o, s, Channel::G2)) {
+        return Tested::Stop(Refusal(13, at + Channel::G2));
     }
     Tested::Fine
 }
 
-// The record 125 at byte p of the part s, with the serial i: where it stops.
-fn channel_at(o: Order, s: &[u8], base: usize, p: usize, i: u32) -> Step
-    requires { ⌜ PartAt base (now s) p ⌝ }
-    ensures { λ a. ⌜ StepOver o base (now (s .entry)) p (R.channel (length (now (s .entry)) - p) i) (Advances p 256 (length (now (s .entry)))) a ⌝ }
+// The body of the sub at `at`.
+fn channel_body(o: Order, g: Group, s: &[u8], at: usize) -> Tested
+    requires { ⌜ BodyOf 240 at (now s) ⌝ }
+    ensures { λ a. ⌜ ends (see o (at + 16) (now (s .entry)) (at + 16) (R.channelBody (groupOf g .sub))) ≡ tested a (at + 256) ⌝ }
 {
-    let opened = open(o, s, base, p, Kind::Channel(i));
+    if !number_ok(g, field(o, s, Channel::NUMBER)) {
+        return Tested::Stop(Refusal(13, at + Channel::NUMBER));
+    }
+    let kind = field(o, s, Channel::TYPE);
+    if !type_ok(g, kind) {
+        return Tested::Stop(Refusal(13, at + Channel::TYPE));
+    }
+    if !format_ok(g, field(o, s, Channel::FORMAT)) {
+        return Tested::Stop(Refusal(13, at + Channel::FORMAT));
+    }
+    let flags = field(o, s, Channel::FLAGS);
+    if !rate_ok(g, flags, kind, field(o, s, Channel::RATE)) {
+        return Tested::Stop(Refusal(13, at + Channel::RATE));
+    }
+    inputs_ok(o, g, s, at)
+}
+
+// The sub at byte p of the part s, with the serial i: where it stops.
+fn channel_at(o: Order, g: Group, s: &[u8], base: usize, p: usize, i: u32) -> Step
+    requires { ⌜ PartAt base (now s) p ⌝ }
+    ensures { λ a. ⌜ StepOver o base (now (s .entry)) p
+        (R.channel (groupOf g .sub) (length (now (s .entry)) - p) i) (Advances p 256 (length (now (s .entry)))) a ⌝ }
+{
+    let kind = Kind::Channel(sub_code(group_code(g)), i);
+    let opened = open(o, s, base, p, kind);
     let Opened::On(_, end) = opened else {
         return Step::Stop(of_open(opened));
     };
     let body = &s[p + Head::LENGTH..end];
-    stops_at(channel_body(o, body, base + p), end)
+    stops_at(channel_body(o, g, body, base + p), end)
 }
 
-// So many records 125 from byte `from` of the part s on: where they end.
-fn channels_from(o: Order, s: &[u8], base: usize, from: usize, count: u32) -> Step
+// So many subs from byte `from` of the part s on: where they end.
+fn channels_from(o: Order, g: Group, s: &[u8], base: usize, from: usize, count: u32) -> Step
     requires { ⌜ PartAt base (now s) from ⌝ }
     ensures { λ a. ⌜ StepOver o base (now (s .entry)) from
-        (R.series count 1 256 (length (now (s .entry)) - from) R.channel) (Advances from (256 * count) (length (now (s .entry)))) a ⌝ }
+        (R.series count 1 256 (length (now (s .entry)) - from) (R.channel (groupOf g .sub))) (Advances from (256 * count) (length (now (s .entry)))) a ⌝ }
 {
     let mut p = from;
     let mut i: u32 = 0;
     while i < count {
-        let step = channel_at(o, s, base, p, i + 1);
+        let step = channel_at(o, g, s, base, p, i + 1);
         let Step::On(next) = step else {
             return step;
         };
@@ -102,18 +239,17 @@ fn channels_from(o: Order, s: &[u8], base: usize, from: usize, count: u32) -> St
     Step::On(p)
 }
 
-// The body of the record 120 at `at`, of as many channels as record 100 has.
-fn channels_body(o: Order, s: &[u8], at: usize, channels: u32) -> Tested
+// The body of the record 120, 320 or 350 at `at`.
+fn channels_body(o: Order, g: Group, s: &[u8], at: usize) -> Tested
     requires { ⌜ BodyOf 16 at (now s) ⌝ }
-    ensures { λ a. ⌜ ((b : R.Basic) → b .channels ≡ channels →
-        ends (see o (at + 16) (now (s .entry)) (at + 16) (channelsBody b (16 + length (now (s .entry)))))
-        ≡ tested a (at + (16 + length (now (s .entry))))) ⌝ }
+    ensures { λ a. ⌜ ends (see o (at + 16) (now (s .entry)) (at + 16) (R.channelsBody (groupOf g) (16 + length (now (s .entry)))))
+        ≡ tested a (at + (16 + length (now (s .entry)))) ⌝ }
 {
     let m = field(o, s, Channels::COUNT);
     if !between(1, Channels::MOST, m) {
         return Tested::Stop(Refusal(13, at + Channels::COUNT));
     }
-    if m != channels {
+    if !counts_ok(g, m) {
         return Tested::Stop(Refusal(14, at + Channels::COUNT));
     }
     let n = s.len();
@@ -123,25 +259,26 @@ fn channels_body(o: Order, s: &[u8], at: usize, channels: u32) -> Tested
     if Channel::SIZE != field(o, s, Channels::SUB_SIZE) {
         return Tested::Stop(Refusal(13, at + Channels::SUB_SIZE));
     }
-    let taken = channels_from(o, s, at + Head::LENGTH, Channels::BODY_SUBS, m);
+    let taken = channels_from(o, g, s, at + Head::LENGTH, Channels::BODY_SUBS, m);
     let Step::On(_) = taken else {
         return Tested::Stop(of_step(taken));
     };
     Tested::Fine
 }
 
-// The rest of the record 120 whose head is h, of as many channels as record 100 has: where it stops.
-pub fn channels_at(o: Order, s: &[u8], base: usize, h: Head, channels: u32) -> Step
+// The rest of the record 120, 320 or 350 whose head is h: where it stops.
+pub fn channels_at(o: Order, g: Group, s: &[u8], base: usize, h: Head) -> Step
     requires { ⌜ HeadIn base (now s) h ⌝ }
-    ensures { λ a. ⌜ ChannelsAt o base (now (s .entry)) h channels a ⌝ }
+    ensures { λ a. ⌜ StepOver o base (now (s .entry)) (h .at + 16)
+        (R.channels (groupOf g) (length (now (s .entry)) - h .at) (headOf h)) (Beyond (h .at + 32) (length (now (s .entry)))) a ⌝ }
 {
-    let room = admit(h, base, s.len(), Kind::Channels);
+    let room = admit(h, base, s.len(), Kind::Channels(group_code(g)));
     let Step::On(end) = room else {
         return room;
     };
     let p = h.at;
     let body = &s[p + Head::LENGTH..end];
-    stops_at(channels_body(o, body, base + p, channels), end)
+    stops_at(channels_body(o, g, body, base + p), end)
 }
 
 pub fn width(format: u32) -> usize
@@ -170,7 +307,7 @@ pub fn samples_in(t: u32, flags: u32, rate: u32) -> usize
     t as usize * Channel::MICROSECONDS as usize / rate as usize
 }
 
-// The sample bytes of t seconds, over the m channels whose records 125 stand from byte `subs` of s on.
+// The sample bytes of t seconds, over the m channels whose subs stand from byte `subs` of s on.
 pub fn sample_bytes(o: Order, s: &[u8], subs: usize, m: u32, t: u32) -> usize
     requires { ⌜ SecondsOf (length (now s)) (record { subs = subs; count = m }) t ⌝ }
     ensures { λ r. ⌜ ((cs : List R.Channel) → length cs ≡ m → Kept o (now (s .entry)) subs cs → r ≡ R.sampleBytes t cs) ⌝ }

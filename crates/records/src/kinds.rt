@@ -132,8 +132,8 @@ fn rule_of(kind: Kind) -> Rule
     match kind {
         Kind::Recording(i) => least_rule(Recording::LEAST, Recording::CODE, Head::MOST, i),
         Kind::Basic => exact_rule(Basic::LENGTH, Basic::CODE, 0),
-        Kind::Channels => least_rule(Channels::LEAST, Channels::CODE, 0, 0),
-        Kind::Channel(i) => exact_rule(Channel::LENGTH, Channel::CODE, i),
+        Kind::Channels(code) => least_rule(Channels::LEAST, code, 0, 0),
+        Kind::Channel(code, i) => exact_rule(Channel::LENGTH, code, i),
         Kind::Items(code) => least_rule(Items::LEAST, code, 0, 0),
         Kind::Frames => least_rule(Frames::LEAST, Frames::CODE, Head::MOST, 0),
         Kind::Frame(size, filled, i) => Rule {

@@ -66,15 +66,15 @@ module _ (s : List ℕ) (b : Bytes s) (h : FileHeader) (x : AcceptedAs s h) wher
   unfolding C.anew
   anew to =
       let e = rewritten-of to s (x .judged) ∙ ap (λ (v : R.Contents). render to (C.anew v)) (reading-words s b (x .judged)) in
-      sym (e ∙ rw (← x .heading, counted) (render-append to (C.headerEvents (headingOf (h .heading)) (h .count)) (C.recordingEvents 1 recorded)))
+      sym (e ∙ rw (← x .heading, counted) (render-append to (C.headerEvents (headingOf (h .heading)) (h .count)) (C.recordingEvents (h .heading .label) 1 recorded)))
 
-  module _ (order : ℕ) (to : Order) (names : lettered order ≡ Lettered.Names to) (need : ℕ) (long : need ≡ lengthAnew (x .file .recordings))
-      (out : List ℕ) {m : Option ℕ} (made : m ≡ barrier (h .order) to (firstMaker (rowsOf (h .order) s (h .count)))) where
+  module _ (order : ℕ) (to : Order) (names : lettered order ≡ Lettered.Names to) (need : ℕ) (long : need ≡ lengthAnew (h .heading .label) (x .file .recordings))
+      (out : List ℕ) {m : Option ℕ} (made : m ≡ barrier (h .order) to (firstMaker (rowsOf (h .order) (h .heading .label) s (h .count)))) where
     pub length-anew : length (C.rewritten to s) ≡ need
     length-anew =
-        let e = length-append (render to (C.headerEvents (headingOf (h .heading)) (h .count))) (render to (C.recordingEvents 1 recorded)) in
+        let e = length-append (render to (C.headerEvents (headingOf (h .heading)) (h .count))) (render to (C.recordingEvents (h .heading .label) 1 recorded)) in
         let f : length (render to (C.headerEvents (headingOf (h .heading)) (h .count))) ≡ 32 = length-render to (C.headerEvents (headingOf (h .heading)) (h .count)) ∙ header-size (headingOf (h .heading)) (h .count) (rw (x .heading, ← counted) (ok .header)) in
-        omega (arith, ap length (anew to), e, f, length-render to (C.recordingEvents 1 recorded), long)
+        omega (arith, ap length (anew to), e, f, length-render to (C.recordingEvents (h .heading .label) 1 recorded), long)
 
     -- leave to write is the answer
     answers : {y : Answer} → y ≡ permitted m need (length out) → y ≡ answerOf s order (length out)

@@ -21,11 +21,13 @@ use Rattle.walk.proofs.Seen.{body-length}
 use Rattle.walk.proofs.Tracing.{render-append, written-none}
 use Rattle.walk.proofs.Went.{goes-same}
 use Rattle.rules.specs.Canonical.{numerals, framesHead, framesWritten, makerEvents, delimiterEvents, content, recordingHead}
+use Rattle.rules.specs.declared.Label.{Label}
 use Rattle.rules.specs.Rules.{Head, Next, head, span, framesBody, frames, next, Recording, Placed, descriptions}
 use Rattle.rules.specs.declared.Channels.{Channels}
 use Rattle.rules.specs.declared.Head as At
 use Rattle.rules.proofs.Renew.{record-size}
 use Rattle.rules.proofs.Sized.{sized}
+use Rattle.rules.proofs.Written.{tablesEvents}
 use Rattle.records.specs.Says.{headOf, ChannelsStand}
 use Rattle.records.proofs.Opened.{admit-went}
 use Rattle.children.specs.Children.{Said, said, Known, Heads, heading, Inner, is140, Links, more, last, RecordAt, NoRecord}
@@ -39,7 +41,7 @@ use Rattle.measures.specs.Measures.{MeasureOf, MeasureIn, signalsIn, behindHead
 use Rattle.measures.specs.declared.Measure.{Measure}
 use Rattle.measures.specs.declared.Sized.{Sized}
 use Rattle.measures.proofs.Canonic.{bare, head-bare}
-use Rattle.measures.proofs.Chained.{tablesEvents, tables-bare, next-bare}
+use Rattle.measures.proofs.Chained.{tables-bare, next-bare}
 use Rattle.measures.proofs.Lengths.{Accepted, accepted}
 use Rattle.measures.proofs.Measures.{stands, in-body}
 use Rattle.rewrite.specs.FramesAnew.{FramesAnew, signalsEvents, BodyMeasured, SignalsAnew}
@@ -73,14 +75,14 @@ delimiter-bytes Little = refl
 delimiter-bytes Big = refl
 
 -- the 140 of a body that the walk accepted is whole
-whole : {o : Order} {b : ℕ} {s : List ℕ} {x : Placed} (v : Accepted o b s x) → (32 ≤ span (v .top)) × (v .at + span (v .top) ≤ length s)
+whole : {o : Order} {label : Label} {b : ℕ} {s : List ℕ} {x : Placed} (v : Accepted o label b s x) → (32 ≤ span (v .top)) × (v .at + span (v .top) ≤ length s)
 unfolding frames
-whole {o} {b} {s} {x} v =
+whole {o} {label} {b} {s} {x} v =
     let d = admit-went o b s (b + (v .at + 16)) (length s - v .at) 128 (leb 32) (eqb 0) (v .top) (require (v .own || eqb (length (x .recording .channels)) (v .before .basic .channels)) 14 (v .back) >> framesBody (v .before .basic) (x .recording .channels) (v .top)) (v .went) in
     (leb-true 32 (span (v .top)) (d .length), omega (arith, d .inside, v .inside))
 
 -- a body that the walk accepted, where reserve is cleared: all that is written of it is the canonical content
-module _ (w : Way) {b : ℕ} {s : List ℕ} {x : Placed} (v : Accepted (w .from) b s x) (clear : w .keep ≡ false) where
+module _ (w : Way) {b : ℕ} {s : List ℕ} {x : Placed} (v : Accepted (w .from) (w .label) b s x) (bytes : Bytes s) (clear : w .keep ≡ false) where
   abbrev known : Known
   known = record { basic = v .before .basic; own = v .own; channels = x .recording .channels; back = v .back }
 
@@ -99,23 +101,30 @@ module _ (w : Way) {b : ℕ} {s : List ℕ} {x : Placed} (v : Accepted (w .from)
       rw (← append-cancel-right (anew w (d .before)) (render (w .to) t) hs j)
       (onto (w .from) b s known _++_ (Renews w b s (x .recording)) (Closes w b s) (anew w) ys (λ l m. rw (anew-then w l m) (append-assoc (anew w l) (anew w m) ys)) (rw (written-none (w .keep) (w .to))) (λ p h l i. other (i .inner) (i .other) refl) later (d .links))
 
-  pub renewal : Renewal w b s (x .recording) 0 (render (w .to) (content (x .recording)))
+  -- the makers' records behind the 140
+  left-bare : bare (w .from) b s (b + (v .at + span (v .top))) (next (v .fuel) (length s - (v .at + span (v .top)))) ≡ makerEvents (v .after .makers) ++ numerals (v .after .head)
+  left-bare =
+      let q : ℕ = v .at + span (v .top) in
+      let i : b + length s - (b + q) ≡ length s - q = omega arith in
+      rw i at (next-bare (w .from) b s bytes (v .fuel) (b + q) {n = v .after} {e = v .end} (omega arith) (omega (arith, whole v .1)) (omega (arith, v .enough)) (rw i (v .behind)))
+
+  pub renewal : Renewal w b s (x .recording) 0 (render (w .to) (content (w .label) (x .recording)))
   renewal =
       let o : Order = w .to in
       let q : ℕ = v .at + span (v .top) in
-      let d₁ = tables-leads (w .from) b s known (v .held) (16 + length s) refl refl (v .begins) in
+      let d₁ = tables-leads (w .from) b s known (w .label) (v .held) (16 + length s) refl (v .begins) in
       let d₂ = next-leads (w .from) b s known (v .fuel) q (v .after) (v .end) (whole v .1) (v .behind) in
       let i : v .at ≡ d₁ .to = omega (arith, d₁ .end) in
       let z : List ℕ = render o delimiterEvents in
-      let c₂ = leads-written q (b + q) (next (v .fuel) (length s - q)) d₂ (makerEvents (v .after .makers)) (next-bare (w .from) b s (v .fuel) (length s - q) (b + q + (length s - q)) (b + q) (v .after) (v .end) (omega arith) refl (v .behind) .0) z
+      let c₂ = leads-written q (b + q) (next (v .fuel) (length s - q)) d₂ (makerEvents (v .after .makers)) left-bare z
       (last (record { head = v .after .head; stands = d₂ .stands .heads; code = ap (λ (h : Head). h .code) (v .closes); is = delimiter-bytes o })) in
       let c₁ : Renewal w b s (x .recording) (v .at) (render o (signalsEvents (x .recording)) ++ (render o (makerEvents (v .after .makers)) ++ z)) =
       more (v .top) _ _ (v .stands) (signals (is140 (v .code) (record { value = v .value; end = _; is = v .went; says = refl })) (v .code) refl) c₂ refl in
-      rw (v .events, render-append o (tablesEvents (v .before)), render-append o (signalsEvents (x .recording)), render-append o (makerEvents (v .after .makers)))
-      (leads-written 0 b (descriptions (v .held) (16 + length s)) d₁ (tablesEvents (v .before)) (tables-bare (w .from) b s (v .held) (16 + length s) (v .before) (b + (v .at + 16)) (omega arith) (v .begins) .0) _ (rw i at c₁))
+      rw (v .events, render-append o (tablesEvents (w .label) (v .before)), render-append o (signalsEvents (x .recording)), render-append o (makerEvents (v .after .makers)))
+      (leads-written 0 b (descriptions (w .label) (v .held) (16 + length s)) d₁ (tablesEvents (w .label) (v .before)) (tables-bare (w .from) b s bytes (w .label) (v .held) (16 + length s) (omega arith) (v .begins)) _ (rw i at c₁))
 
 -- a body that the walk accepted, and what is known of its measure
-module _ (w : Way) {b : ℕ} {s : List ℕ} {x : Placed} (v : Accepted (w .from) b s x) (f : Measure) (reads : MeasureIn (w .from) b s f) (is : MeasureOf f x) where
+module _ (w : Way) {b : ℕ} {s : List ℕ} {x : Placed} (v : Accepted (w .from) (w .label) b s x) (f : Measure) (reads : MeasureIn (w .from) b s f) (is : MeasureOf (w .label) f x) where
   same-at : v .at ≡ f .at
   same-at = omega (arith, v .place, is .at)
 
@@ -162,7 +171,7 @@ pub signals-written : (w : Way) (file s : List ℕ) (cs : Channels) (f : Measure
 signals-written w file s cs f out ys zs k n m bytes e₁ e₂ room same top body =
     record {
       inside = room;
-      wrote = λ b x g. signals-placed w (accepted (w .from) b s bytes (g .head) (g .fills) (g .held) (g .went)) f (g .reads) (g .is) file cs out ys zs k n m e₁ e₂ room same (g .clear) (g .channels) top body;
+      wrote = λ b x g. signals-placed w (accepted (w .from) (w .label) b s bytes (g .head) (g .fills) (g .held) (g .went)) f (g .reads) (g .is) file cs out ys zs k n m e₁ e₂ room same (g .clear) (g .channels) top body;
     }
 
 -- there is no room for it
@@ -171,17 +180,17 @@ signals-full w file s cs f out k bytes fit full =
     record {
       inside = fit;
       wrote = λ b x g room.
-          let v = accepted (w .from) b s bytes (g .head) (g .fills) (g .held) (g .went) in
+          let v = accepted (w .from) (w .label) b s bytes (g .head) (g .fills) (g .held) (g .went) in
           absurd (omega (arith, full, room, length-render (w .to) (signalsEvents (x .recording)), v .framed, ap (λ (z : Sized). z .length) (g .is .signals)));
     }
 
 -- the records up to byte p are written, of all the content of a body that is accepted as x
 abbrev pub RenewedUpTo : Way → ℕ → List ℕ → Placed → List ℕ → List ℕ → ℕ → ℕ → Type 0
-RenewedUpTo w b s x d₀ d k p = Copying (λ (l : List ℕ). l) (Renewal w b s (x .recording)) d₀ d 0 k p (render (w .to) (content (x .recording)))
+RenewedUpTo w b s x d₀ d k p = Copying (λ (l : List ℕ). l) (Renewal w b s (x .recording)) d₀ d 0 k p (render (w .to) (content (w .label) (x .recording)))
 
 module _ {w : Way} {file s : List ℕ} {cs : Channels} {f : Measure} {b : ℕ} {x : Placed} (g : BodyMeasured w file s cs f b x) where
   pub renewed-none : {d₀ : List ℕ} → Bytes s → RenewedUpTo w b s x d₀ d₀ 0 0
-  renewed-none bytes = copying-none _ (renewal w (accepted (w .from) b s bytes (g .head) (g .fills) (g .held) (g .went)) (g .clear))
+  renewed-none bytes = copying-none _ (renewal w (accepted (w .from) (w .label) b s bytes (g .head) (g .fills) (g .held) (g .went)) bytes (g .clear))
 
   -- what the code wrote of one record
   renews-wrote : (d d′ : List ℕ) (k k′ : ℕ) {p : ℕ} {h : At.Head} {q : ℕ} → RecordAt (w .from) b s p h q → ChildAnew w file s cs f h q d d′ k k′ → {xs : List ℕ} → Renews w b s (x .recording) p (headOf h) xs → Pastes d d′ k k′ xs
@@ -197,15 +206,15 @@ module _ {w : Way} {file s : List ℕ} {cs : Channels} {f : Measure} {b : ℕ} {
 
     -- the delimiter and the padding are zeros
     pub renewed-last : (zs : List ℕ) → 16 + length d₀ ≡ f .whole .length → length d ≡ length d₀ → length (put k (length d - k) d zs) ≡ length d → NoRecord (w .from) b s p → zs ≡ replicate (length (take (length d - k) (drop k d))) 0 →
-        put k (length d - k) d zs ≡ render (w .to) (behindHead (x .recording))
+        put k (length d - k) d zs ≡ render (w .to) (behindHead (w .label) (x .recording))
     renewed-last zs room same long v is =
         let o : Order = w .to in
-        let t : List Event = content (x .recording) in
-        let n : ℕ = span (recordingHead 0 (x .recording)) - (16 + size t) in
+        let t : List Event = content (w .label) (x .recording) in
+        let n : ℕ = span (recordingHead (w .label) 0 (x .recording)) - (16 + size t) in
         let e = links-ended (w .from) b s (λ h ys j i. renews-there v j i) (y .links) in
         let c : render o t ≡ y .done ++ replicate 16 0 = y .is ∙ ap (λ (l : List ℕ). y .done ++ l) (e .is) in
         let l : size t ≡ length (y .done) + 16 = sym (length-render o t) ∙ (ap length c ∙ length-append (y .done) (replicate 16 0)) in
-        let u : f .whole .length ≡ span (recordingHead 0 (x .recording)) = ap (λ (z : Sized). z .length) (g .is .whole) in
+        let u : f .whole .length ≡ span (recordingHead (w .label) 0 (x .recording)) = ap (λ (z : Sized). z .length) (g .is .whole) in
         let serves = sized (16 + size t) .serves in
         let q = y .wrote (omega arith) in
         let front : take k d ≡ y .done = ap (λ (i : ℕ). take i d) (q .0) ∙ (ap (take (0 + length (y .done))) (q .1) ∙ take-pasted d₀ 0 (y .done) (omega arith)) in

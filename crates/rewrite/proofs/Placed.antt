@@ -15,6 +15,7 @@ use Rattle.walk.specs.Walk.{Event, render, size}
 use Rattle.walk.proofs.Laws.{length-render}
 use Rattle.walk.proofs.Seen.{body-length}
 use Rattle.rules.specs.Rules as R
+use Rattle.rules.specs.declared.Label.{Label}
 use Rattle.rules.specs.Canonical as C
 use Rattle.rules.proofs.Canon.{recording-size}
 use Rattle.rules.proofs.Renew.{record-size}
@@ -50,29 +51,29 @@ record-placed o h t out ys zs k n m long f g l u p q =
     )
 
 -- what stands behind it fills the record
-behind-length : (o : Order) (r : R.Recording) → 16 + length (render o (behindHead r)) ≡ R.span (C.recordingHead 0 r)
-behind-length o r = omega (arith, length-render o (behindHead r), recording-size 0 r, record-size (C.recordingHead 0 r) (behindHead r))
+behind-length : (o : Order) (label : Label) (r : R.Recording) → 16 + length (render o (behindHead label r)) ≡ R.span (C.recordingHead label 0 r)
+behind-length o label r = omega (arith, length-render o (behindHead label r), recording-size label 0 r, record-size (C.recordingHead label 0 r) (behindHead label r))
 
-module _ (o : Order) (i : ℕ) (r : R.Recording) where
+module _ (o : Order) (label : Label) (i : ℕ) (r : R.Recording) where
   -- the two are the canonical form
-  in-two : render o (C.recordingEvents i (r ∷ [])) ≡ render o (C.numerals (C.recordingHead i r)) ++ render o (behindHead r)
+  in-two : render o (C.recordingEvents label i (r ∷ [])) ≡ render o (C.numerals (C.recordingHead label i r)) ++ render o (behindHead label r)
   unfolding C.recordingEvents
-  in-two = ap (render o) (append-nil (C.recordOf (C.recordingHead i r) (behindHead r))) ∙ render-record o (C.recordingHead i r) (behindHead r)
+  in-two = ap (render o) (append-nil (C.recordOf (C.recordingHead label i r) (behindHead label r))) ∙ render-record o (C.recordingHead label i r) (behindHead label r)
 
-  module _ (w : Sized) (e : w ≡ sizedFor (16 + size (C.content r))) where
+  module _ (w : Sized) (e : w ≡ sizedFor (16 + size (C.content label r))) where
     -- it is as long as the size says
-    pub recording-length : length (render o (C.recordingEvents i (r ∷ []))) ≡ w .length
+    pub recording-length : length (render o (C.recordingEvents label i (r ∷ []))) ≡ w .length
     recording-length =
         ap length in-two
-        ∙ (length-append (render o (C.numerals (C.recordingHead i r))) (render o (behindHead r))
-        ∙ (omega (arith, head-length o (C.recordingHead i r), behind-length o r) ∙ sym (ap (λ (x : Sized). x .length) e)))
+        ∙ (length-append (render o (C.numerals (C.recordingHead label i r))) (render o (behindHead label r))
+        ∙ (omega (arith, head-length o (C.recordingHead label i r), behind-length o label r) ∙ sym (ap (λ (x : Sized). x .length) e)))
 
     -- the code wrote the two one behind the other
     recording-placed : (out ys zs : List ℕ) (k n m : ℕ) → n ≡ 16 → 16 + m ≡ w .length → k ≤ length out →
-        ys ≡ render o (C.numerals (record { size = w .size; code = 10; serial = i; multiplier = w .multiplier })) → zs ≡ render o (behindHead r) →
-        Pastes out (put (k + 16) m (put k n out ys) zs) k (k + w .length) (render o (C.recordingEvents i (r ∷ [])))
+        ys ≡ render o (C.numerals (record { size = w .size; code = 10; serial = i; multiplier = w .multiplier })) → zs ≡ render o (behindHead label r) →
+        Pastes out (put (k + 16) m (put k n out ys) zs) k (k + w .length) (render o (C.recordingEvents label i (r ∷ [])))
     recording-placed out ys zs k n m f g l p q =
-        rw in-two (record-placed o _ _ out ys zs k n m (w .length) f g l (omega (arith, behind-length o r, ap (λ (x : Sized). x .length) e)) (p ∙ ap (λ (x : Sized). render o (C.numerals (record { size = x .size; code = 10; serial = i; multiplier = x .multiplier }))) e) q)
+        rw in-two (record-placed o _ _ out ys zs k n m (w .length) f g l (omega (arith, behind-length o label r, ap (λ (x : Sized). x .length) e)) (p ∙ ap (λ (x : Sized). render o (C.numerals (record { size = x .size; code = 10; serial = i; multiplier = x .multiplier }))) e) q)
 
 -- the room behind the head of a record of n bytes at byte k
 pub room-behind : (d : List ℕ) (k n : ℕ) → 16 ≤ n → k + n ≤ length d → 16 + length (take (k + n - (k + 16)) (drop (k + 16) d)) ≡ n
@@ -83,9 +84,9 @@ module _ (w : Way) (file : List ℕ) (p i : ℕ) (q : Places) (f : Measure) wher
   pub recording-written : (out ys zs : List ℕ) (k n m : ℕ) → n ≡ 16 → 16 + m ≡ f .whole .length → k ≤ length out → MeasuredAt (w .from) file p q (Measured.On f) →
       ys ≡ render (w .to) (C.numerals (record { size = f .whole .size; code = 10; serial = i; multiplier = f .whole .multiplier })) →
       BodyAnew w file (bodyIn file p q) zs (subsAt (q .channels) (q .count)) f (p + 16) →
-      w .keep ≡ false → (held : Option R.Held) (x : R.Placed) → AcceptedAt (w .from) file p i q held x →
-      Pastes out (put (k + 16) m (put k n out ys) zs) k (k + f .whole .length) (render (w .to) (C.recordingEvents i (x .recording ∷ [])))
+      w .keep ≡ false → (held : Option R.Held) (x : R.Placed) → AcceptedAt (w .from) (w .label) file p i q held x →
+      Pastes out (put (k + 16) m (put k n out ys) zs) k (k + f .whole .length) (render (w .to) (C.recordingEvents (w .label) i (x .recording ∷ [])))
   recording-written out ys zs k n m e₁ e₂ l t first later clear held x y =
-      let v = within (w .from) file p (q .end) held i (y .went) in
-      let s = t .told held i x y in
-      recording-placed (w .to) i (x .recording) (f .whole) (s .whole) out ys zs k n m e₁ e₂ l first (later x (record { clear = clear; head = v .top; held = held; end = q .end; fills = v .fills; went = v .body; channels = y .channels; reads = t .reads; is = s }))
+      let v = within (w .from) (w .label) file p (q .end) held i (y .went) in
+      let s = t .told (w .label) held i x y in
+      recording-placed (w .to) (w .label) i (x .recording) (f .whole) (s .whole) out ys zs k n m e₁ e₂ l first (later x (record { clear = clear; head = v .top; held = held; end = q .end; fills = v .fills; went = v .body; channels = y .channels; reads = t .reads; is = s }))

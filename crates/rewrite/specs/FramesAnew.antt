@@ -18,7 +18,7 @@ use Rattle.bodies.specs.declared.Widths.{Widths}
 use Rattle.measures.specs.Measures.{MeasureOf, MeasureIn, MeasureBounds, FramesSay, FrameIn}
 use Rattle.measures.specs.declared.Measure.{Measure}
 
--- s is a frame up to its padding, d has as much room, and the samples' widths are those of the records 125 at cs
+-- s is a frame up to its padding, d has as much room, and the samples' widths are those of the subs at cs
 pub record FrameFits (w : Way) (file s d : List ℕ) (cs : Channels) (widths : Widths) (t : ℕ) : Type 0 where
   pub channels : cs .subs + 256 * cs .count ≤ length file
   pub seconds : t ≤ 3600
@@ -61,12 +61,12 @@ pub record BodyMeasured (w : Way) (file s : List ℕ) (cs : Channels) (f : Measu
   pub held : Option R.Held
   pub end : ℕ
   pub fills : R.span head ≡ 16 + length s
-  pub went : see (w .from) base s base (R.recordingBody held head) ≡ goes x end
+  pub went : see (w .from) base s base (R.recordingBody (w .label) held head) ≡ goes x end
   -- its channels stand at cs
   pub channels : ChannelsStand (w .from) file cs (x .recording .channels)
   -- what the measure says of the bytes, and of the recording
   pub reads : MeasureIn (w .from) base s f
-  pub is : MeasureOf f x
+  pub is : MeasureOf (w .label) f x
 
 -- its 140 in canonical form
 abbrev pub signalsEvents : R.Recording → List Event

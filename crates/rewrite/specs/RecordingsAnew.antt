@@ -12,6 +12,7 @@ use Rattle.words.specs.declared.Order.{Order}
 use Rattle.walk.specs.Walk.{render, size}
 use Rattle.walk.specs.See.{see, goes}
 use Rattle.rules.specs.Rules as R
+use Rattle.rules.specs.declared.Label.{Label}
 use Rattle.rules.specs.Canonical as C
 use Rattle.rules.specs.declared.Channels.{Channels}
 use Rattle.rules.specs.declared.Head.{Head}
@@ -37,8 +38,8 @@ pub record StandsIn (n p : ℕ) (q : Places) : Type 0 where
   pub room : ChannelsIn n (subsAt (q .channels) (q .count))
 
 -- the walk accepts it as x, with the serial i, and its channels and its 140 stand at these places
-pub record AcceptedAt (o : Order) (file : List ℕ) (p i : ℕ) (q : Places) (held : Option R.Held) (x : R.Placed) : Type 0 where
-  pub went : see o 0 file p (R.recording held (length file - p) i) ≡ goes x (q .end)
+pub record AcceptedAt (o : Order) (label : Label) (file : List ℕ) (p i : ℕ) (q : Places) (held : Option R.Held) (x : R.Placed) : Type 0 where
+  pub went : see o 0 file p (R.recording label held (length file - p) i) ≡ goes x (q .end)
   pub channels : ChannelsStand o file (subsAt (q .channels) (q .count)) (x .recording .channels)
   pub frames : q .frames ≡ p + x .layout .at140
 
@@ -52,7 +53,7 @@ pub record MeasuredAt (o : Order) (file : List ℕ) (p : ℕ) (q : Places) (a : 
   pub bounds : Each a (MeasureBounds (q .end - (p + 16)))
   pub reads : Each a (MeasureIn o (p + 16) (bodyIn file p q))
   -- where the walk accepts it, there is a measure, and it is the recording's
-  pub told : (held : Option R.Held) (i : ℕ) (x : R.Placed) → AcceptedAt o file p i q held x → Given a (λ f. MeasureOf f x)
+  pub told : (label : Label) (held : Option R.Held) (i : ℕ) (x : R.Placed) → AcceptedAt o label file p i q held x → Given a (λ f. MeasureOf label f x)
 
 -- s is a recording's body, which stands at `base`, and d has room for the canonical form that its measure f says, and no more
 pub record BodyFits (file s d : List ℕ) (cs : Channels) (f : Measure) (base : ℕ) : Type 0 where
@@ -63,7 +64,7 @@ pub record BodyFits (file s d : List ℕ) (cs : Channels) (f : Measure) (base : 
 
 -- where the walk accepts the body s as x, d is what stands behind the head of its canonical form
 abbrev pub BodyAnew : Way → List ℕ → List ℕ → List ℕ → Channels → Measure → ℕ → Type 0
-BodyAnew w file s d cs f base = (x : R.Placed) → BodyMeasured w file s cs f base x → d ≡ render (w .to) (behindHead (x .recording))
+BodyAnew w file s d cs f base = (x : R.Placed) → BodyMeasured w file s cs f base x → d ≡ render (w .to) (behindHead (w .label) (x .recording))
 
 -- a record of the body s, with the code's head h and up to byte q, goes to byte k of the buffer
 pub record ChildFits (file s out : List ℕ) (cs : Channels) (f : Measure) (h : Head) (q k : ℕ) : Type 0 where
@@ -87,8 +88,8 @@ pub record RecordingFits (file : List ℕ) (p : ℕ) (q : Places) (out : List �
 -- where there is room, its canonical form stands there, and the next bytes go at r
 pub record RecordingAnew (w : Way) (file : List ℕ) (p i : ℕ) (q : Places) (out out′ : List ℕ) (k r : ℕ) : Type 0 where
   pub inside : r ≤ length out
-  pub wrote : w .keep ≡ false → (held : Option R.Held) (x : R.Placed) → AcceptedAt (w .from) file p i q held x →
-      Pastes out out′ k r (render (w .to) (C.recordingEvents i (x .recording ∷ [])))
+  pub wrote : w .keep ≡ false → (held : Option R.Held) (x : R.Placed) → AcceptedAt (w .from) (w .label) file p i q held x →
+      Pastes out out′ k r (render (w .to) (C.recordingEvents (w .label) i (x .recording ∷ [])))
 
 -- a number of recordings, and a buffer for its digits
 pub record DigitsFit (d : List ℕ) (count : ℕ) : Type 0 where
@@ -110,10 +111,11 @@ pub record Counts (n count : ℕ) : Type 0 where
 
 -- the canonical form of a file with these recordings, and how long it is
 abbrev pub fileAnew : Order → Heading → ℕ → List R.Placed → List ℕ
-fileAnew to heading count ps = render to (C.headerEvents (headingOf heading) count) ++ render to (C.recordingEvents 1 (map (λ p. p .recording) ps))
+fileAnew to heading count ps =
+    render to (C.headerEvents (headingOf heading) count) ++ render to (C.recordingEvents (heading .label) 1 (map (λ p. p .recording) ps))
 
-abbrev pub lengthAnew : List R.Placed → ℕ
-lengthAnew ps = 32 + size (C.recordingEvents 1 (map (λ p. p .recording) ps))
+abbrev pub lengthAnew : Label → List R.Placed → ℕ
+lengthAnew label ps = 32 + size (C.recordingEvents label 1 (map (λ p. p .recording) ps))
 
 -- a file, what its header says, and a buffer with room for a header
 pub record FileFits (file out : List ℕ) (heading : Heading) (count : ℕ) : Type 0 where
@@ -124,4 +126,5 @@ pub record FileFits (file out : List ℕ) (heading : Heading) (count : ℕ) : Ty
 -- where the walk accepts its recordings, and there is room, its canonical form stands at the buffer's start
 abbrev pub FileAnew : Order → Order → Heading → List ℕ → ℕ → List ℕ → List ℕ → Type 0
 FileAnew o to heading file count out out′ =
-    (ps : List R.Placed) (e : ℕ) → ReadAs o file count ps e → lengthAnew ps ≤ length out → out′ ≡ pasted out 0 (fileAnew to heading count ps)
+    (ps : List R.Placed) (e : ℕ) → ReadAs o (heading .label) file count ps e → lengthAnew (heading .label) ps ≤ length out →
+    out′ ≡ pasted out 0 (fileAnew to heading count ps)

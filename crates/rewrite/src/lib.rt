@@ -42,11 +42,13 @@ pub fn rewrite(file: &[u8], order: u8, out: &mut [u8]) -> Written
     };
     let o = h.order;
     let made = in_the_way(o, to, file, h.count);
-    let need = recordings::file_length(o, file, h.count);
+    let heading = h.heading;
+    let label = heading.label;
+    let need = recordings::file_length(o, label, file, h.count);
     let leave = permit::permit(made, need, out.len());
     let Written::Bytes(_) = leave else {
         return leave;
     };
-    recordings::file_anew(o, to, h.heading, file, h.count, out);
+    recordings::file_anew(o, to, heading, file, h.count, out);
     leave
 }

@@ -26,9 +26,11 @@ use measures::measure_of;
 use records::writing::put_head;
 use rules::Channels;
 use rules::FileHeader;
+use rules::Form;
 use rules::Frames;
 use rules::Head;
 use rules::Heading;
+use rules::Label;
 use rules::Recording;
 use rules::Spelling;
 use words::Order;
@@ -91,6 +93,17 @@ fn name(spelling: Spelling, d: &mut [u8])
     }
 }
 
+// The form, in its two digits.
+fn form_digits(form: Form, d: &mut [u8])
+    requires { ⌜ length (now d) ≡ 2 ⌝ }
+    ensures { λ _. ⌜ now (d .exit) ≡ R.formed form ⌝ }
+{
+    match form {
+        Form::Channels => copy_run(b"00", d),
+        Form::Electrodes => copy_run(b"01", d),
+    }
+}
+
 // The file header: K without leading zeros.
 fn header(to: Order, heading: Heading, count: u32, d: &mut [u8])
     requires { ⌜ HeaderFits (now d) heading count ⌝ }
@@ -98,9 +111,11 @@ fn header(to: Order, heading: Heading, count: u32, d: &mut [u8])
 {
     let script = heading.script;
     let spelling = heading.spelling;
+    let label = heading.label;
+    let form = label.form;
     name(spelling, &mut d[..FileHeader::VERSION]);
     copy_run(b"000300", &mut d[FileHeader::VERSION..FileHeader::FORM]);
-    copy_run(b"00", &mut d[FileHeader::FORM..FileHeader::ORDER]);
+    form_digits(form, &mut d[FileHeader::FORM..FileHeader::ORDER]);
     d[FileHeader::ORDER] = letter(to);
     d[FileHeader::SCRIPT] = script as u8;
     digits(count, &mut d[FileHeader::COUNT..FileHeader::SPACES]);
@@ -183,16 +198,16 @@ fn recording(w: Way, file: &[u8], p: usize, i: u32, q: Places, out: &mut [u8], k
 }
 
 // The length of the canonical form of a file with so many recordings.
-pub fn file_length(o: Order, file: &[u8], count: u32) -> usize
+pub fn file_length(o: Order, label: Label, file: &[u8], count: u32) -> usize
     requires { ⌜ Counts (length (now file)) count ⌝ }
-    ensures { λ r. ⌜ ((ps : List R.Placed) (e : ℕ) → ReadAs o (now (file .entry)) count ps e → r ≡ lengthAnew ps) ⌝ }
+    ensures { λ r. ⌜ ((ps : List R.Placed) (e : ℕ) → ReadAs o label (now (file .entry)) count ps e → r ≡ lengthAnew label ps) ⌝ }
 {
     let mut p = FileHeader::LENGTH;
     let mut sum = FileHeader::LENGTH;
     let mut before = Before::Nothing;
     let mut i: u32 = 0;
     while i < count {
-        let step = recording_again(o, file, p, before);
+        let step = recording_again(o, label, file, p, before);
         let Recorded::On(q) = step else {
             return sum;
         };
@@ -209,8 +224,10 @@ pub fn file_anew(o: Order, into: Order, heading: Heading, file: &[u8], count: u3
     requires { ⌜ FileFits (now file) (now out) heading count ⌝ }
     ensures { λ _. ⌜ FileAnew o into heading (now (file .entry)) count (now (out .entry)) (now (out .exit)) ⌝ }
 {
+    let label = heading.label;
     let w = Way {
         from: o,
+        label,
         to: into,
         keep: false,
     };
@@ -220,7 +237,7 @@ pub fn file_anew(o: Order, into: Order, heading: Heading, file: &[u8], count: u3
     let mut before = Before::Nothing;
     let mut i: u32 = 0;
     while i < count {
-        let step = recording_again(o, file, p, before);
+        let step = recording_again(o, label, file, p, before);
         let Recorded::On(q) = step else {
             return;
         };

@@ -1,7 +1,7 @@
 -- The rows of a recording's body, record by record.
 -- Assumes nothing.
 use mathlib.Core.Path.{_≡_, refl, sym, ap, _∙_}
-use mathlib.Core.Bool.{Bool, true, _||_}
+use mathlib.Core.Bool.{Bool, true, false, _||_}
 use mathlib.Core.List.{List, [], _∷_, _++_, append-assoc}
 use mathlib.Core.Option.{Option}
 use Prim.Native.Nat.{ℕ, _+_, _-_, _≤_, _<_}
@@ -16,15 +16,17 @@ use Rattle.words.specs.declared.Order.{Order}
 use Rattle.walk.specs.Walk.{Row, Walk, _>>=_, _>>_, require, text}
 use Rattle.walk.specs.See.{goes, see}
 use Rattle.walk.specs.Tell.{tell}
+use Rattle.walk.proofs.Apart.{false-true}
 use Rattle.walk.proofs.Seen.{and-left, stays-goes}
 use Rattle.walk.proofs.Went.{gate-went}
 use Rattle.walk.proofs.Told.{Silent, silent}
 use Rattle.rules.specs.Rules.{Head, Held, Placed, head, span, makerCode, basicBody, channels, channelsBody, items, itemsBody, patientCode, eventCode, frames, framesBody, delimiter, padding, recordingBody}
 use Rattle.rules.specs.declared.Head as At
+use Rattle.rules.specs.declared.Label.{Label}
 use Rattle.rules.proofs.Room.{stays-head}
-use Rattle.records.specs.Says.{headOf}
+use Rattle.records.specs.Says.{headOf, isGroup}
 use Rattle.records.proofs.Opened.{tell-head, admit-went}
-use Rattle.children.specs.Children.{Said, said, _then_, Known, knownOf, Reads, Inner, is100, is120, is130, is200, is140, isMaker, Chain, Closed, RecordAt, NoRecord}
+use Rattle.children.specs.Children.{Said, said, _then_, Known, knownOf, Reads, Inner, is100, isSubs, is130, is200, is140, isMaker, Chain, Closed, RecordAt, NoRecord}
 use Rattle.children.proofs.Chained.{body-chain}
 use Rattle.children.proofs.Visiting.{chain-parted, chain-closed}
 use Rattle.rows.specs.Listing.{channelRows, frameRows, heldRows, HasRoom, Wrote}
@@ -32,17 +34,17 @@ use Rattle.rows.proofs.Lists.{silent-padding, items-lists, channels-lis
 use Rattle.rows.proofs.Written.{wrote-join, wrote-nothing}
 
 module _ (o : Order) (b : ℕ) (s : List ℕ) (p code : ℕ) where
-  pub held-120 : code ≡ 120 → heldRows o b s p code ≡ channelRows o b s p
+  pub held-group : isGroup code ≡ true → heldRows o b s p code ≡ channelRows o b s p code
   unfolding heldRows
-  held-120 e = rw e
+  held-group e = rw e
 
   pub held-140 : code ≡ 140 → heldRows o b s p code ≡ frameRows o b s p
-  unfolding heldRows
+  unfolding heldRows isGroup
   held-140 e = rw e
 
-  pub held-none : (code ≡ 120 → ⊥) → (code ≡ 140 → ⊥) → heldRows o b s p code ≡ []
+  pub held-none : isGroup code ≡ false → (code ≡ 140 → ⊥) → heldRows o b s p code ≡ []
   unfolding heldRows
-  held-none n₁ n₂ = rw (ne-eqb code 120 n₁, ne-eqb code 140 n₂)
+  held-none n₁ n₂ = rw (n₁, ne-eqb code 140 n₂)
 
 pub silent-basicBody : Silent basicBody
 unfolding basicBody _>>=_ _>>_
@@ -62,10 +64,10 @@ module _ (o : Order) (b : ℕ) (s : List ℕ) (p : ℕ) (fit : p ≤ length s) w
   unfolding said _then_
   reads-rows r = ap (λ (l : Said). l .rows) (r .says) ∙ rw tell-head
 
-  other : (h : Head) (rs : List Row) → (h .code ≡ 120 → ⊥) → (h .code ≡ 140 → ⊥) → rs ≡ record { start = b + (p + 16) - 16; size = span h; code = h .code; serial = h .serial } ∷ [] → Rowed o b s p h rs
-  other h rs n₁ n₂ e = record { fits = record { channels = λ q. absurd (n₁ q); frames = λ q. absurd (n₂ q) }; rows = e ∙ rw (start, held-none o b s p (h .code) n₁ n₂) }
+  other : (h : Head) (rs : List Row) → isGroup (h .code) ≡ false → (h .code ≡ 140 → ⊥) → rs ≡ record { start = b + (p + 16) - 16; size = span h; code = h .code; serial = h .serial } ∷ [] → Rowed o b s p h rs
+  other h rs n₁ n₂ e = record { fits = record { channels = λ q. false-true (sym n₁ ∙ q); frames = λ q. absurd (n₂ q) }; rows = e ∙ rw (start, held-none o b s p (h .code) n₁ n₂) }
 
-  items-rowed : (ok : ℕ → Bool) (h : Head) {code : ℕ} {l : Said} → h .code ≡ code → (code ≡ 120 → ⊥) → (code ≡ 140 → ⊥) → Reads o b s p (items ok (length s - p) h) l → Rowed o b s p h (l .rows)
+  items-rowed : (ok : ℕ → Bool) (h : Head) {code : ℕ} {l : Said} → h .code ≡ code → isGroup code ≡ false → (code ≡ 140 → ⊥) → Reads o b s p (items ok (length s - p) h) l → Rowed o b s p h (l .rows)
   unfolding items
   items-rowed ok h q n₁ n₂ r =
       let n = eqb-true 0 (h .serial) (admit-went o b s (b + (p + 16)) (length s - p) 0 (leb 24) (eqb 0) h (itemsBody ok (span h)) (r .is) .number) in
@@ -73,17 +75,18 @@ module _ (o : Order) (b : ℕ) (s : List ℕ) (p : ℕ) (fit : p ≤ length s) w
 
   -- a record is one row, and those of the records that it holds
   pub inner-rows : {k : Known} {h : Head} {l : Said} → Inner o b s p k h l → Rowed o b s p h (l .rows)
-  unfolding channels items frames heldRows makerCode
+  unfolding channels items frames isGroup makerCode
   inner-rows {h} (is100 q r) =
       let d = admit-went o b s (b + (p + 16)) (length s - p) 0 (eqb 128) (eqb 0) h basicBody (r .is) in
-      other h _ (λ z. omega arith) (λ z. omega arith) (rw (reads-rows r, d .rows, silent o b s (b + (p + 16)) basicBody silent-basicBody))
-  inner-rows {k} {h} (is120 q r) =
-      let d = channels-lists o b s (p + 16) (k .basic) (length s - p) h (omega arith) (r .is) in
-      let n = eqb-true 0 (h .serial) (admit-went o b s (b + (p + 16)) (length s - p) 0 (leb 32) (eqb 0) h (channelsBody (k .basic) (span h)) (r .is) .number) in
+      other h _ (rw q) (λ z. omega arith) (rw (reads-rows r, d .rows, silent o b s (b + (p + 16)) basicBody silent-basicBody))
+  inner-rows {h} (isSubs g t q r) =
+      let d = channels-lists o b s (p + 16) g (length s - p) h (omega arith) (r .is) in
+      let n = eqb-true 0 (h .serial) (admit-went o b s (b + (p + 16)) (length s - p) 0 (leb 32) (eqb 0) h (channelsBody g (span h)) (r .is) .number) in
       let i : b + (p + 16 + 16) ≡ b + p + 32 = omega arith in
-      record { fits = record { channels = λ _. omega (arith, d .0); frames = λ z. absurd (omega arith) }; rows = rw (reads-rows r, d .1, ← n, q, start, i) }
-  inner-rows {h} (is130 q r) = items-rowed patientCode h q (λ z. omega arith) (λ z. omega arith) r
-  inner-rows {h} (is200 q r) = items-rowed eventCode h q (λ z. omega arith) (λ z. omega arith) r
+      let u : isGroup (h .code) ≡ true = rw q (t .group) in
+      record { fits = record { channels = λ _. omega (arith, d .0); frames = λ z. false-true (sym (ap isGroup z) ∙ u) }; rows = rw (reads-rows r, d .1, ← n, held-group o b s p (h .code) u, start, i, q, t .code) }
+  inner-rows {h} (is130 q r) = items-rowed patientCode h q refl (λ z. omega arith) r
+  inner-rows {h} (is200 q r) = items-rowed eventCode h q refl (λ z. omega arith) r
   inner-rows {k} {h} (is140 q r) =
       let d = frames-lists o b s (p + 16) (k .basic) (k .own) (k .channels) (k .back) (length s - p) h (omega arith) (r .is) in
       let n = eqb-true 0 (h .serial) (admit-went o b s (b + (p + 16)) (length s - p) 128 (leb 32) (eqb 0) h (require (k .own || eqb (length (k .channels)) (k .basic .channels)) 14 (k .back) >> framesBody (k .basic) (k .channels) h) (r .is) .number) in
@@ -92,13 +95,14 @@ module _ (o : Order) (b : ℕ) (s : List ℕ) (p : ℕ) (fit : p ≤ length s) w
       let j₂ : p + 16 + 8 ≡ p + 24 = omega arith in
       let e = rw (j₁, j₂) at d in
       record {
-        fits = record { channels = λ z. absurd (omega arith); frames = λ _. record { least = e .0; inside = omega (arith, e .1, mul-comm (numberAt o 4 s (p + 20)) (numberAt o 4 s (p + 24))) } };
-        rows = rw (reads-rows r, e .2, ← n, q, start, i);
+        fits = record { channels = λ z. false-true (sym (ap isGroup q) ∙ z); frames = λ _. record { least = e .0; inside = omega (arith, e .1, mul-comm (numberAt o 4 s (p + 20)) (numberAt o 4 s (p + 24))) } };
+        rows = rw (reads-rows r, e .2, ← n, held-140 o b s p (h .code) q, start, i);
       }
   inner-rows {h} (isMaker q r) =
       let d = admit-went o b s (b + (p + 16)) (length s - p) 128 (leb 16) (λ _. true) h (text (span h - 16)) (r .is) in
       let n : 1024 ≤ h .code = leb-true 1024 (h .code) (and-left (leb 1024 (h .code)) _ q) in
-      other h _ (λ z. omega arith) (λ z. omega arith) (rw (reads-rows r, d .rows, silent o b s (b + (p + 16)) (text (span h - 16)) (λ _. tt)))
+      let m : isGroup (h .code) ≡ false = rw (ne-eqb (h .code) 120 (λ z. omega arith), ne-eqb (h .code) 320 (λ z. omega arith), ne-eqb (h .code) 350 (λ z. omega arith)) in
+      other h _ m (λ z. omega arith) (rw (reads-rows r, d .rows, silent o b s (b + (p + 16)) (text (span h - 16)) (λ _. tt)))
 
   -- a delimiter is one row, and what pads the recording is none
   pub closed-rows : {l : Said} → Closed o b s p l → l .rows ≡ record { start = b + p; size = 16; code = 0; serial = 0 } ∷ []
@@ -123,9 +127,9 @@ pub record Listed (o : Order) (b : ℕ) (s : List ℕ) (w : Bool) (out out₁ : 
   pub wrote : Wrote w out out₁ k k₁ done
 
 module _ {o : Order} {b : ℕ} {s : List ℕ} {w : Bool} {out : List ℤ} {k : ℕ} where
-  pub listed-none : (held : Option Held) (h : Head) (x : Placed) (e : ℕ) → span h ≡ 16 + length s → see o b s b (recordingBody held h) ≡ goes x e → Listed o b s w out out k k 0 (tell o b s b (recordingBody held h))
+  pub listed-none : (label : Label) (held : Option Held) (h : Head) (x : Placed) (e : ℕ) → span h ≡ 16 + length s → see o b s b (recordingBody label held h) ≡ goes x e → Listed o b s w out out k k 0 (tell o b s b (recordingBody label held h))
   unfolding said
-  listed-none held h x e n g = record { done = []; left = said o b s b (recordingBody held h); known = knownOf x; chain = body-chain o b s held h n g; all = refl; wrote = wrote-nothing w out k }
+  listed-none label held h x e n g = record { done = []; left = said o b s b (recordingBody label held h); known = knownOf x; chain = body-chain o label b s held h n g; all = refl; wrote = wrote-nothing w out k }
 
   module _ {out₁ : List ℤ} {k₁ p : ℕ} {rs : List Row} (fit : p ≤ length s) (g : Listed o b s w out out₁ k k₁ p rs) where
     pub listed-all : {out₂ : List ℤ} {k₂ : ℕ} → NoRecord o b s p → Wrote w out₁ out₂ k₁ k₂ (record { start = b + p; size = 16; code = 0; serial = 0 } ∷ []) → Wrote w out out₂ k k₂ rs

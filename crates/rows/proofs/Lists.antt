@@ -1,4 +1,4 @@
--- What the walks of the rules list: a record is one row, and behind it a 120 and a 140 list one row for each record that they hold.
+-- What the walks of the rules list: a record is one row, and behind it a 120, 320, 350 and 140 list one row for each record that they hold.
 -- Assumes nothing.
 use mathlib.Core.Path.{_≡_, refl, sym, _∙_}
 use mathlib.Core.Bool.{Bool, true, false, _&&_, _||_}
@@ -16,7 +16,8 @@ use Rattle.walk.specs.Walk.{Row, Walk, give, _>>=_, _>>_, require}
 use Rattle.walk.proofs.Seen.{stays-goes, and-left}
 use Rattle.walk.proofs.Went.{gate-went, went-first}
 use Rattle.walk.proofs.Told.{tell-bind, tell-give, Silent, silent, silent-bind, silent-then}
-use Rattle.rules.specs.Rules.{Head, head, admit, span, coded, fixed, zeros, padding, series, Channel, channel, channelBody, channelsBody, channels, Basic, Item, Frame, item, itemSize, itemList, itemsBody, items, numberList, samples, sampleBytes, samplesIn, width, frameBody, frame, frames, framesBody, Frames, padOk, between}
+use Rattle.rules.specs.Rules.{Head, head, admit, span, coded, fixed, zeros, padding, series, Channel, channel, channelBody, channelsBody, channels, Basic, Sub, Group, fieldIf, Item, Frame, item, itemSize, itemList, itemsBody, items, numberList, samples, sampleBytes, samplesIn, width, frameBody, frame, frames, framesBody, Frames, padOk, between}
+use Rattle.rules.proofs.Cases.{by-shape}
 use Rattle.rules.proofs.Room.{stays-channel, stays-frame}
 use Rattle.records.proofs.Facts.{both-true, both-false}
 use Rattle.records.proofs.Opened.{opened, admit-went, require-went, not-admitted}
@@ -45,9 +46,14 @@ pub silent-frameBody : (size t : ℕ) (cs : List Channel) → Silent (frameBody 
 unfolding frameBody _>>=_ _>>_
 silent-frameBody size t cs = λ _ _ _. silent-bind (samples t cs) _ (silent-samples t cs) (λ _. silent-bind (padding (size - (24 + sampleBytes t cs))) _ (silent-padding (size - (24 + sampleBytes t cs))) (λ _. tt))
 
-pub silent-channelBody : Silent channelBody
-unfolding channelBody _>>=_ _>>_
-silent-channelBody = λ _ _ _ _ _ _ _ _ _ _ _ _ _ _ _ _. tt
+pub silent-channelBody : (k : Sub) → Silent (channelBody k)
+unfolding channelBody fieldIf _>>=_ _>>_
+silent-channelBody =
+    by-shape (λ k. Silent (channelBody k))
+    (λ k _ _ _ _ _ _ _ _ _ _ _ _ _ _ _ _ _ _. tt)
+    (λ k _ _ _ _ _ _ _ _ _ _ _ _ _ _ _ _. tt)
+    (λ k _ _ _ _ _ _ _ _ _ _ _ _ _ _ _ _. tt)
+    (λ k _ _ _ _ _ _ _ _ _ _ _ _ _ _. tt)
 
 silent-item : (ok : ℕ → Bool) (room : ℕ) → Silent (item ok room)
 unfolding item _>>=_ _>>_
@@ -86,10 +92,10 @@ module _ {A : Type 0} (o : Order) (b : ℕ) (s : List ℕ) (step code : ℕ) (w 
       let r = series-lists n (suc i) (room - step) (x .end) (omega (arith, z .0)) (omega (arith, z .0, z .1)) (y .is) in
       tell-bind o b s at (w room i) k (x .is) ∙ rw (lists at room i (x .value) (x .end) (x .is), tell-give o b s (x .end) (series n (suc i) step (room - step) w) (λ l. x .value ∷ l), r, z .0)
 
--- a 125, and a 145, is one row
-channel-lists : (o : Order) (b : ℕ) (s : List ℕ) (at room i : ℕ) (a : Channel) (e : ℕ) → see o b s at (channel room i) ≡ goes a e → tell o b s at (channel room i) ≡ record { start = at; size = 256; code = 125; serial = i } ∷ []
+-- a sub, and a 145, is one row
+channel-lists : (o : Order) (b : ℕ) (s : List ℕ) (k : Sub) (at room i : ℕ) (a : Channel) (e : ℕ) → see o b s at (channel k room i) ≡ goes a e → tell o b s at (channel k room i) ≡ record { start = at; size = 256; code = k .code; serial = i } ∷ []
 unfolding fixed
-channel-lists o b s at room i a e g = one-row o b s 125 0 256 i (λ _. eqb 256) (eqb i) channelBody (λ h k. sym (eqb-true 256 (span h) k)) (λ n k. sym (eqb-true i n k)) silent-channelBody at room g
+channel-lists o b s k at room i a e g = one-row o b s (k .code) 0 256 i (λ _. eqb 256) (eqb i) (channelBody k) (λ h z. sym (eqb-true 256 (span h) z)) (λ n z. sym (eqb-true i n z)) (silent-channelBody k) at room g
 
 frame-lists : (o : Order) (b : ℕ) (s : List ℕ) (size t : ℕ) (cs : List Channel) (at room i : ℕ) (a : Frame) (e : ℕ) → see o b s at (frame size t cs room i) ≡ goes a e → tell o b s at (frame size t cs room i) ≡ record { start = at; size = size; code = 145; serial = i } ∷ []
 unfolding frame
@@ -105,10 +111,10 @@ items-lists o b s ok at room h g =
     d .rows ∙ rw (silent o b s at (itemsBody ok (span h)) (silent-itemsBody ok (span h)), eqb-true 0 (h .serial) (d .number))
 
 module _ (o : Order) (b : ℕ) (s : List ℕ) (p : ℕ) where
-  pub channelsBody-lists : (c : Basic) (n : ℕ) {l : List Channel} {e : ℕ} → see o b s (b + p) (channelsBody c n) ≡ goes l e →
+  pub channelsBody-lists : (c : Group) (n : ℕ) {l : List Channel} {e : ℕ} → see o b s (b + p) (channelsBody c n) ≡ goes l e →
       (n ≡ 32 + 256 * numberAt o 4 s p) ×
-      (see o b s (b + p + 4 + 4 + 8) (series (numberAt o 4 s p) 1 256 (n - 32) channel) ≡ goes l e) ×
-      (tell o b s (b + p) (channelsBody c n) ≡ tell o b s (b + p + 4 + 4 + 8) (series (numberAt o 4 s p) 1 256 (n - 32) channel))
+      (see o b s (b + p + 4 + 4 + 8) (series (numberAt o 4 s p) 1 256 (n - 32) (channel (c .sub))) ≡ goes l e) ×
+      (tell o b s (b + p) (channelsBody c n) ≡ tell o b s (b + p + 4 + 4 + 8) (series (numberAt o 4 s p) 1 256 (n - 32) (channel (c .sub))))
   unfolding channelsBody see tell _>>=_ _>>_
   channelsBody-lists c n g =
       let z : b + p - b ≡ p = omega arith in
@@ -118,16 +124,16 @@ module _ (o : Order) (b : ℕ) (s : List ℕ) (p : ℕ) where
       let g₄ = gate-went _ _ _ _ (g₃ .1) in
       (eqb-true n _ (g₃ .0), g₄ .1, rw (z, g₁ .0, g₂ .0, g₃ .0, g₄ .0))
 
-  -- a 120 is one row, and one for each channel that its first number counts
-  pub channels-lists : (c : Basic) (room : ℕ) (h : Head) {l : List Channel} {e : ℕ} → p + room ≤ length s + 16 → see o b s (b + p) (channels c room h) ≡ goes l e →
+  -- a 120, 320 or 350 is one row, and one for each sub that its first number counts
+  pub channels-lists : (c : Group) (room : ℕ) (h : Head) {l : List Channel} {e : ℕ} → p + room ≤ length s + 16 → see o b s (b + p) (channels c room h) ≡ goes l e →
       (span h ≡ 32 + 256 * numberAt o 4 s p) ×
-      (tell o b s (b + p) (channels c room h) ≡ record { start = b + p - 16; size = span h; code = h .code; serial = 0 } ∷ seriesRows (numberAt o 4 s p) 1 (b + (p + 16)) 256 125)
+      (tell o b s (b + p) (channels c room h) ≡ record { start = b + p - 16; size = span h; code = h .code; serial = 0 } ∷ seriesRows (numberAt o 4 s p) 1 (b + (p + 16)) 256 (c .sub .code))
   unfolding channels
   channels-lists c room h f k =
       let d = admit-went o b s (b + p) room 0 (leb 32) (eqb 0) h (channelsBody c (span h)) k in
       let x = channelsBody-lists c (span h) (d .rest) in
       let z : b + p + 4 + 4 + 8 ≡ b + (p + 16) = omega arith in
-      let r = series-lists o b s 256 125 channel (channel-lists o b s) stays-channel (numberAt o 4 s p) 1 (span h - 32) (b + p + 4 + 4 + 8) (omega arith) (omega (arith, d .inside, x .0)) (x .1) in
+      let r = series-lists o b s 256 (c .sub .code) (channel (c .sub)) (channel-lists o b s (c .sub)) (stays-channel (c .sub)) (numberAt o 4 s p) 1 (span h - 32) (b + p + 4 + 4 + 8) (omega arith) (omega (arith, d .inside, x .0)) (x .1) in
       (x .0, d .rows ∙ rw (x .2, r, z, eqb-true 0 (h .serial) (d .number)))
 
   -- the three numbers of a 140: seconds, the frames' length, and how many

@@ -11,6 +11,7 @@ use Rattle.words.specs.Sizes.{Addressable}
 use Rattle.words.specs.Numbers.{numberAt}
 use Rattle.words.specs.declared.Order.{Order}
 use Rattle.walk.specs.Walk.{pick, Row}
+use Rattle.records.specs.Says.{isGroup, subCode}
 use Rattle.children.specs.Recordings.{OfBody, OfRecording, OfFile}
 use Rattle.rows.specs.Rows.{written}
 
@@ -23,19 +24,19 @@ unfoldable pub seriesRows : ℕ → ℕ → ℕ → ℕ → ℕ → List Row
 seriesRows zero i start step code = []
 seriesRows (suc n) i start step code = record { start = start; size = step; code = code; serial = i } ∷ seriesRows n (suc i) (start + step) step code
 
--- of the record at byte p of the part s, which stands at b: a 120's channels, one for each that its count says; a 140's frames, likewise
+-- of the record at byte p of the part s, which stands at b: the subs of a 120, 320 or 350, one for each that its count says; a 140's frames, likewise
 module _ (o : Order) (b : ℕ) (s : List ℕ) (p : ℕ) where
-  abbrev pub channelRows : List Row
-  channelRows = seriesRows (numberAt o 4 s (p + 16)) 1 (b + p + 32) 256 125
+  abbrev pub channelRows : ℕ → List Row
+  channelRows code = seriesRows (numberAt o 4 s (p + 16)) 1 (b + p + 32) 256 (subCode code)
 
   abbrev pub frameRows : List Row
   frameRows = seriesRows (numberAt o 4 s (p + 24)) 1 (b + p + 32) (numberAt o 4 s (p + 20)) 145
 
   -- the rows of the records that it holds, by its code
   unfoldable pub heldRows : ℕ → List Row
-  heldRows code = pick (eqb code 120) channelRows (pick (eqb code 140) frameRows [])
+  heldRows code = pick (isGroup code) (channelRows code) (pick (eqb code 140) frameRows [])
 
--- a 120 from byte p up to q is as long as its channels ask for
+-- a 120, 320 or 350 from byte p up to q is as long as its subs ask for
 abbrev pub ChannelsFit : Order → List ℕ → ℕ → ℕ → Type 0
 ChannelsFit o s p q = q - p ≡ 32 + 256 * numberAt o 4 s (p + 16)
 
@@ -46,7 +47,7 @@ pub record FramesFit (o : Order) (s : List ℕ) (p q : ℕ) : Type 0 where
 
 -- the record of this code from byte p up to q has room for the records that it holds
 pub record HasRoom (o : Order) (s : List ℕ) (p q code : ℕ) : Type 0 where
-  pub channels : code ≡ 120 → ChannelsFit o s p q
+  pub channels : isGroup code ≡ true → ChannelsFit o s p q
   pub frames : code ≡ 140 → FramesFit o s p q
 
 -- What is asked and said of rows in a buffer

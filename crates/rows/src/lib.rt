@@ -11,6 +11,8 @@ ghost use Rattle.rows.specs.Listing.{seriesRows, channelRows, frameRows,
 ghost use Rattle.rows.specs.Listing.{Wrote, WroteUpTo, WroteIf, Ahead, SeriesAhead, RecordAhead, BodyAhead, RecordingAhead};
 ghost use Rattle.rows.specs.Listing.{BodyListed, RecordingListed, FileListed};
 use children::Direct;
+use records::channels::is_group;
+use records::channels::sub_code;
 use rules::Channel;
 use rules::Channels;
 use rules::Delimiter;
@@ -81,9 +83,10 @@ fn series_rows(
     next
 }
 
-// The rows of the 125s of the 120 at byte p of the part s, which ends at byte `end`.
+// The rows of the subs of the record with this code at byte p of the part s, which ends at byte `end`.
 fn channels_rows(
     o: Order,
+    code: u32,
     s: &[u8],
     base: usize,
     p: usize,
@@ -94,7 +97,7 @@ fn channels_rows(
 ) -> usize
     requires { ⌜ RecordAhead base (now s) p end k 16 ⌝ }
     ensures { λ r. ⌜ WroteIf (ChannelsFit o (now (s .entry)) p end) (base + end) write (now (out .entry)) (now (out .exit)) k r
-        (channelRows o base (now (s .entry)) p) ⌝ }
+        (channelRows o base (now (s .entry)) p code) ⌝ }
 {
     if end - p < Channels::SUBS {
         return k;
@@ -104,7 +107,7 @@ fn channels_rows(
         return k;
     }
     let subs = base + p + Channels::SUBS;
-    series_rows(out, k, write, subs, Channel::LENGTH, Channel::CODE, count)
+    series_rows(out, k, write, subs, Channel::LENGTH, sub_code(code), count)
 }
 
 // The rows of the frames of the 140 at byte p of the part s, which ends at byte `end`.
@@ -153,8 +156,8 @@ fn record_rows(
     let p = h.at;
     let code = h.code;
     let next = put(out, k, write, base + p, end - p, code, h.serial);
-    if code == Channels::CODE {
-        return channels_rows(o, s, base, p, end, out, next, write);
+    if is_group(code) {
+        return channels_rows(o, code, s, base, p, end, out, next, write);
     }
     if code == Frames::CODE {
         return frames_rows(o, s, base, p, end, out, next, write);

@@ -1,4 +1,4 @@
--- In an accepted file each recording, its 100, and its own 120, 130, 200 and 140 stand at places where their walks give what the reading holds.
+-- In an accepted file each recording, its 100, and its own 120 or 320, 130, 200, 350 and 140 stand at places where their walks give what the reading holds.
 -- With `Places` this reaches each channel, item, frame and sample.
 -- Assumes nothing.
 use mathlib.Core.Path.{_≡_, refl, sym, ap, _∙_}
@@ -16,11 +16,12 @@ use Rattle.walk.specs.Plays.{Plays}
 use Rattle.walk.specs.Walk.{Event, numeral, piece, blank, row, Row, rows, size, render, run, Walk, passed, give, refuse, _>>=_, _>>_, number}
 use Rattle.walk.proofs.Apart.{false-true}
 use Rattle.walk.proofs.Laws.{by-parts, by-split, by-check, checked, taken, plays-gave, traced}
-use Rattle.rules.specs.Rules.{between, padding, padded, makerCode, zeros, delimiter, basicBody, Head, head, span, admit, Basic, basic, Channel, channel, channels, Item, item, itemBytes, items, patientCode, eventCode, Frame, frame, frames, numberList, width, samplesIn, sampleBytes, FileHeader, Next, next, Part, part, Held, heldChannels, heldPatient, Placed, recording, recordings, File, fileHeader, file, orderOf, judge, signals}
+use Rattle.rules.specs.declared.Form.the-variants as Form
+use Rattle.rules.specs.Rules.{between, padding, padded, makerCode, zeros, delimiter, basicBody, Head, head, span, admit, basic, Label, Group, channelsGroup, montageSub, montageGroup, Channel, channel, channels, montage, Item, item, itemBytes, items, patientCode, eventCode, Frame, frame, frames, numberList, width, samplesIn, sampleBytes, FileHeader, Next, next, Part, part, Held, heldChannels, heldPatient, Placed, recording, recordings, File, fileHeader, file, orderOf, judge, signals}
 use Rattle.rules.specs.Places.{bytesBefore}
 use Rattle.rules.proofs.Steps.{body-steps}
 use Rattle.rules.proofs.Canon.{recordings-ok}
-use Rattle.rules.proofs.Places.{numbers-found, Found, found-run, found-whole, found-first, found-second, found-at, head-size, admit-size, join, gave-nothing, fixed-size, channels-bytes, items-bytes, channel-found, frames-found, frame-found, samples-found, items-in, zeros-none, piece-size}
+use Rattle.rules.proofs.Places.{numbers-found, Found, found-run, found-whole, found-first, found-second, found-at, head-size, admit-size, join, gave-nothing, fixed-size, channels-bytes, items-bytes, channel-found, montage-is, frames-found, frame-found, samples-found, items-in, zeros-none, piece-size}
 use Rattle.rules.proofs.Renew.{if-case, pick-case, admit-ok, basic-size, next-ok, channels-ok, items-ok, frames-ok}
 use Rattle.rules.proofs.Turn.{accepted, is-render}
 
@@ -116,8 +117,11 @@ module _ {A : Type 0} (body : ℕ → Head → Walk A) (code fuel : ℕ) (held :
       }))
       (λ _ p. let a = part-absent p in record { bytes = a .0; found = λ o. absurd (a .1 o) })
 
-channels-rest : (b : Basic) (room : ℕ) (h : Head) (u : List Event) (cs : List Channel) → Plays u (channels b room h) cs → (size u + 16 ≡ span h) × (span h ≤ room)
-channels-rest b room h u cs p = (channels-bytes b room h p, channels-ok b room h p .2)
+channels-rest : (g : Group) (room : ℕ) (h : Head) (u : List Event) (cs : List Channel) → Plays u (channels g room h) cs → (size u + 16 ≡ span h) × (span h ≤ room)
+channels-rest g room h u cs p = (channels-bytes g room h p, channels-ok g room h p .2)
+
+montage-rest : (label : Label) (es : List Channel) (room : ℕ) (h : Head) (u : List Event) (cs : List Channel) → Plays u (montage label es room h) cs → (size u + 16 ≡ span h) × (span h ≤ room)
+montage-rest label es room h u cs p = channels-rest (montageGroup (length es)) room h u cs (montage-is label es room h p .1)
 
 items-rest : (ok : ℕ → Bool) (room : ℕ) (h : Head) (u : List Event) (is : List Item) → Plays u (items ok room h) is → (size u + 16 ≡ span h) × (span h ≤ room)
 items-rest ok room h u is p = (items-bytes ok room h p, items-ok ok room h p .2)
@@ -126,12 +130,13 @@ delimiter-size : (h : Head) {t : List Event} {u : Unit {0}} → Plays t (delimit
 unfolding delimiter size _>>=_ _>>_
 delimiter-size h p = let q = traced p in rw (q .events) (omega arith)
 
-pub record InRecording (t : List Event) (x : Placed) : Type 0 where
+pub record InRecording (label : Label) (t : List Event) (x : Placed) : Type 0 where
   pub bytes : size t ≡ x .layout .bytes
   pub basic : Found t (basic (x .layout .bytes - 16)) (x .recording .basic) 16
-  pub channels : x .recording .ownChannels ≡ true → Rest t (channels (x .recording .basic)) (x .recording .channels) (x .layout .at120 + 16)
+  pub channels : x .recording .ownChannels ≡ true → Rest t (channels (channelsGroup label (x .recording .basic .channels))) (x .recording .channels) (x .layout .at120 + 16)
   pub patient : x .recording .ownPatient ≡ true → Rest t (items patientCode) (x .recording .patient) (x .layout .at130 + 16)
   pub events : x .recording .ownEvents ≡ true → Rest t (items eventCode) (x .recording .events) (x .layout .at200 + 16)
+  pub montage : x .recording .ownMontage ≡ true → Rest t (montage label (x .recording .channels)) (x .recording .montage) (x .layout .at350 + 16)
   pub back : ℕ
   pub padded : ℕ
   pub frames : Rest t (frames (x .recording .basic) (x .recording .ownChannels) (x .recording .channels) back)
@@ -143,58 +148,72 @@ spot p room bytes h k = omega arith
 step₁ : (u₁ u₂ u₃ u₄ n bytes m : ℕ) → u₁ ≡ 16 → u₂ ≡ 0 → u₃ ≡ 128 → u₄ + n ≡ bytes - 144 + 16 → m + n ≡ bytes - 144 → 16 ≤ n → u₁ + (u₂ + (u₃ + (u₄ + 0))) + n ≡ bytes + 16
 step₁ u₁ u₂ u₃ u₄ n bytes m h₁ h₂ h₃ h₄ h₅ h₆ = omega arith
 
-pub recording-found : (held : Option Held) (room i : ℕ) {t : List Event} {x : Placed} → Plays t (recording held room i) x → InRecording t x
+-- how far a walk has come: behind one part more, of so many bytes
+abbrev total : List ℕ → ℕ
+total [] = 0
+total (n ∷ ns) = n + total ns
+
+further : (ns : List ℕ) (n before left all : ℕ) → total ns + before ≡ all → n + left ≡ before → total (ns ++ (n ∷ [])) + left ≡ all
+further [] n before left all h k = omega arith
+further (m ∷ ns) n before left all h k = omega (arith, further ns n before left (total ns + before) refl k)
+
+pub recording-found : (label : Label) (held : Option Held) (room i : ℕ) {t : List Event} {x : Placed} → Plays t (recording label held room i) x → InRecording label t x
 unfolding recording signals size _>>=_ _>>_ between padding padded makerCode
-recording-found held room i p =
+recording-found label held room i p =
     by-parts (head room) _ p λ h u₁ _ e₁ h₀ p.
     by-parts (admit room 128 (leb 16) (eqb i) h) _ (checked p .then) λ _ u₂ _ e₂ a₀ p.
     by-parts (basic (span h - 16)) _ (rw body-steps at p) λ b u₃ v₃ e₃ b₀ p.
     by-parts (next (span h) (span h - 144)) _ p λ n u₄ _ e₄ n₀ p.
-    by-parts (part (span h) 120 (channels b) (heldChannels held) n) _ p λ c u₅ v₅ e₅ c₀ p.
+    by-parts (part (span h) (channelsGroup label (b .channels) .code) (channels (channelsGroup label (b .channels))) (heldChannels held) n) _ p λ c u₅ v₅ e₅ c₀ p.
     by-parts (part (span h) 130 (items patientCode) (heldPatient held) (c .next)) _ p λ q u₆ v₆ e₆ q₀ p.
-    by-parts (part (span h) 200 (items eventCode) (some []) (q .next)) _ p λ e u₇ v₇ e₇ s₀ p.
-    by-parts (frames b (c .own) (c .value) (span h - e .next .room - 20) (e .next .room) (e .next .head)) _ (checked p .then) λ f u₈ v₈ e₈ f₀ p.
-    by-parts (next (span h) (e .next .room - span (e .next .head))) _ p λ d u₉ v₉ e₉ d₀ p.
-    by-parts (delimiter (d .head)) _ p λ _ u₁₀ v₁₀ e₁₀ l₀ p. by-check p λ _ p. by-check p λ _ p.
+    by-parts (part (span h) 200 (items eventCode) (some []) (q .next)) _ p λ s u₇ v₇ e₇ s₀ p.
+    by-parts (part (span h) 350 (montage label (c .value)) (some []) (s .next)) _ p λ e u₈ v₈ e₈ m₀ p.
+    by-parts (frames b (c .own) (c .value) (span h - e .next .room - 20) (e .next .room) (e .next .head)) _ (checked p .then) λ f u₉ v₉ e₉ f₀ p.
+    by-parts (next (span h) (e .next .room - span (e .next .head))) _ p λ d u₁₀ v₁₀ e₁₀ d₀ p.
+    by-parts (delimiter (d .head)) _ p λ _ u₁₁ v₁₁ e₁₁ l₀ p. by-check p λ _ p. by-check p λ _ p.
     let r = taken p in
-    by-parts (zeros (r .bytes)) _ (r .then) λ _ u₁₁ v₁₁ e₁₁ z₀ p.
+    by-parts (zeros (r .bytes)) _ (r .then) λ _ u₁₂ v₁₂ e₁₂ z₀ p.
     let h₁ = head-size room h₀ in
     let a₁ = admit-size room 128 (leb 16) (eqb i) h a₀ in
     let b₁ = fixed-size 128 100 0 112 basicBody (λ t c q. basic-size q) (span h - 16) b₀ in
     let n₁ = next-ok (span h) (span h - 144) n₀ in
-    let c₁ = part-at (channels b) 120 (span h) (heldChannels held) n (channels-rest b) c₀ in
+    let c₁ = part-at (channels (channelsGroup label (b .channels))) (channelsGroup label (b .channels) .code) (span h) (heldChannels held) n (channels-rest (channelsGroup label (b .channels))) c₀ in
     let q₁ = part-at (items patientCode) 130 (span h) (heldPatient held) (c .next) (items-rest patientCode) q₀ in
     let s₁ = part-at (items eventCode) 200 (span h) (some []) (q .next) (items-rest eventCode) s₀ in
-    let k₁ : size u₁ + (size u₂ + (size u₃ + (size u₄ + 0))) + n .room ≡ span h + 16 = step₁ (size u₁) (size u₂) (size u₃) (size u₄) (n .room) (span h) _ h₁ a₁ b₁ (next-bytes (span h) (span h - 144) n₀) (n₁ .left) (n₁ .enough) in
-    let k₂ : size u₁ + (size u₂ + (size u₃ + (size u₄ + (size u₅ + 0)))) + c .next .room ≡ span h + 16 = sum₂ (size u₁) (size u₂) (size u₃) (size u₄) (size u₅) (n .room) (c .next .room) (span h) k₁ (c₁ .bytes) in
-    let k₃ : size u₁ + (size u₂ + (size u₃ + (size u₄ + (size u₅ + (size u₆ + 0))))) + q .next .room ≡ span h + 16 = sum₃ (size u₁) (size u₂) (size u₃) (size u₄) (size u₅) (size u₆) (c .next .room) (q .next .room) (span h) k₂ (q₁ .bytes) in
-    let k₄ : size u₁ + (size u₂ + (size u₃ + (size u₄ + (size u₅ + (size u₆ + (size u₇ + 0)))))) + e .next .room ≡ span h + 16 = sum₄ (size u₁) (size u₂) (size u₃) (size u₄) (size u₅) (size u₆) (size u₇) (q .next .room) (e .next .room) (span h) k₃ (s₁ .bytes) in
+    let m₁ = part-at (montage label (c .value)) 350 (span h) (some []) (s .next) (montage-rest label (c .value)) m₀ in
+    let k₁ : total (size u₁ ∷ size u₂ ∷ size u₃ ∷ size u₄ ∷ []) + n .room ≡ span h + 16 = step₁ (size u₁) (size u₂) (size u₃) (size u₄) (n .room) (span h) _ h₁ a₁ b₁ (next-bytes (span h) (span h - 144) n₀) (n₁ .left) (n₁ .enough) in
+    let k₂ : total (size u₁ ∷ size u₂ ∷ size u₃ ∷ size u₄ ∷ size u₅ ∷ []) + c .next .room ≡ span h + 16 = further (size u₁ ∷ size u₂ ∷ size u₃ ∷ size u₄ ∷ []) (size u₅) (n .room) (c .next .room) (span h + 16) k₁ (c₁ .bytes) in
+    let k₃ : total (size u₁ ∷ size u₂ ∷ size u₃ ∷ size u₄ ∷ size u₅ ∷ size u₆ ∷ []) + q .next .room ≡ span h + 16 = further (size u₁ ∷ size u₂ ∷ size u₃ ∷ size u₄ ∷ size u₅ ∷ []) (size u₆) (c .next .room) (q .next .room) (span h + 16) k₂ (q₁ .bytes) in
+    let k₄ : total (size u₁ ∷ size u₂ ∷ size u₃ ∷ size u₄ ∷ size u₅ ∷ size u₆ ∷ size u₇ ∷ []) + s .next .room ≡ span h + 16 = further (size u₁ ∷ size u₂ ∷ size u₃ ∷ size u₄ ∷ size u₅ ∷ size u₆ ∷ []) (size u₇) (q .next .room) (s .next .room) (span h + 16) k₃ (s₁ .bytes) in
+    let k₅ : total (size u₁ ∷ size u₂ ∷ size u₃ ∷ size u₄ ∷ size u₅ ∷ size u₆ ∷ size u₇ ∷ size u₈ ∷ []) + e .next .room ≡ span h + 16 = further (size u₁ ∷ size u₂ ∷ size u₃ ∷ size u₄ ∷ size u₅ ∷ size u₆ ∷ size u₇ ∷ []) (size u₈) (s .next .room) (e .next .room) (span h + 16) k₄ (m₁ .bytes) in
     let f₁ = frames-found (record { hour = 0; minute = 0; second = 0; channels = [] }) b (c .own) (c .value) (span h - e .next .room - 20) (e .next .room) (e .next .head) f₀ .bytes in
     let f₂ = frames-ok b (c .own) (c .value) (span h - e .next .room - 20) (e .next .room) (e .next .head) f₀ .2 in
     let d₁ = next-bytes (span h) (e .next .room - span (e .next .head)) d₀ in
     let d₂ = next-ok (span h) (e .next .room - span (e .next .head)) d₀ .enough in
-    let y₁ : size (r .others) ≡ 0 + 0 = join u₁₁ v₁₁ e₁₁ (zeros-none (r .bytes) z₀) (gave-nothing p) in
-    let y₂ : size v₁₀ ≡ d .room - 16 + (0 + 0) = ap size (r .split) ∙ piece-size (r .bytes) (d .room - 16) (size (r .others)) (0 + 0) (r .width) y₁ in
-    let y₃ : size v₉ ≡ 0 + (d .room - 16 + (0 + 0)) = join u₁₀ v₁₀ e₁₀ (delimiter-size (d .head) l₀) y₂ in
-    let y₄ : size v₈ ≡ size u₉ + (0 + (d .room - 16 + (0 + 0))) = join u₉ v₉ e₉ refl y₃ in
-    let y₅ : size v₇ ≡ size u₈ + (size u₉ + (0 + (d .room - 16 + (0 + 0)))) = join u₈ v₈ e₈ refl y₄ in
-    let y₆ = join u₁ _ e₁ refl (join u₂ _ e₂ refl (join u₃ _ e₃ refl (join u₄ _ e₄ refl (join u₅ _ e₅ refl (join u₆ _ e₆ refl (join u₇ _ e₇ refl y₅)))))) in
+    let y₁ : size (r .others) ≡ 0 + 0 = join u₁₂ v₁₂ e₁₂ (zeros-none (r .bytes) z₀) (gave-nothing p) in
+    let y₂ : size v₁₁ ≡ d .room - 16 + (0 + 0) = ap size (r .split) ∙ piece-size (r .bytes) (d .room - 16) (size (r .others)) (0 + 0) (r .width) y₁ in
+    let y₃ : size v₁₀ ≡ 0 + (d .room - 16 + (0 + 0)) = join u₁₁ v₁₁ e₁₁ (delimiter-size (d .head) l₀) y₂ in
+    let y₄ : size v₉ ≡ size u₁₀ + (0 + (d .room - 16 + (0 + 0))) = join u₁₀ v₁₀ e₁₀ refl y₃ in
+    let y₅ : size v₈ ≡ size u₉ + (size u₁₀ + (0 + (d .room - 16 + (0 + 0)))) = join u₉ v₉ e₉ refl y₄ in
+    let y₆ = join u₁ _ e₁ refl (join u₂ _ e₂ refl (join u₃ _ e₃ refl (join u₄ _ e₄ refl (join u₅ _ e₅ refl (join u₆ _ e₆ refl (join u₇ _ e₇ refl (join u₈ _ e₈ refl y₅))))))) in
     rw (plays-gave p)
     (record {
-      bytes = y₆ ∙ all (size u₁) (size u₂) (size u₃) (size u₄) (size u₅) (size u₆) (size u₇) (size u₈) (size u₉) (d .room) (e .next .room) (span (e .next .head)) (span h) k₄ f₁ f₂ d₁ d₂;
+      bytes = y₆ ∙ all (size u₁) (size u₂) (size u₃) (size u₄) (size u₅) (size u₆) (size u₇) (size u₈) (size u₉) (size u₁₀) (d .room) (e .next .room) (span (e .next .head)) (span h) k₅ f₁ f₂ d₁ d₂;
       basic = found-at (found-second u₁ (found-second u₂ (found-first v₃ (found-whole b₀) e₃) e₂ refl) e₁ refl) (front (size u₁) (size u₂) h₁ a₁);
       channels = λ o. rest-at (spot _ (n .room) (span h) k₁ (far (size u₁) _ h₁)) (rest-later u₁ e₁ (rest-later u₂ e₂ (rest-later u₃ e₃ (rest-later u₄ e₄ (rest-first v₅ e₅ (c₁ .found o))))));
       patient = λ o. rest-at (spot _ (c .next .room) (span h) k₂ (far (size u₁) _ h₁)) (rest-later u₁ e₁ (rest-later u₂ e₂ (rest-later u₃ e₃ (rest-later u₄ e₄ (rest-later u₅ e₅ (rest-first v₆ e₆ (q₁ .found o)))))));
       events = λ o. rest-at (spot _ (q .next .room) (span h) k₃ (far (size u₁) _ h₁)) (rest-later u₁ e₁ (rest-later u₂ e₂ (rest-later u₃ e₃ (rest-later u₄ e₄ (rest-later u₅ e₅ (rest-later u₆ e₆ (rest-first v₇ e₇ (s₁ .found o))))))));
+      montage = λ o. rest-at (spot _ (s .next .room) (span h) k₄ (far (size u₁) _ h₁))
+          (rest-later u₁ e₁ (rest-later u₂ e₂ (rest-later u₃ e₃ (rest-later u₄ e₄ (rest-later u₅ e₅ (rest-later u₆ e₆ (rest-later u₇ e₇ (rest-first v₈ e₈ (m₁ .found o)))))))));
       back = span h - e .next .room - 20;
       padded = f .padded;
-      frames = rest-at (spot _ (e .next .room) (span h) k₄ (far (size u₁) _ h₁)) (rest-later u₁ e₁ (rest-later u₂ e₂ (rest-later u₃ e₃ (rest-later u₄ e₄ (rest-later u₅ e₅ (rest-later u₆ e₆ (rest-later u₇ e₇
-          (record { room = e .next .room; head = e .next .head; found = found-first v₈ (found-whole f₀) e₈ }))))))));
+      frames = rest-at (spot _ (e .next .room) (span h) k₅ (far (size u₁) _ h₁)) (rest-later u₁ e₁ (rest-later u₂ e₂ (rest-later u₃ e₃ (rest-later u₄ e₄ (rest-later u₅ e₅ (rest-later u₆ e₆ (rest-later u₇ e₇ (rest-later u₈ e₈
+          (record { room = e .next .room; head = e .next .head; found = found-first v₉ (found-whole f₀) e₉ })))))))));
     })
   where
-    all : (a b c d e f g i j dr er sp s : ℕ) → a + (b + (c + (d + (e + (f + (g + 0)))))) + er ≡ s + 16 → i + 16 ≡ sp → sp ≤ er → j + dr ≡ er - sp + 16 → 16 ≤ dr →
-        a + (b + (c + (d + (e + (f + (g + (i + (j + (0 + (dr - 16 + (0 + 0))))))))))) ≡ s
-    all a b c d e f g i j dr er sp s h k l m n = omega arith
+    all : (a b c d e f g x i j dr er sp s : ℕ) → a + (b + (c + (d + (e + (f + (g + (x + 0))))))) + er ≡ s + 16 → i + 16 ≡ sp → sp ≤ er → j + dr ≡ er - sp + 16 → 16 ≤ dr →
+        a + (b + (c + (d + (e + (f + (g + (x + (i + (j + (0 + (dr - 16 + (0 + 0)))))))))))) ≡ s
+    all a b c d e f g x i j dr er sp s h k l m n = omega arith
 
     front : (a b : ℕ) → a ≡ 16 → b ≡ 0 → a + (b + 0) ≡ 16
     front a b h k = omega arith
@@ -202,52 +221,43 @@ recording-found held room i p =
     far : (a b : ℕ) → a ≡ 16 → 16 ≤ a + b
     far a b h = omega arith
 
-    sum₂ : (a b c d e n m s : ℕ) → a + (b + (c + (d + 0))) + n ≡ s + 16 → e + m ≡ n → a + (b + (c + (d + (e + 0)))) + m ≡ s + 16
-    sum₂ a b c d e n m s h k = omega arith
-
-    sum₃ : (a b c d e f n m s : ℕ) → a + (b + (c + (d + (e + 0)))) + n ≡ s + 16 → f + m ≡ n → a + (b + (c + (d + (e + (f + 0))))) + m ≡ s + 16
-    sum₃ a b c d e f n m s h k = omega arith
-
-    sum₄ : (a b c d e f g n m s : ℕ) → a + (b + (c + (d + (e + (f + 0))))) + n ≡ s + 16 → g + m ≡ n → a + (b + (c + (d + (e + (f + (g + 0)))))) + m ≡ s + 16
-    sum₄ a b c d e f g n m s h k = omega arith
-
 -- one of the recordings
 
-pub record OneOf (t : List Event) (i : ℕ) (x : Placed) (p : ℕ) : Type 0 where
+pub record OneOf (label : Label) (t : List Event) (i : ℕ) (x : Placed) (p : ℕ) : Type 0 where
   pub held : Option Held
   pub room : ℕ
-  pub found : Found t (recording held room i) x p
+  pub found : Found t (recording label held room i) x p
 
-one-later : (t : List Event) {u v : List Event} {i p q : ℕ} {x : Placed} → t ++ u ≡ v → size t + p ≡ q → OneOf u i x p → OneOf v i x q
+one-later : {label : Label} (t : List Event) {u v : List Event} {i p q : ℕ} {x : Placed} → t ++ u ≡ v → size t + p ≡ q → OneOf label u i x p → OneOf label v i x q
 one-later t e h o = record { held = o .held; room = o .room; found = found-second t (o .found) e h }
 
-one-first : {t : List Event} (u : List Event) {v : List Event} {i p : ℕ} {x : Placed} → t ++ u ≡ v → OneOf t i x p → OneOf v i x p
+one-first : {label : Label} {t : List Event} (u : List Event) {v : List Event} {i p : ℕ} {x : Placed} → t ++ u ≡ v → OneOf label t i x p → OneOf label v i x p
 one-first u e o = record { held = o .held; room = o .room; found = found-first u (o .found) e }
 
-recordings-step : (d : Placed) (n : ℕ) (held : Option Held) (room i j : ℕ) →
-    ((held : Option Held) (room : ℕ) (t : List Event) (ps : List Placed) → Plays t (recordings n held room (suc i)) ps → OneOf t (suc i + j) (getD ps j d) (bytesBefore j ps)) →
-    {t : List Event} {ps : List Placed} → Plays t (recordings (suc n) held room i) ps → OneOf t (i + suc j) (getD ps (suc j) d) (bytesBefore (suc j) ps)
+recordings-step : (label : Label) (d : Placed) (n : ℕ) (held : Option Held) (room i j : ℕ) →
+    ((held : Option Held) (room : ℕ) (t : List Event) (ps : List Placed) → Plays t (recordings label n held room (suc i)) ps → OneOf label t (suc i + j) (getD ps j d) (bytesBefore j ps)) →
+    {t : List Event} {ps : List Placed} → Plays t (recordings label (suc n) held room i) ps → OneOf label t (i + suc j) (getD ps (suc j) d) (bytesBefore (suc j) ps)
 unfolding recordings bytesBefore
-recordings-step d n held room i j ih p =
-    by-parts (recording held room i) _ p λ x u v e r₀ p.
-    by-parts (recordings n _ _ (suc i)) _ p λ ps y z e₁ q₀ p.
+recordings-step label d n held room i j ih p =
+    by-parts (recording label held room i) _ p λ x u v e r₀ p.
+    by-parts (recordings label n _ _ (suc i)) _ p λ ps y z e₁ q₀ p.
     let m : i + suc j ≡ suc i + j = omega arith in
-    let b : size u ≡ x .layout .bytes = recording-found held room i r₀ .bytes in
+    let b : size u ≡ x .layout .bytes = recording-found label held room i r₀ .bytes in
     rw (m, plays-gave p) (one-later u e (ap (λ (k : ℕ). k + bytesBefore j ps) b) (one-first z e₁ (ih _ _ y ps q₀)))
 
-recordings-here : (d : Placed) (n : ℕ) (held : Option Held) (room i : ℕ) {t : List Event} {ps : List Placed} → Plays t (recordings (suc n) held room i) ps → OneOf t (i + 0) (getD ps 0 d) (bytesBefore 0 ps)
+recordings-here : (label : Label) (d : Placed) (n : ℕ) (held : Option Held) (room i : ℕ) {t : List Event} {ps : List Placed} → Plays t (recordings label (suc n) held room i) ps → OneOf label t (i + 0) (getD ps 0 d) (bytesBefore 0 ps)
 unfolding recordings bytesBefore
-recordings-here d n held room i p =
-    by-parts (recording held room i) _ p λ x u v e r₀ p.
-    by-split (recordings n _ _ (suc i)) _ p λ ps _ _ q₀ p.
+recordings-here label d n held room i p =
+    by-parts (recording label held room i) _ p λ x u v e r₀ p.
+    by-split (recordings label n _ _ (suc i)) _ p λ ps _ _ q₀ p.
     let m : i + 0 ≡ i = omega arith in
     rw (m, plays-gave p) (record { held = held; room = room; found = found-first v (found-whole r₀) e })
 
-pub recordings-found : (d : Placed) (n : ℕ) (held : Option Held) (room i : ℕ) {t : List Event} {ps : List Placed} → Plays t (recordings n held room i) ps →
-    (j : ℕ) → j < n → OneOf t (i + j) (getD ps j d) (bytesBefore j ps)
-recordings-found d zero held room i p j k = absurd (omega arith)
-recordings-found d (suc n) held room i p zero k = recordings-here d n held room i p
-recordings-found d (suc n) held room i p (suc j) k = recordings-step d n held room i j (λ held′ room′ t ps q. recordings-found d n held′ room′ (suc i) q j (omega arith)) p
+pub recordings-found : (label : Label) (d : Placed) (n : ℕ) (held : Option Held) (room i : ℕ) {t : List Event} {ps : List Placed} → Plays t (recordings label n held room i) ps →
+    (j : ℕ) → j < n → OneOf label t (i + j) (getD ps j d) (bytesBefore j ps)
+recordings-found label d zero held room i p j k = absurd (omega arith)
+recordings-found label d (suc n) held room i p zero k = recordings-here label d n held room i p
+recordings-found label d (suc n) held room i p (suc j) k = recordings-step label d n held room i j (λ held′ room′ t ps q. recordings-found label d n held′ room′ (suc i) q j (omega arith)) p
 
 header-bytes : (n : ℕ) {t : List Event} {f : FileHeader} → Plays t (fileHeader n) f → size t ≡ 32
 unfolding fileHeader size _>>=_ _>>_
@@ -267,30 +277,45 @@ module _ (s : List ℕ) (b : Bytes s) {v : File} {r : List ℕ} {t : List Event}
   asked f = found-run f (orderOf s) s (is-render s b h)
 
   -- recording k, from 0
-  pub recording-at : (d : Placed) (k : ℕ) → k < length (v .recordings) → OneOf t (1 + k) (getD (v .recordings) k d) (32 + bytesBefore k (v .recordings))
+  pub recording-at : (d : Placed) (k : ℕ) → k < length (v .recordings) → OneOf (v .heading .label) t (1 + k) (getD (v .recordings) k d) (32 + bytesBefore k (v .recordings))
   unfolding file
   recording-at d k l =
       by-parts (fileHeader (length s)) _ (accepted s b h .plays) λ f u w e f₀ p.
-      by-parts (recordings (f .count) none (length s - 32) 1) _ p λ ps y z e₁ r₀ p.
+      by-parts (recordings (f .heading .label) (f .count) none (length s - 32) 1) _ p λ ps y z e₁ r₀ p.
       let q : v .recordings ≡ ps = ap (λ (x : File). x .recordings) (plays-gave p) in
-      let n : k < f .count = omega (arith, recordings-ok (f .count) none (length s - 32) 1 r₀ .0, ap length q) in
-      let g : OneOf y (1 + k) (getD (v .recordings) k d) (bytesBefore k (v .recordings)) = rw q (recordings-found d (f .count) none (length s - 32) 1 r₀ k n) in
+      let a : v .heading .label ≡ f .heading .label = ap (λ (x : File). x .heading .label) (plays-gave p) in
+      let n : k < f .count = omega (arith, recordings-ok (f .heading .label) (f .count) none (length s - 32) 1 r₀ .0, ap length q) in
+      let g : OneOf (v .heading .label) y (1 + k) (getD (v .recordings) k d) (bytesBefore k (v .recordings)) = rw (q, a) (recordings-found (f .heading .label) d (f .count) none (length s - 32) 1 r₀ k n) in
       one-later u e (ap (λ (x : ℕ). x + bytesBefore k (v .recordings)) (header-bytes (length s) f₀)) (one-first z e₁ g)
 
   module _ (d : Placed) (k : ℕ) (l : k < length (v .recordings)) where
-    inside : InRecording (recording-at d k l .found .events) (getD (v .recordings) k d)
-    inside = recording-found _ _ _ (recording-at d k l .found .plays)
+    inside : InRecording (v .heading .label) (recording-at d k l .found .events) (getD (v .recordings) k d)
+    inside = recording-found _ _ _ _ (recording-at d k l .found .plays)
 
     -- its 100
     pub basic-at : Found t (basic (getD (v .recordings) k d .layout .bytes - 16)) (getD (v .recordings) k d .recording .basic) (32 + bytesBefore k (v .recordings) + 16)
     basic-at = found-inside (recording-at d k l .found) (inside .basic)
 
-    -- channel j of its own 120, from 0
+    -- channel j of its own 120 or 320, from 0
     pub channel-at : (c : Channel) → getD (v .recordings) k d .recording .ownChannels ≡ true → (j : ℕ) → j < length (getD (v .recordings) k d .recording .channels) →
-        (room : ℕ) × Found t (channel room (1 + j)) (getD (getD (v .recordings) k d .recording .channels) j c) (32 + bytesBefore k (v .recordings) + (getD (v .recordings) k d .layout .at120 + 16 + (16 + 256 * j)))
+        (room : ℕ) × Found t (channel (channelsGroup (v .heading .label) (getD (v .recordings) k d .recording .basic .channels) .sub) room (1 + j)) (getD (getD (v .recordings) k d .recording .channels) j c)
+        (32 + bytesBefore k (v .recordings) + (getD (v .recordings) k d .layout .at120 + 16 + (16 + 256 * j)))
     channel-at c o j m =
         let x = inside .channels o in
-        (_, found-inside (recording-at d k l .found) (found-inside (x .found) (channel-found c (getD (v .recordings) k d .recording .basic) (x .room) (x .head) (x .found .plays) j m)))
+        (_, found-inside (recording-at d k l .found) (found-inside (x .found) (channel-found c (channelsGroup (v .heading .label) (getD (v .recordings) k d .recording .basic .channels)) (x .room) (x .head) (x .found .plays) j m)))
+
+    -- a recording with a 350 is one of electrodes
+    pub montage-form : getD (v .recordings) k d .recording .ownMontage ≡ true → v .heading .label .form ≡ Form.Electrodes
+    montage-form o = let x = inside .montage o in montage-is (v .heading .label) (getD (v .recordings) k d .recording .channels) (x .room) (x .head) (x .found .plays) .0
+
+    -- channel j of its own 350, from 0
+    pub montage-at : (c : Channel) → getD (v .recordings) k d .recording .ownMontage ≡ true → (j : ℕ) → j < length (getD (v .recordings) k d .recording .montage) →
+        (room : ℕ) × Found t (channel (montageSub (length (getD (v .recordings) k d .recording .channels))) room (1 + j)) (getD (getD (v .recordings) k d .recording .montage) j c)
+        (32 + bytesBefore k (v .recordings) + (getD (v .recordings) k d .layout .at350 + 16 + (16 + 256 * j)))
+    montage-at c o j m =
+        let x = inside .montage o in
+        let p = montage-is (v .heading .label) (getD (v .recordings) k d .recording .channels) (x .room) (x .head) (x .found .plays) .1 in
+        (_, found-inside (recording-at d k l .found) (found-inside (x .found) (channel-found c (montageGroup (length (getD (v .recordings) k d .recording .channels))) (x .room) (x .head) p j m)))
 
     -- frame j, from 0
     pub frame-at : (f : Frame) (j : ℕ) → j < length (getD (v .recordings) k d .recording .frames) →

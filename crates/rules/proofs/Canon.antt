@@ -14,11 +14,11 @@ use Rattle.walk.specs.Plays.{Plays, gives, checks, reads}
 use Rattle.walk.specs.Walk.{Event, size, _>>=_, _>>_}
 use Rattle.walk.proofs.Laws.{plays-bind, plays-give, size-append, zeros-length, by-split, by-check, by-read, plays-gave}
 use Rattle.rules.specs.Canonical.{sizeFor, multiplierFor, most, zeroes, recordOf, framesBytes, content, recordingHead, recordingEvents, digits, headerEvents, anew}
-use Rattle.rules.specs.Rules.{between, padding, padded, makerCode, sameBytes, version, form, allSpaces, decimal, countOf, countFits, countIs, isScript, spelled, spellingOf, Heading, FileHeader, fileHeader, span, lengthOf, Recording, Held, contentLimit, Placed, recording, recordings, File, Contents, contents, file, channels}
+use Rattle.rules.specs.Rules.{between, padding, padded, makerCode, sameBytes, version, formed, formOf, allSpaces, decimal, countOf, countFits, countIs, isScript, spelled, spellingOf, Label, Heading, FileHeader, fileHeader, span, lengthOf, Recording, Held, contentLimit, Placed, recording, recordings, File, Contents, contents, file, channels}
 use Rattle.rules.proofs.Renew.{and-true, and-both, record-size}
 use Rattle.rules.proofs.Renewed.{RecordingOk, recording-ok, Anew, recording-from}
 use Rattle.rules.proofs.Sized.{sized, Sized}
-use Rattle.rules.proofs.Spellings.{spells}
+use Rattle.rules.proofs.Named.{spells, forms}
 
 -- A recording
 
@@ -31,69 +31,71 @@ max-low m h = omega arith
 pad-low : (n : ℕ) → n ≤ 128 * most → lengthOf (sizeFor n) (multiplierFor n) - n ≤ 128
 pad-low n h = omega (arith, sized n .close, max-low (multiplierFor n) (sized n .low h))
 
-pub total-low : (held : Option Held) (r : Recording) → RecordingOk held r → 16 + size (content r) ≤ 128 * most
-total-low held r k = close-at (16 + size (content r)) _ (k .limited) (pad-low (framesBytes (r .seconds) (r .channels) (r .frames)) (k .frames .total))
+pub total-low : (label : Label) (held : Option Held) (r : Recording) → RecordingOk label held r → 16 + size (content label r) ≤ 128 * most
+total-low label held r k = close-at (16 + size (content label r)) _ (k .limited) (pad-low (framesBytes (r .seconds) (r .channels) (r .frames)) (k .frames .total))
 
 -- its events, written anew
-abbrev pub recordingWritten : ℕ → Recording → List Event
-recordingWritten i r = recordOf (recordingHead i r) (content r ++ (zeroes (span (recordingHead i r) - (16 + size (content r))) ∷ []))
+abbrev pub recordingWritten : Label → ℕ → Recording → List Event
+recordingWritten label i r = recordOf (recordingHead label i r) (content label r ++ (zeroes (span (recordingHead label i r) - (16 + size (content label r))) ∷ []))
 
-pub recording-plays : (held : Option Held) (r : Recording) → RecordingOk held r → (i room : ℕ) → i < 256 ^ 4 → span (recordingHead i r) ≤ room →
-    Anew held room i (recordingWritten i r) r (span (recordingHead i r))
-recording-plays held r k i room b s =
-    let T : ℕ = 16 + size (content r) in
+pub recording-plays : (label : Label) (held : Option Held) (r : Recording) → RecordingOk label held r → (i room : ℕ) → i < 256 ^ 4 → span (recordingHead label i r) ≤ room →
+    Anew label held room i (recordingWritten label i r) r (span (recordingHead label i r))
+recording-plays label held r k i room b s =
+    let T : ℕ = 16 + size (content label r) in
     let z : Sized T = sized T in
-    let l : multiplierFor T ≤ 128 = z .low (total-low held r k) in
-    recording-from held r k (recordingHead i r) (span (recordingHead i r) - T) (omega (arith, z .serves)) (z .close) i room
+    let l : multiplierFor T ≤ 128 = z .low (total-low label held r k) in
+    recording-from label held r k (recordingHead label i r) (span (recordingHead label i r) - T) (omega (arith, z .serves)) (z .close) i room
     (record { size = omega (arith, z .small); code = omega arith; serial = b; multiplier = omega arith }) refl
-    (record { low = l; small = omega (arith, z .small); fits = le-leb 16 (span (recordingHead i r)) (omega (arith, z .serves)); room = s; serial = eq-eqb i i refl })
+    (record { low = l; small = omega (arith, z .small); fits = le-leb 16 (span (recordingHead label i r)) (omega (arith, z .serves)); room = s; serial = eq-eqb i i refl })
 
-pub recording-size : (i : ℕ) (r : Recording) → size (recordingWritten i r) ≡ span (recordingHead i r)
+pub recording-size : (label : Label) (i : ℕ) (r : Recording) → size (recordingWritten label i r) ≡ span (recordingHead label i r)
 unfolding size
-recording-size i r = rw (record-size, size-append, zeros-length) (omega (arith, sized (16 + size (content r)) .serves))
+recording-size label i r = rw (record-size, size-append, zeros-length) (omega (arith, sized (16 + size (content label r)) .serves))
 
 -- The recordings
 
-abbrev pub RecordingsOk : Option Held → List Recording → Type 0
-RecordingsOk held [] = Unit {0}
-RecordingsOk held (r ∷ rs) = RecordingOk held r × RecordingsOk (some (record { channels = r .channels; patient = r .patient })) rs
+abbrev pub RecordingsOk : Label → Option Held → List Recording → Type 0
+RecordingsOk label held [] = Unit {0}
+RecordingsOk label held (r ∷ rs) = RecordingOk label held r × RecordingsOk label (some (record { channels = r .channels; patient = r .patient })) rs
 
 abbrev pub readings : List Placed → List Recording
 readings ps = map (λ p. p .recording) ps
 
-pub recordings-ok : (n : ℕ) (held : Option Held) (room i : ℕ) {t : List Event} {ps : List Placed} → Plays t (recordings n held room i) ps → (length ps ≡ n) × RecordingsOk held (readings ps)
+pub recordings-ok : (label : Label) (n : ℕ) (held : Option Held) (room i : ℕ) {t : List Event} {ps : List Placed} → Plays t (recordings label n held room i) ps →
+    (length ps ≡ n) × RecordingsOk label held (readings ps)
 unfolding recordings
-recordings-ok zero held room i p = rw (plays-gave p) (refl, tt)
-recordings-ok (suc n) held room i p =
-    by-split (recording held room i) _ p λ r _ _ r₀ p.
-    by-split (recordings n _ _ (suc i)) _ p λ ps _ _ q₀ p.
-    let j = recordings-ok n _ _ (suc i) q₀ in
-    rw (plays-gave p) (ap suc (j .0), (recording-ok held room i r₀, j .1))
+recordings-ok label zero held room i p = rw (plays-gave p) (refl, tt)
+recordings-ok label (suc n) held room i p =
+    by-split (recording label held room i) _ p λ r _ _ r₀ p.
+    by-split (recordings label n _ _ (suc i)) _ p λ ps _ _ q₀ p.
+    let j = recordings-ok label n _ _ (suc i) q₀ in
+    rw (plays-gave p) (ap suc (j .0), (recording-ok label held room i r₀, j .1))
 
 -- a recording that plays its events written anew
-pub record PlayedAnew (i : ℕ) (p : Placed) : Type 0 where
+pub record PlayedAnew (label : Label) (i : ℕ) (p : Placed) : Type 0 where
   pub held : Option Held
   pub room : ℕ
-  pub plays : Plays (recordingWritten i (p .recording)) (recording held room i) p
+  pub plays : Plays (recordingWritten label i (p .recording)) (recording label held room i) p
 
-abbrev pub EachAnew : ℕ → List Placed → Type 0
-EachAnew i [] = Unit {0}
-EachAnew i (p ∷ ps) = PlayedAnew i p × EachAnew (suc i) ps
+abbrev pub EachAnew : Label → ℕ → List Placed → Type 0
+EachAnew label i [] = Unit {0}
+EachAnew label i (p ∷ ps) = PlayedAnew label i p × EachAnew label (suc i) ps
 
-pub record AnewAll (held : Option Held) (room i : ℕ) (t : List Event) (rs : List Recording) : Type 0 where
+pub record AnewAll (label : Label) (held : Option Held) (room i : ℕ) (t : List Event) (rs : List Recording) : Type 0 where
   pub placed : List Placed
   pub same : readings placed ≡ rs
-  pub each : EachAnew i placed
-  pub plays : Plays t (recordings (length rs) held room i) placed
+  pub each : EachAnew label i placed
+  pub plays : Plays t (recordings label (length rs) held room i) placed
 
-recordings-play : (rs : List Recording) (held : Option Held) → RecordingsOk held rs → (i room : ℕ) → i + length rs ≤ 256 ^ 4 → size (recordingEvents i rs) ≤ room → AnewAll held room i (recordingEvents i rs) rs
+recordings-play : (label : Label) (rs : List Recording) (held : Option Held) → RecordingsOk label held rs → (i room : ℕ) → i + length rs ≤ 256 ^ 4 → size (recordingEvents label i rs) ≤ room →
+    AnewAll label held room i (recordingEvents label i rs) rs
 unfolding recordings recordingEvents
-recordings-play [] held k i room b s = record { placed = []; same = refl; each = tt; plays = gives }
-recordings-play (r ∷ rs) held k i room b s =
-    let e = size-append (recordingWritten i r) (recordingEvents (suc i) rs) in
-    let f = recording-size i r in
-    let a = recording-plays held r (k .0) i room (omega arith) (omega arith) in
-    let c = recordings-play rs _ (k .1) (suc i) (room - a .layout .bytes) (omega arith) (rw (a .bytes) (omega arith)) in
+recordings-play label [] held k i room b s = record { placed = []; same = refl; each = tt; plays = gives }
+recordings-play label (r ∷ rs) held k i room b s =
+    let e = size-append (recordingWritten label i r) (recordingEvents label (suc i) rs) in
+    let f = recording-size label i r in
+    let a = recording-plays label held r (k .0) i room (omega arith) (omega arith) in
+    let c = recordings-play label rs _ (k .1) (suc i) (room - a .layout .bytes) (omega arith) (rw (a .bytes) (omega arith)) in
     record { placed = record { recording = r; layout = a .layout } ∷ c .placed; same = ap (λ (x : List Recording). r ∷ x) (c .same); each = (record { held = held; room = room; plays = a .plays }, c .each); plays = plays-bind _ (a .plays) (plays-give _ (c .plays)) }
 
 -- The file header
@@ -172,17 +174,18 @@ digits-ok k h = go (ltb k 10) refl
         })
 
 header-read : (g : Heading) (k n : ℕ) → HeaderOk g k → Digits k (digits k) → 32 ≤ n →
-    Plays (headerEvents g k) (fileHeader n) (record { heading = record { spelling = spellingOf (spelled (g .spelling)); script = g .script }; count = countIs (countOf (digits k)) })
-unfolding headerEvents fileHeader version form sameBytes allSpaces _>>=_ _>>_ between padding padded makerCode
+    Plays (headerEvents g k) (fileHeader n)
+    (record { heading = record { spelling = spellingOf (spelled (g .spelling)); label = record { form = formOf (formed (g .label .form)) }; script = g .script }; count = countIs (countOf (digits k)) })
+unfolding headerEvents fileHeader version sameBytes allSpaces _>>=_ _>>_ between padding padded makerCode
 header-read g k n o d l =
     let c : countFits (countOf (digits k)) ≡ true = rw (d .count) (o .count) in
     let w = spells (g .spelling) in
+    let f = forms (g .label .form) in
     let b₂ : Bytes version = omega arith in
-    let b₃ : Bytes form = omega arith in
     let b₄ : Bytes (76 ∷ []) = omega arith in
     let b₅ : Bytes (replicate 10 32) = omega arith in
     let b₆ : Bytes (g .script ∷ []) = (o .byte, tt) in
-    checks (le-leb 32 n l) (reads (w .long) (w .bytes) (checks (w .one) (reads refl b₂ (checks refl (reads refl b₃ (checks refl (reads refl b₄ (checks refl
+    checks (le-leb 32 n l) (reads (w .long) (w .bytes) (checks (w .one) (reads refl b₂ (checks refl (reads (f .long) (f .bytes) (checks (f .one) (reads refl b₄ (checks refl
     (reads refl b₆ (checks (o .letter) (reads (d .long) (d .bytes) (checks c (reads refl b₅ (checks refl gives))))))))))))))
 
 pub header-plays : (g : Heading) (k n : ℕ) → HeaderOk g k → 32 ≤ n → Plays (headerEvents g k) (fileHeader n) (record { heading = g; count = k })
@@ -190,40 +193,40 @@ unfolding between padding padded makerCode
 header-plays g k n o l =
     let d = digits-ok k (leb-true k 64 (and-true (leb 1 k) _ (o .count) .1)) in
     let m : countIs (countOf (digits k)) ≡ k = ap countIs (d .count) in
-    rw (m, spells (g .spelling) .same) at (header-read g k n o d l)
+    rw (m, spells (g .spelling) .same, forms (g .label .form) .same) at (header-read g k n o d l)
 
 pub header-size : (g : Heading) (k : ℕ) → HeaderOk g k → size (headerEvents g k) ≡ 32
-unfolding headerEvents version form size between padding padded makerCode
-header-size g k o = omega (arith, spells (g .spelling) .long, digits-ok k (leb-true k 64 (and-true (leb 1 k) _ (o .count) .1)) .long)
+unfolding headerEvents version size between padding padded makerCode
+header-size g k o = omega (arith, spells (g .spelling) .long, forms (g .label .form) .long, digits-ok k (leb-true k 64 (and-true (leb 1 k) _ (o .count) .1)) .long)
 
 -- The file
 
 pub record ContentsOk (v : Contents) : Type 0 where
   pub header : HeaderOk (v .heading) (length (v .recordings))
-  pub recordings : RecordingsOk none (v .recordings)
+  pub recordings : RecordingsOk (v .heading .label) none (v .recordings)
 
 pub file-ok : (n : ℕ) {t : List Event} {v : File} → Plays t (file n) v → ContentsOk (contents v)
 unfolding file
 file-ok n p =
     by-split (fileHeader n) _ p λ f _ _ f₀ p.
-    by-split (recordings (f .count) none (n - 32) 1) _ p λ ps _ _ r₀ p.
-    let j = recordings-ok (f .count) none (n - 32) 1 r₀ in
+    by-split (recordings (f .heading .label) (f .count) none (n - 32) 1) _ p λ ps _ _ r₀ p.
+    let j = recordings-ok (f .heading .label) (f .count) none (n - 32) 1 r₀ in
     let c : length (readings ps) ≡ f .count = length-map ps (λ q. q .recording) ∙ j .0 in
     rw (plays-gave p) (record { header = rw c (header-ok n f₀); recordings = j .1 })
 
 pub record AnewFile (v : Contents) : Type 0 where
   pub file : File
   pub same : contents file ≡ v
-  pub each : EachAnew 1 (file .recordings)
+  pub each : EachAnew (v .heading .label) 1 (file .recordings)
   pub plays : Plays (anew v) (Rattle.rules.specs.Rules.file (size (anew v))) file
 
 pub file-plays : (v : Contents) → ContentsOk v → AnewFile v
 unfolding file anew between padding padded makerCode
 file-plays v k =
-    let e = size-append (headerEvents (v .heading) (length (v .recordings))) (recordingEvents 1 (v .recordings)) in
+    let e = size-append (headerEvents (v .heading) (length (v .recordings))) (recordingEvents (v .heading .label) 1 (v .recordings)) in
     let f = header-size (v .heading) (length (v .recordings)) (k .header) in
     let n = leb-true (length (v .recordings)) 64 (and-true (leb 1 (length (v .recordings))) _ (k .header .count) .1) in
-    let c = recordings-play (v .recordings) none (k .recordings) 1 (size (headerEvents (v .heading) (length (v .recordings)) ++ recordingEvents 1 (v .recordings)) - 32) (omega arith) (omega arith) in
+    let c = recordings-play (v .heading .label) (v .recordings) none (k .recordings) 1 (size (headerEvents (v .heading) (length (v .recordings)) ++ recordingEvents (v .heading .label) 1 (v .recordings)) - 32) (omega arith) (omega arith) in
     record {
       file = record { heading = v .heading; recordings = c .placed };
       same = λ i. record { heading = v .heading; recordings = c .same i };

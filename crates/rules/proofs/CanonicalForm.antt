@@ -17,19 +17,19 @@ use Rattle.walk.proofs.Laws.{by-parts, plays-gave, size-cleared}
 use Rattle.rules.specs.Canonical.{sizedHead, blanks, zeroes, numerals, rowOf, plainHead, recordOf, frameWritten, frameSize, frameEvents, framesBytes, framesHead, makerEvents, content, recordingHead, recordingEvents, digits, headerEvents, anew, canonical, rewritten, Canonical}
 use Rattle.rules.specs.CanonicalForm.{most, SizedAs, sizeAt, multiplierAt, lengthAt, signalsAt, makersLength, signalsTotal, recordingTotal, RecordingForm, RecordingsForm, CanonicalForm}
 use Rattle.rules.specs.Reading.{Reading, reading}
-use Rattle.rules.specs.Rules.{spelled, version, form, series, Head, span, lengthOf, Channel, sampleBytes, Frame, frame, Maker, Recording, Held, Placed, recording, recordings, between, Heading, fileHeader, File, Contents, contents, file, orderOf, judge}
+use Rattle.rules.specs.Rules.{spelled, version, formed, series, Head, span, lengthOf, Label, Channel, sampleBytes, Frame, frame, Maker, Recording, Held, Placed, recording, recordings, between, Heading, fileHeader, File, Contents, contents, file, orderOf, judge}
 use Rattle.rules.proofs.Asked.{recording-found}
 use Rattle.rules.proofs.Canon.{readings, recordingWritten, PlayedAnew, EachAnew, recordings-ok, file-ok, file-plays, total-low}
 use Rattle.rules.proofs.Chosen.{Opens, frameFilled, frame-chosen, front, shaped, Chosen, recording-chosen, shaped-anew, content-total}
 use Rattle.rules.proofs.Digits.{headerWith, header-chosen, digits-only, leading}
 use Rattle.rules.proofs.Here.{Here, here-as, here-first, here-then, here-byte, here-size, here-multiplier}
+use Rattle.rules.proofs.Named.{spells, forms}
 use Rattle.rules.proofs.Places.{frame-found}
 use Rattle.rules.proofs.Renew.{and-true, All, record-size, MakerOk, makers-size, FrameOk, frame-body-size}
 use Rattle.rules.proofs.Renewed.{RecordingOk, recording-ok}
 use Rattle.rules.proofs.Reserve.{of-recording, reserve-zero}
 use Rattle.rules.proofs.Rewrite.{reading-words, rewrite-canonical, rewrite-bytes, canonical-unique, rewrite-itself, rewrite-same}
 use Rattle.rules.proofs.Sized.{sized, sized-as, sized-unique}
-use Rattle.rules.proofs.Spellings.{spells}
 use Rattle.rules.proofs.Turn.{accepted, is-render, judge-render}
 use Rattle.rules.proofs.Written.{parts, ends, gave-none, plain-is}
 
@@ -84,11 +84,11 @@ record Stood (s : List ℕ) (at at140 : ℕ) (h g : Head) (frames : List Event) 
   multiplier140 : multiplierAt s (at + at140) ≡ g .multiplier
   here : Here (orderOf s) s (at + at140 + 32) frames
 
-stood : (s : List ℕ) (at : ℕ) (r : Recording) (h g : Head) (n : ℕ) (frames : List Event) (pad : ℕ) → Here (orderOf s) s at (shaped r h g n frames pad) →
-    {i : ℕ} → Opens 10 i h → Opens 140 0 g → Stood s at (16 + size (front r)) h g frames
+stood : (label : Label) (s : List ℕ) (at : ℕ) (r : Recording) (h g : Head) (n : ℕ) (frames : List Event) (pad : ℕ) → Here (orderOf s) s at (shaped label r h g n frames pad) →
+    {i : ℕ} → Opens 10 i h → Opens 140 0 g → Stood s at (16 + size (front label r)) h g frames
 unfolding recordOf size
-stood s at r h g n frames pad w a b =
-    let w₁ = here-then (recordOf h (front r)) _ w (ap (λ (m : ℕ). at + m) (record-size h (front r))) in
+stood label s at r h g n frames pad w a b =
+    let w₁ = here-then (recordOf h (front label r)) _ w (ap (λ (m : ℕ). at + m) (record-size h (front label r))) in
     let w₂ = here-then (numerals g ++ (rowOf g ∷ numeral 4 (r .seconds) ∷ numeral 4 n ∷ numeral 4 (length (r .frames)) ∷ blanks 4 ∷ [])) _ w₁ refl in
     record {
       size = here-size h _ w (omega (arith, a .small));
@@ -111,7 +111,7 @@ sized-like e f g k = rw (← e, ← f, ← g) k
 pad-is : (l a b c p x : ℕ) → l ≡ a + b + c + 16 + p → x ≡ a + b + c + 16 → p ≡ l - x
 pad-is l a b c p x h k = omega arith
 
-module _ (s : List ℕ) (at i : ℕ) (held : Option Held) (x : Placed) (k : RecordingOk held (x .recording)) where
+module _ (label : Label) (s : List ℕ) (at i : ℕ) (held : Option Held) (x : Placed) (k : RecordingOk label held (x .recording)) where
   abbrev r : Recording
   r = x .recording
 
@@ -119,23 +119,23 @@ module _ (s : List ℕ) (at i : ℕ) (held : Option Held) (x : Placed) (k : Reco
   g₀ = framesHead (r .seconds) (r .channels) (r .frames)
 
   -- the total length of the 10
-  total-is : x .layout .at140 ≡ 16 + size (front r) → lengthAt s (signalsAt at x) ≡ span g₀ → recordingTotal s at x ≡ 16 + size (content r)
-  total-is e f = (λ j. e j + f j + makers-length (r .makers₅) (k .makers₅) j + 16) ∙ sym (content-total r (k .frames))
+  total-is : x .layout .at140 ≡ 16 + size (front label r) → lengthAt s (signalsAt at x) ≡ span g₀ → recordingTotal s at x ≡ 16 + size (content label r)
+  total-is e f = (λ j. e j + f j + makers-length (r .makers₆) (k .makers₆) j + 16) ∙ sym (content-total label r (k .frames))
 
-  recording-known : {t : List Event} → Chosen i t x → Here (orderOf s) s at (cleared t) → RecordingForm s at x → cleared t ≡ recordingWritten i r
+  recording-known : {t : List Event} → Chosen label i t x → Here (orderOf s) s at (cleared t) → RecordingForm s at x → cleared t ≡ recordingWritten label i r
   recording-known c w f =
       let d : Stood s at (x .layout .at140) (c .head) (c .signals) (cleared (c .frames)) =
-      rw (c .at140) (stood s at r (c .head) (c .signals) (x .layout .frame) (cleared (c .frames)) (c .pad) (here-as (c .events) w) (c .opens) (c .opens140)) in
+      rw (c .at140) (stood label s at r (c .head) (c .signals) (x .layout .frame) (cleared (c .frames)) (c .pad) (here-as (c .events) w) (c .opens) (c .opens140)) in
       let n : signalsTotal x ≡ framesBytes (r .seconds) (r .channels) (r .frames) = ap (λ (m : ℕ). 32 + length (r .frames) * m) (f .filled) in
       let g : c .signals ≡ g₀ = sized-head _ 140 0 (c .signals) (c .opens140) (sized-like n (d .size140) (d .multiplier140) (f .signals)) in
       let l : lengthAt s (signalsAt at x) ≡ span g₀ = (λ j. lengthOf (d .size140 j) (d .multiplier140 j)) ∙ ap (λ (h : Head). span h) g in
-      let h : c .head ≡ recordingHead i r = sized-head _ 10 i (c .head) (c .opens) (sized-like (total-is (c .at140) l) (d .size) (d .multiplier) (f .recording)) in
+      let h : c .head ≡ recordingHead label i r = sized-head _ 10 i (c .head) (c .opens) (sized-like (total-is (c .at140) l) (d .size) (d .multiplier) (f .recording)) in
       let q : cleared (c .frames) ≡ frameEvents (r .seconds) (r .channels) 1 (r .frames) =
       frames-known (orderOf s) s (r .seconds) (r .channels) (x .layout .frame) (f .filled) (length (r .frames)) 1 (c .room) (at + x .layout .at140 + 32) (c .plays) (d .here) (f .plain) in
-      let p : c .pad ≡ span (recordingHead i r) - (16 + size (content r)) =
-      pad-is (span (recordingHead i r)) (16 + size (front r)) (span g₀) (size (makerEvents (r .makers₅))) (c .pad) (16 + size (content r))
-      (ap (λ (b : Head). span b) (sym h) ∙ (c .total ∙ ap (λ (b : Head). 16 + size (front r) + span b + size (makerEvents (r .makers₅)) + 16 + c .pad) g)) (content-total r (k .frames)) in
-      c .events ∙ ((λ j. shaped r (h j) (g j) (f .filled j) (q j) (p j)) ∙ sym (shaped-anew (recordingHead i r) r (span (recordingHead i r) - (16 + size (content r)))))
+      let p : c .pad ≡ span (recordingHead label i r) - (16 + size (content label r)) =
+      pad-is (span (recordingHead label i r)) (16 + size (front label r)) (span g₀) (size (makerEvents (r .makers₆))) (c .pad) (16 + size (content label r))
+      (ap (λ (b : Head). span b) (sym h) ∙ (c .total ∙ ap (λ (b : Head). 16 + size (front label r) + span b + size (makerEvents (r .makers₆)) + 16 + c .pad) g)) (content-total label r (k .frames)) in
+      c .events ∙ ((λ j. shaped label r (h j) (g j) (f .filled j) (q j) (p j)) ∙ sym (shaped-anew label (recordingHead label i r) r (span (recordingHead label i r) - (16 + size (content label r)))))
 
 -- What stands first is known, and so what follows is the same
 
@@ -150,56 +150,56 @@ same-first (a ∷ t) u v e = same-first t u v (cc)
 frame-of : (g g′ : Head) (m m′ n n′ : ℕ) (t u : List Event) → numerals g ++ (rowOf g ∷ numeral 4 m ∷ numeral 4 n ∷ t) ≡ numerals g′ ++ (rowOf g′ ∷ numeral 4 m′ ∷ numeral 4 n′ ∷ u) → n ≡ n′
 frame-of g g′ m m′ n n′ t u e = cc
 
-same-frame : (r : Recording) (h h′ g g′ : Head) (n n′ : ℕ) (frames frames′ : List Event) (pad pad′ : ℕ) → shaped r h g n frames pad ≡ shaped r h′ g′ n′ frames′ pad′ → n ≡ n′
-same-frame r h h′ g g′ n n′ frames frames′ pad pad′ e = frame-of g g′ (r .seconds) (r .seconds) n n′ _ _ (same-first (front r) _ _ (behind-head h h′ _ _ e))
+same-frame : (label : Label) (r : Recording) (h h′ g g′ : Head) (n n′ : ℕ) (frames frames′ : List Event) (pad pad′ : ℕ) → shaped label r h g n frames pad ≡ shaped label r h′ g′ n′ frames′ pad′ → n ≡ n′
+same-frame label r h h′ g g′ n n′ frames frames′ pad pad′ e = frame-of g g′ (r .seconds) (r .seconds) n n′ _ _ (same-first (front label r) _ _ (behind-head h h′ _ _ e))
 
-recording-form : (s : List ℕ) (at i : ℕ) (x : Placed) → PlayedAnew i x → Here (orderOf s) s at (recordingWritten i (x .recording)) → RecordingForm s at x
-recording-form s at i x a w =
+recording-form : (label : Label) (s : List ℕ) (at i : ℕ) (x : Placed) → PlayedAnew label i x → Here (orderOf s) s at (recordingWritten label i (x .recording)) → RecordingForm s at x
+recording-form label s at i x a w =
     let r : Recording = x .recording in
-    let k = recording-ok (a .held) (a .room) i (a .plays) in
-    let c = recording-chosen (a .held) (a .room) i (a .plays) in
-    let h : Head = recordingHead i r in
+    let k = recording-ok label (a .held) (a .room) i (a .plays) in
+    let c = recording-chosen label (a .held) (a .room) i (a .plays) in
+    let h : Head = recordingHead label i r in
     let g : Head = framesHead (r .seconds) (r .channels) (r .frames) in
-    let pad : ℕ = span h - (16 + size (content r)) in
+    let pad : ℕ = span h - (16 + size (content label r)) in
     let n : x .layout .frame ≡ frameSize (r .seconds) (r .channels) =
-    same-frame r (c .head) h (c .signals) g (x .layout .frame) (frameSize (r .seconds) (r .channels)) (cleared (c .frames)) (frameEvents (r .seconds) (r .channels) 1 (r .frames)) (c .pad) pad
-    (sym (c .events) ∙ (of-recording h r pad ∙ shaped-anew h r pad)) in
+    same-frame label r (c .head) h (c .signals) g (x .layout .frame) (frameSize (r .seconds) (r .channels)) (cleared (c .frames)) (frameEvents (r .seconds) (r .channels) 1 (r .frames)) (c .pad) pad
+    (sym (c .events) ∙ (of-recording label h r pad ∙ shaped-anew label h r pad)) in
     let d : Stood s at (x .layout .at140) h g (frameEvents (r .seconds) (r .channels) 1 (r .frames)) =
-    rw (c .at140) (stood s at r h g (frameSize (r .seconds) (r .channels)) (frameEvents (r .seconds) (r .channels) 1 (r .frames)) pad (here-as (shaped-anew h r pad) w)
-    (sized-opens _ 10 i (total-low (a .held) r k)) (sized-opens _ 140 0 (k .frames .total))) in
+    rw (c .at140) (stood label s at r h g (frameSize (r .seconds) (r .channels)) (frameEvents (r .seconds) (r .channels) 1 (r .frames)) pad (here-as (shaped-anew label h r pad) w)
+    (sized-opens _ 10 i (total-low label (a .held) r k)) (sized-opens _ 140 0 (k .frames .total))) in
     let l : lengthAt s (signalsAt at x) ≡ span g = λ j. lengthOf (d .size140 j) (d .multiplier140 j) in
     record {
       plain = λ j m. ap (λ (y : ℕ). numberAt (orderOf s) 4 s (signalsAt at x + 32 + j * y + 12)) n ∙ frames-plain (orderOf s) s (r .seconds) (r .channels) (r .frames) (k .frames .each) 1 (signalsAt at x + 32) (d .here) j m;
       filled = n;
       signals = sized-like (ap (λ (y : ℕ). 32 + length (r .frames) * y) (sym n)) (sym (d .size140)) (sym (d .multiplier140)) (sized-as (framesBytes (r .seconds) (r .channels) (r .frames)));
-      recording = sized-like (sym (total-is s at i (a .held) x k (c .at140) l)) (sym (d .size)) (sym (d .multiplier)) (sized-as (16 + size (content r)));
+      recording = sized-like (sym (total-is label s at i (a .held) x k (c .at140) l)) (sym (d .size)) (sym (d .multiplier)) (sized-as (16 + size (content label r)));
     }
 
 -- The recordings
 
-recordings-known : (s : List ℕ) (n : ℕ) (held : Option Held) (room i at : ℕ) {t : List Event} {ps : List Placed} → Plays t (recordings n held room i) ps → Here (orderOf s) s at (cleared t) → RecordingsForm s at ps →
-    cleared t ≡ recordingEvents i (readings ps)
+recordings-known : (label : Label) (s : List ℕ) (n : ℕ) (held : Option Held) (room i at : ℕ) {t : List Event} {ps : List Placed} → Plays t (recordings label n held room i) ps → Here (orderOf s) s at (cleared t) →
+    RecordingsForm s at ps → cleared t ≡ recordingEvents label i (readings ps)
 unfolding recordings recordingEvents
-recordings-known s zero held room i at p w f = rw (plays-gave p) (gave-none p)
-recordings-known s (suc n) held room i at p w f =
-    by-parts (recording held room i) _ p λ x u v e r₀ p.
-    by-parts (recordings n _ _ (suc i)) _ p λ ps y z e₁ q₀ p.
+recordings-known label s zero held room i at p w f = rw (plays-gave p) (gave-none p)
+recordings-known label s (suc n) held room i at p w f =
+    by-parts (recording label held room i) _ p λ x u v e r₀ p.
+    by-parts (recordings label n _ _ (suc i)) _ p λ ps y z e₁ q₀ p.
     let g : RecordingsForm s at (x ∷ ps) = rw (plays-gave p) at f in
     let j = parts u v e refl (ends y z e₁ refl (gave-none p)) in
     let w₁ : Here (orderOf s) s at (cleared u ++ cleared y) = here-as j w in
-    let a = recording-known s at i held x (recording-ok held room i r₀) (recording-chosen held room i r₀) (here-first (cleared u) (cleared y) w₁) (g .0) in
-    let l : size (cleared u) ≡ x .layout .bytes = size-cleared u ∙ recording-found held room i r₀ .bytes in
-    let b = recordings-known s n _ _ (suc i) (at + x .layout .bytes) q₀ (here-then (cleared u) (cleared y) w₁ (ap (λ (m : ℕ). at + m) l)) (g .1) in
+    let a = recording-known label s at i held x (recording-ok label held room i r₀) (recording-chosen label held room i r₀) (here-first (cleared u) (cleared y) w₁) (g .0) in
+    let l : size (cleared u) ≡ x .layout .bytes = size-cleared u ∙ recording-found label held room i r₀ .bytes in
+    let b = recordings-known label s n _ _ (suc i) (at + x .layout .bytes) q₀ (here-then (cleared u) (cleared y) w₁ (ap (λ (m : ℕ). at + m) l)) (g .1) in
     rw (plays-gave p) (j ∙ (λ k. a k ++ b k))
 
-recordings-form : (s : List ℕ) (at i : ℕ) (ps : List Placed) → EachAnew i ps → Here (orderOf s) s at (recordingEvents i (readings ps)) → RecordingsForm s at ps
+recordings-form : (label : Label) (s : List ℕ) (at i : ℕ) (ps : List Placed) → EachAnew label i ps → Here (orderOf s) s at (recordingEvents label i (readings ps)) → RecordingsForm s at ps
 unfolding recordingEvents
-recordings-form s at i [] a w = tt
-recordings-form s at i (x ∷ ps) a w =
-    let t : List Event = recordingWritten i (x .recording) in
-    let l : size t ≡ x .layout .bytes = recording-found (a .0 .held) (a .0 .room) i (a .0 .plays) .bytes in (
-      recording-form s at i x (a .0) (here-first t (recordingEvents (suc i) (readings ps)) w),
-      recordings-form s (at + x .layout .bytes) (suc i) ps (a .1) (here-then t (recordingEvents (suc i) (readings ps)) w (ap (λ (m : ℕ). at + m) l)),
+recordings-form label s at i [] a w = tt
+recordings-form label s at i (x ∷ ps) a w =
+    let t : List Event = recordingWritten label i (x .recording) in
+    let l : size t ≡ x .layout .bytes = recording-found label (a .0 .held) (a .0 .room) i (a .0 .plays) .bytes in (
+      recording-form label s at i x (a .0) (here-first t (recordingEvents label (suc i) (readings ps)) w),
+      recordings-form label s (at + x .layout .bytes) (suc i) ps (a .1) (here-then t (recordingEvents label (suc i) (readings ps)) w (ap (λ (m : ℕ). at + m) l)),
     )
 
 -- The file
@@ -210,29 +210,30 @@ here-all s t e = record { behind = []; is = e ∙ sym (append-nil (render (order
 -- the first digit of K, and the first recording
 module _ (s : List ℕ) (g : Heading) (d : List ℕ) (t : List Event) (long : length d ≡ 4) (w : Here (orderOf s) s 0 (headerWith g d ++ t)) where
   digit-at : getD s 18 0 ≡ getD d 0 0
-  unfolding size version form
-  digit-at = first d long (here-then (piece Text (spelled (g .spelling)) ∷ piece Text version ∷ piece Text form ∷ piece Letter (76 ∷ []) ∷ piece Text (g .script ∷ []) ∷ []) _ w (omega (arith, spells (g .spelling) .long)))
+  unfolding size version
+  digit-at = first d long (here-then (piece Text (spelled (g .spelling)) ∷ piece Text version ∷ piece Text (formed (g .label .form)) ∷ piece Letter (76 ∷ []) ∷ piece Text (g .script ∷ []) ∷ []) _ w
+      (omega (arith, spells (g .spelling) .long, forms (g .label .form) .long)))
     where
       first : (b : List ℕ) → length b ≡ 4 → {u : List Event} → Here (orderOf s) s 18 (piece Text b ∷ u) → getD s 18 0 ≡ getD b 0 0
       first [] h v = absurd (omega arith)
       first (b ∷ bs) h {u} v = here-byte b bs u v
 
   recordings-at : Here (orderOf s) s 32 t
-  unfolding size version form
-  recordings-at = here-then (headerWith g d) t w (omega (arith, spells (g .spelling) .long))
+  unfolding size version
+  recordings-at = here-then (headerWith g d) t w (omega (arith, spells (g .spelling) .long, forms (g .label .form) .long))
 
 -- events that are in canonical form are those of the contents written anew
 file-known : (s : List ℕ) (n : ℕ) {t : List Event} {v : File} → Plays t (file n) v → s ≡ render (orderOf s) t → CanonicalForm s v t → t ≡ anew (contents v)
 unfolding file anew headerEvents cleared
 file-known s n {t} p e₀ k =
     by-parts (fileHeader n) _ p λ f u w e f₀ p.
-    by-parts (recordings (f .count) none (n - 32) 1) _ p λ ps y z e₁ r₀ p.
+    by-parts (recordings (f .heading .label) (f .count) none (n - 32) 1) _ p λ ps y z e₁ r₀ p.
     let c = header-chosen n f₀ in
     let q : t ≡ headerWith (f .heading) (c .digits) ++ cleared y = sym (k .reserve) ∙ parts u w e (ap cleared (c .events)) (ends y z e₁ refl (gave-none p)) in
     let w₀ : Here (orderOf s) s 0 (headerWith (f .heading) (c .digits) ++ cleared y) = here-as q (here-all s t e₀) in
     let d : c .digits ≡ digits (f .count) = digits-only (c .digits) (c .long) (c .fits) (λ b. k .count (digit-at s (f .heading) (c .digits) (cleared y) (c .long) w₀ ∙ b)) ∙ ap digits (sym (c .count)) in
-    let m : f .count ≡ length (readings ps) = sym (length-map ps (λ x. x .recording) ∙ recordings-ok (f .count) none (n - 32) 1 r₀ .0) in
-    let a = recordings-known s (f .count) none (n - 32) 1 32 r₀ (recordings-at s (f .heading) (c .digits) (cleared y) (c .long) w₀) (rw (plays-gave p) at (k .recordings)) in
+    let m : f .count ≡ length (readings ps) = sym (length-map ps (λ x. x .recording) ∙ recordings-ok (f .heading .label) (f .count) none (n - 32) 1 r₀ .0) in
+    let a = recordings-known (f .heading .label) s (f .count) none (n - 32) 1 32 r₀ (recordings-at s (f .heading) (c .digits) (cleared y) (c .long) w₀) (rw (plays-gave p) at (k .recordings)) in
     let l = d ∙ ap digits m in
     rw (plays-gave p) (q ∙ (λ i. headerWith (f .heading) (l i) ++ a i))
 
@@ -242,17 +243,17 @@ module _ (s : List ℕ) (v : Contents) (k : between 1 64 (length (v .recordings)
   unfolding between
   counts = let b = and-true (leb 1 (length (v .recordings))) (leb (length (v .recordings)) 64) k in (leb-true 1 (length (v .recordings)) (b .0), leb-true (length (v .recordings)) 64 (b .1))
 
-  anew-here : Here (orderOf s) s 0 (headerWith (v .heading) (digits (length (v .recordings))) ++ recordingEvents 1 (v .recordings))
+  anew-here : Here (orderOf s) s 0 (headerWith (v .heading) (digits (length (v .recordings))) ++ recordingEvents (v .heading .label) 1 (v .recordings))
   unfolding anew headerEvents
   anew-here = here-all s (anew v) e
 
   anew-count : getD s 18 0 ≡ 48 → ⊥
   anew-count h =
       let d = leading (length (v .recordings)) (counts .0) (counts .1) in
-      omega (arith, d .first, digit-at s (v .heading) (digits (length (v .recordings))) (recordingEvents 1 (v .recordings)) (d .long) anew-here)
+      omega (arith, d .first, digit-at s (v .heading) (digits (length (v .recordings))) (recordingEvents (v .heading .label) 1 (v .recordings)) (d .long) anew-here)
 
-  anew-recordings : Here (orderOf s) s 32 (recordingEvents 1 (v .recordings))
-  anew-recordings = recordings-at s (v .heading) (digits (length (v .recordings))) (recordingEvents 1 (v .recordings)) (leading (length (v .recordings)) (counts .0) (counts .1) .long) anew-here
+  anew-recordings : Here (orderOf s) s 32 (recordingEvents (v .heading .label) 1 (v .recordings))
+  anew-recordings = recordings-at s (v .heading) (digits (length (v .recordings))) (recordingEvents (v .heading .label) 1 (v .recordings)) (leading (length (v .recordings)) (counts .0) (counts .1) .long) anew-here
 
 -- The theorems
 
@@ -283,7 +284,7 @@ canonical-form v s b c =
     record {
       count = anew-count s (contents (c .file)) (k .header .count) r;
       reserve = reserve-zero v;
-      recordings = rw m at (recordings-form s 32 1 (a .file .recordings) (a .each) (rw (← m) at w));
+      recordings = rw m at (recordings-form (c .file .heading .label) s 32 1 (a .file .recordings) (a .each) (rw (← m) at w));
     }
 
 -- so what is rewritten has it

@@ -13,8 +13,8 @@ use lib.ListN.{length, replicate}
 use Rattle.walk.specs.Plays.{Plays}
 use Rattle.walk.specs.Walk.{Padding, Event, numeral, piece, row, size, cleared, give, _>>=_, _>>_}
 use Rattle.walk.proofs.Laws.{by-parts, by-check, taken, plays-gave, traced, size-append, size-cleared, zeros-length}
-use Rattle.rules.specs.Canonical.{blanks, zeroes, numerals, rowOf, plainHead, recordOf, basicFields, channelsHead, channelsWritten, itemsHead, itemsWritten, sampleEvents, frameSize, frameEvents, framesHead, framesWritten, makerEvents, optional, delimiterHead, delimiterEvents, content}
-use Rattle.rules.specs.Rules.{padding, zeros, series, limit, Head, head, span, admit, Basic, Channel, sampleBytes, samples, Frame, frame, frameBody, Frames, frames, framesBody, next, Recording, Held, countBack, delimiter, Placed, descriptions, signals, recordingBody, recording}
+use Rattle.rules.specs.Canonical.{blanks, zeroes, numerals, rowOf, plainHead, recordOf, basicFields, channelsHead, channelsWritten, itemsHead, itemsWritten, sampleEvents, frameSize, frameEvents, framesHead, framesWritten, makerEvents, optional, delimiterHead, delimiterEvents, ownGroup, overGroup, content}
+use Rattle.rules.specs.Rules.{padding, zeros, series, limit, Head, head, span, admit, Basic, Label, Channel, sampleBytes, samples, Frame, frame, frameBody, Frames, frames, framesBody, next, Recording, Held, countBack, delimiter, Placed, descriptions, signals, recordingBody, recording}
 use Rattle.rules.proofs.Asked.{recording-found}
 use Rattle.rules.proofs.Places.{frames-found}
 use Rattle.rules.proofs.Renew.{and-true, Admitted, admit-ok, series-ok, next-ok, FramesOk, frames-ok, frames-size, record-size}
@@ -112,18 +112,20 @@ delimiter-chosen h p =
     (λ i. record { size = eqb-true (h .size) 0 (s .holds) i; code = eqb-true (h .code) 0 (c .holds) i; serial = eqb-true (h .serial) 0 (s .then .holds) i; multiplier = eqb-true (h .multiplier) 0 (m .holds) i }, rw (q .events))
 
 -- a recording's records up to the 140
-pub front : Recording → List Event
-front r =
+pub front : Label → Recording → List Event
+front label r =
     recordOf (plainHead 128 100 0) (basicFields (r .basic)) ++ (makerEvents (r .makers₁) ++
-    (optional (r .ownChannels) (recordOf (channelsHead (r .channels)) (channelsWritten (r .channels)) ++ makerEvents (r .makers₂)) ++
+    (optional (r .ownChannels) (recordOf (channelsHead (ownGroup label r) (r .channels)) (channelsWritten (ownGroup label r) (r .channels)) ++ makerEvents (r .makers₂)) ++
     (optional (r .ownPatient) (recordOf (itemsHead 130 (r .patient)) (itemsWritten (r .patient)) ++ makerEvents (r .makers₃)) ++
-    optional (r .ownEvents) (recordOf (itemsHead 200 (r .events)) (itemsWritten (r .events)) ++ makerEvents (r .makers₄)))))
+    (optional (r .ownEvents) (recordOf (itemsHead 200 (r .events)) (itemsWritten (r .events)) ++ makerEvents (r .makers₄)) ++
+    optional (r .ownMontage) (recordOf (channelsHead (overGroup r) (r .montage)) (channelsWritten (overGroup r) (r .montage)) ++ makerEvents (r .makers₅))))))
 
 -- with these heads, this frame length, the frames' events and so much padding behind the delimiter
-abbrev pub shaped : Recording → Head → Head → ℕ → List Event → ℕ → List Event
-shaped r h g n frames pad = recordOf h (front r ++ (numerals g ++ ((rowOf g ∷ signalsFields g (r .seconds) n (r .frames) frames) ++ (makerEvents (r .makers₅) ++ (delimiterEvents ++ (zeroes pad ∷ []))))))
+abbrev pub shaped : Label → Recording → Head → Head → ℕ → List Event → ℕ → List Event
+shaped label r h g n frames pad =
+    recordOf h (front label r ++ (numerals g ++ ((rowOf g ∷ signalsFields g (r .seconds) n (r .frames) frames) ++ (makerEvents (r .makers₆) ++ (delimiterEvents ++ (zeroes pad ∷ []))))))
 
-pub record Chosen (i : ℕ) (t : List Event) (x : Placed) : Type 0 where
+pub record Chosen (label : Label) (i : ℕ) (t : List Event) (x : Placed) : Type 0 where
   -- the heads of the 10 and of the 140
   pub head : Head
   pub opens : Opens 10 i head
@@ -135,10 +137,10 @@ pub record Chosen (i : ℕ) (t : List Event) (x : Placed) : Type 0 where
   pub plays : Plays frames (series (length (x .recording .frames)) 1 (x .layout .frame) room (frame (x .layout .frame) (x .recording .seconds) (x .recording .channels))) (x .recording .frames)
   -- the padding behind the delimiter
   pub pad : ℕ
-  pub events : cleared t ≡ shaped (x .recording) head signals (x .layout .frame) (cleared frames) pad
+  pub events : cleared t ≡ shaped label (x .recording) head signals (x .layout .frame) (cleared frames) pad
   -- where the 140 stands, and how long all is
-  pub at140 : x .layout .at140 ≡ 16 + size (front (x .recording))
-  pub total : span head ≡ 16 + size (front (x .recording)) + span signals + size (makerEvents (x .recording .makers₅)) + 16 + pad
+  pub at140 : x .layout .at140 ≡ 16 + size (front label (x .recording))
+  pub total : span head ≡ 16 + size (front label (x .recording)) + span signals + size (makerEvents (x .recording .makers₆)) + 16 + pad
 
 -- the delimiter's head is read with what stands before it
 delimited : (m z : List Event) (h : Head) → h ≡ delimiterHead → (m ++ numerals h) ++ ((row 16 16 0 0 ∷ []) ++ z) ≡ m ++ (delimiterEvents ++ z)
@@ -152,30 +154,30 @@ shaped-size h g f i m pad = rw (record-size, size-append f, size-append i, size-
 chosen-sums : (B f u s m d e : ℕ) → B ≡ 16 + (f + (16 + (u + (m + (16 + (d - 16)))))) → u + 16 ≡ s → m + d ≡ e - s → 16 ≤ d → s ≤ e → (B - e ≡ 16 + f) × (B ≡ 16 + f + s + m + 16 + (d - 16))
 chosen-sums B f u s m d e h₁ h₂ h₃ h₄ h₅ = (omega arith, omega arith)
 
-pub recording-chosen : (held : Option Held) (room i : ℕ) {t : List Event} {x : Placed} → Plays t (recording held room i) x → Chosen i t x
+pub recording-chosen : (label : Label) (held : Option Held) (room i : ℕ) {t : List Event} {x : Placed} → Plays t (recording label held room i) x → Chosen label i t x
 unfolding recording recordingBody signals frames front recordOf _>>=_ _>>_
-recording-chosen held room i {t} {x} p₀ =
+recording-chosen label held room i {t} {x} p₀ =
     by-parts (head room) _ p₀ λ h u₁ v₁ e₁ h₀ p. by-check p λ c₁ p.
     by-parts (admit room 128 (leb 16) (eqb i) h) _ p λ _ u₂ v₂ e₂ a₀ p.
-    by-parts (descriptions held (span h)) _ p λ d u₃ v₃ e₃ d₀ p. by-check p λ c₂ p.
-    by-parts (frames (d .basic) (d .channels .own) (d .channels .value) (countBack (span h) (d .events .next .room)) (d .events .next .room) (d .events .next .head)) _ p λ f u₄ v₄ e₄ f₀ p.
-    by-parts (admit (d .events .next .room) 128 (leb 32) (eqb 0) (d .events .next .head)) _ f₀ λ _ u₅ v₅ e₅ g₀ f₁. by-check f₁ λ _ f₁.
-    by-parts (next (span h) (d .events .next .room - span (d .events .next .head))) _ p λ n u₆ v₆ e₆ n₀ p.
+    by-parts (descriptions label held (span h)) _ p λ d u₃ v₃ e₃ d₀ p. by-check p λ c₂ p.
+    by-parts (frames (d .basic) (d .channels .own) (d .channels .value) (countBack (span h) (d .montage .next .room)) (d .montage .next .room) (d .montage .next .head)) _ p λ f u₄ v₄ e₄ f₀ p.
+    by-parts (admit (d .montage .next .room) 128 (leb 32) (eqb 0) (d .montage .next .head)) _ f₀ λ _ u₅ v₅ e₅ g₀ f₁. by-check f₁ λ _ f₁.
+    by-parts (next (span h) (d .montage .next .room - span (d .montage .next .head))) _ p λ n u₆ v₆ e₆ n₀ p.
     by-parts (delimiter (n .head)) _ p λ _ u₇ v₇ e₇ l₀ p. by-check p λ _ p. by-check p λ _ p.
     let y = padding-last (n .room - 16) _ p in
-    let g : Head = d .events .next .head in
-    let left : ℕ = d .events .next .room in
-    let F : List Event = tablesEvents d in
+    let g : Head = d .montage .next .head in
+    let left : ℕ = d .montage .next .room in
+    let F : List Event = tablesEvents label d in
     let M : List Event = makerEvents (n .makers) in
     let s = signals-inside (d .basic) (d .channels .value) g f₁ in
     let l = delimiter-chosen (n .head) l₀ in
     let S : List Event = rowOf g ∷ signalsFields g (f .seconds) (f .size) (f .frames) (cleared (s .frames)) in
     let s₁ : cleared u₄ ≡ S = parts u₅ v₅ e₅ (admit-written left 128 (leb 32) (eqb 0) g g₀) (s .events) in
     let w : cleared t ≡ recordOf h (F ++ (numerals g ++ (S ++ (M ++ (delimiterEvents ++ (zeroes (n .room - 16) ∷ [])))))) =
-    parts u₁ v₁ e₁ (head-written room h₀) (parts u₂ v₂ e₂ (admit-written room 128 (leb 16) (eqb i) h a₀) (parts u₃ v₃ e₃ (tables-written held (span h) d₀) (parts u₄ v₄ e₄ s₁
+    parts u₁ v₁ e₁ (head-written room h₀) (parts u₂ v₂ e₂ (admit-written room 128 (leb 16) (eqb i) h a₀) (parts u₃ v₃ e₃ (tables-written label held (span h) d₀) (parts u₄ v₄ e₄ s₁
     (parts u₆ v₆ e₆ (next-written (span h) (left - span g) n₀) (parts u₇ v₇ e₇ (l .1) (y .1)) ∙ delimited M (zeroes (n .room - 16) ∷ []) (n .head) (l .0))) ∙ append-assoc F (numerals g) _)) in
     let b₁ : span h ≡ 16 + (size F + (16 + (size S + (size M + (16 + (n .room - 16)))))) =
-    sym (recording-found held room i p₀ .bytes ∙ ap (λ (z : Placed). z .layout .bytes) (y .0)) ∙ (sym (size-cleared t) ∙ (ap size w ∙ shaped-size h g F S M (n .room - 16))) in
+    sym (recording-found label held room i p₀ .bytes ∙ ap (λ (z : Placed). z .layout .bytes) (y .0)) ∙ (sym (size-cleared t) ∙ (ap size w ∙ shaped-size h g F S M (n .room - 16))) in
     let b₂ : size S + 16 ≡ span g = ap (λ (m : ℕ). m + 16) (ap size (sym s₁) ∙ size-cleared u₄) ∙ frames-found (record { hour = 0; minute = 0; second = 0; channels = [] }) (d .basic) (d .channels .own) (d .channels .value) _ left g f₀ .bytes in
     let b₃ = next-ok (span h) (left - span g) n₀ in
     let j = chosen-sums (span h) (size F) (size S) (span g) (size M) (n .room) left b₁ b₂ (b₃ .left) (b₃ .enough) (frames-ok (d .basic) (d .channels .own) (d .channels .value) _ left g f₀ .2) in
@@ -195,26 +197,26 @@ recording-chosen held room i {t} {x} p₀ =
 
 -- The canonical form of a recording has this shape
 
-content-front : (r : Recording) → content r ≡ front r ++ (recordOf (framesHead (r .seconds) (r .channels) (r .frames)) (framesWritten (r .seconds) (r .channels) (r .frames)) ++ (makerEvents (r .makers₅) ++ delimiterEvents))
+content-front : (label : Label) (r : Recording) → content label r ≡ front label r ++ (recordOf (framesHead (r .seconds) (r .channels) (r .frames)) (framesWritten (r .seconds) (r .channels) (r .frames)) ++ (makerEvents (r .makers₆) ++ delimiterEvents))
 unfolding content front
-content-front r = simp append-assoc
+content-front label r = simp append-assoc
 
 in-shape : (f w m d z : List Event) (h : Head) → (f ++ (recordOf h w ++ (m ++ d))) ++ z ≡ f ++ (numerals h ++ ((rowOf h ∷ w) ++ (m ++ (d ++ z))))
 unfolding recordOf
 in-shape f w m d z h = simp append-assoc
 
-pub shaped-anew : (h : Head) (r : Recording) (pad : ℕ) →
-    recordOf h (content r ++ (zeroes pad ∷ [])) ≡ shaped r h (framesHead (r .seconds) (r .channels) (r .frames)) (frameSize (r .seconds) (r .channels)) (frameEvents (r .seconds) (r .channels) 1 (r .frames)) pad
+pub shaped-anew : (label : Label) (h : Head) (r : Recording) (pad : ℕ) →
+    recordOf h (content label r ++ (zeroes pad ∷ [])) ≡ shaped label r h (framesHead (r .seconds) (r .channels) (r .frames)) (frameSize (r .seconds) (r .channels)) (frameEvents (r .seconds) (r .channels) 1 (r .frames)) pad
 unfolding framesWritten
-shaped-anew h r pad =
-    ap (recordOf h) (ap (λ (t : List Event). t ++ (zeroes pad ∷ [])) (content-front r) ∙
-    in-shape (front r) (framesWritten (r .seconds) (r .channels) (r .frames)) (makerEvents (r .makers₅)) delimiterEvents (zeroes pad ∷ []) (framesHead (r .seconds) (r .channels) (r .frames)))
+shaped-anew label h r pad =
+    ap (recordOf h) (ap (λ (t : List Event). t ++ (zeroes pad ∷ [])) (content-front label r) ∙
+    in-shape (front label r) (framesWritten (r .seconds) (r .channels) (r .frames)) (makerEvents (r .makers₆)) delimiterEvents (zeroes pad ∷ []) (framesHead (r .seconds) (r .channels) (r .frames)))
 
-pub content-total : (r : Recording) → FramesOk (r .basic) (r .ownChannels) (r .channels) (r .seconds) (r .frames) →
-    16 + size (content r) ≡ 16 + size (front r) + span (framesHead (r .seconds) (r .channels) (r .frames)) + size (makerEvents (r .makers₅)) + 16
+pub content-total : (label : Label) (r : Recording) → FramesOk (r .basic) (r .ownChannels) (r .channels) (r .seconds) (r .frames) →
+    16 + size (content label r) ≡ 16 + size (front label r) + span (framesHead (r .seconds) (r .channels) (r .frames)) + size (makerEvents (r .makers₆)) + 16
 unfolding delimiterEvents size
-content-total r k =
+content-total label r k =
     let g : List Event = recordOf (framesHead (r .seconds) (r .channels) (r .frames)) (framesWritten (r .seconds) (r .channels) (r .frames)) in
-    let e : size (content r) ≡ size (front r) + (size g + (size (makerEvents (r .makers₅)) + 16)) =
-    ap size (content-front r) ∙ (size-append (front r) _ ∙ ap (λ (n : ℕ). size (front r) + n) (size-append g _ ∙ ap (λ (n : ℕ). size g + n) (size-append (makerEvents (r .makers₅)) delimiterEvents))) in
+    let e : size (content label r) ≡ size (front label r) + (size g + (size (makerEvents (r .makers₆)) + 16)) =
+    ap size (content-front label r) ∙ (size-append (front label r) _ ∙ ap (λ (n : ℕ). size (front label r) + n) (size-append g _ ∙ ap (λ (n : ℕ). size g + n) (size-append (makerEvents (r .makers₆)) delimiterEvents))) in
     omega (arith, frames-size (r .basic) (r .ownChannels) (r .channels) (r .seconds) (r .frames) k)

@@ -1,4 +1,4 @@
--- A recording without a 120 or a 130 has the channels or the patient items of the nearest earlier one that has them; the first has its own.
+-- A recording without a 120 or 320, or without a 130, has the channels or the patient items of the nearest earlier one that has them; the first has its own.
 -- Assumes nothing.
 use mathlib.Core.Path.{_≡_, refl, sym, _∙_}
 use mathlib.Core.Bool.{Bool, true, false}
@@ -8,7 +8,7 @@ use Prim.Native.Nat.{ℕ, zero, suc, _≤_, _<_}
 use native.Mathlib.Omega.{arith}
 use lib.ListN.{length, getD}
 use Rattle.walk.proofs.Apart.{false-true, none-some}
-use Rattle.rules.specs.Rules.{Maker, Recording, Held, heldChannels, heldPatient, patientCode}
+use Rattle.rules.specs.Rules.{Label, channelsGroup, Maker, Recording, Held, heldChannels, heldPatient, patientCode}
 use Rattle.rules.specs.Places.{holder}
 use Rattle.rules.proofs.Renew.{ChannelsOk, ItemsOk}
 use Rattle.rules.proofs.Renewed.{RecordingOk, PartOk}
@@ -27,22 +27,22 @@ pub record Holds {A : Type 0} (own : Recording → Bool) (value : Recording → 
   pub same : value (getD rs k d) ≡ value (getD rs (holder own d k rs) d)
 
 -- a part that may be absent, over which it is: where it is absent its value is the one held
-module _ {A : Type 0} (own : Recording → Bool) (value : Recording → A) (held : Option Held → Option A) (d : Recording)
-    (first : held none ≡ none) (later : (r : Recording) → held (after r) ≡ some (value r)) (taken : (x : Option Held) (r : Recording) → RecordingOk x r → own r ≡ false → held x ≡ some (value r)) where
-  own-first : (r : Recording) (rs : List Recording) → RecordingsOk none (r ∷ rs) → own r ≡ true
+module _ {A : Type 0} (label : Label) (own : Recording → Bool) (value : Recording → A) (held : Option Held → Option A) (d : Recording)
+    (first : held none ≡ none) (later : (r : Recording) → held (after r) ≡ some (value r)) (taken : (x : Option Held) (r : Recording) → RecordingOk label x r → own r ≡ false → held x ≡ some (value r)) where
+  own-first : (r : Recording) (rs : List Recording) → RecordingsOk label none (r ∷ rs) → own r ≡ true
   own-first r rs k = go (own r) refl
     where
       go : (x : Bool) → own r ≡ x → own r ≡ true
       go true e = e
       go false e = none-some (sym first ∙ taken none r (k .0) e)
 
-  as-before : (x : Option Held) (rs : List Recording) → RecordingsOk x rs → (k : ℕ) → suc k < length rs → own (getD rs (suc k) d) ≡ false → value (getD rs (suc k) d) ≡ value (getD rs k d)
+  as-before : (x : Option Held) (rs : List Recording) → RecordingsOk label x rs → (k : ℕ) → suc k < length rs → own (getD rs (suc k) d) ≡ false → value (getD rs (suc k) d) ≡ value (getD rs k d)
   as-before x [] g k l e = absurd (omega arith)
   as-before x (r ∷ []) g k l e = absurd (omega arith)
   as-before x (r ∷ q ∷ rs) g zero l e = some-one (value q) (value r) (sym (taken (after r) q (g .1 .0) e) ∙ later r)
   as-before x (r ∷ q ∷ rs) g (suc k) l e = as-before (after r) (q ∷ rs) (g .1) k (omega arith) e
 
-  holds-more : (k : ℕ) (rs : List Recording) → RecordingsOk none rs → suc k < length rs → Holds own value d k rs → (x : Bool) → own (getD rs (suc k) d) ≡ x → Holds own value d (suc k) rs
+  holds-more : (k : ℕ) (rs : List Recording) → RecordingsOk label none rs → suc k < length rs → Holds own value d k rs → (x : Bool) → own (getD rs (suc k) d) ≡ x → Holds own value d (suc k) rs
   unfolding holder
   holds-more k rs g l h true e = record { before = rw (holder, e) (omega arith); owned = rw (holder, e) e; same = rw (holder, e) }
   holds-more k rs g l h false e =
@@ -52,7 +52,7 @@ module _ {A : Type 0} (own : Recording → Bool) (value : Recording → A) (held
         same = rw (holder, e) (as-before none rs g k l e ∙ h .same);
       }
 
-  pub holds : (k : ℕ) (rs : List Recording) → RecordingsOk none rs → k < length rs → Holds own value d k rs
+  pub holds : (k : ℕ) (rs : List Recording) → RecordingsOk label none rs → k < length rs → Holds own value d k rs
   unfolding holder
   holds zero [] g l = absurd (omega arith)
   holds zero (r ∷ rs) g l = record { before = omega arith; owned = own-first r rs g; same = refl }
@@ -63,12 +63,12 @@ absent P h true a ms k e = false-true (sym e)
 absent P h false a ms k e = k .0
 
 -- the channels that hold for a recording, and the patient items
-pub channels-hold : (d : Recording) (k : ℕ) (rs : List Recording) → RecordingsOk none rs → k < length rs → Holds (λ r. r .ownChannels) (λ r. r .channels) d k rs
-channels-hold d =
-    holds (λ r. r .ownChannels) (λ r. r .channels) heldChannels d refl (λ r. refl)
-    (λ x r k e. absent (ChannelsOk (r .basic)) (heldChannels x) (r .ownChannels) (r .channels) (r .makers₂) (k .channels) e)
+pub channels-hold : (label : Label) (d : Recording) (k : ℕ) (rs : List Recording) → RecordingsOk label none rs → k < length rs → Holds (λ r. r .ownChannels) (λ r. r .channels) d k rs
+channels-hold label d =
+    holds label (λ r. r .ownChannels) (λ r. r .channels) heldChannels d refl (λ r. refl)
+    (λ x r k e. absent (ChannelsOk (channelsGroup label (r .basic .channels))) (heldChannels x) (r .ownChannels) (r .channels) (r .makers₂) (k .channels) e)
 
-pub patient-holds : (d : Recording) (k : ℕ) (rs : List Recording) → RecordingsOk none rs → k < length rs → Holds (λ r. r .ownPatient) (λ r. r .patient) d k rs
-patient-holds d =
-    holds (λ r. r .ownPatient) (λ r. r .patient) heldPatient d refl (λ r. refl)
+pub patient-holds : (label : Label) (d : Recording) (k : ℕ) (rs : List Recording) → RecordingsOk label none rs → k < length rs → Holds (λ r. r .ownPatient) (λ r. r .patient) d k rs
+patient-holds label d =
+    holds label (λ r. r .ownPatient) (λ r. r .patient) heldPatient d refl (λ r. refl)
     (λ x r k e. absent (ItemsOk patientCode) (heldPatient x) (r .ownPatient) (r .patient) (r .makers₃) (k .patient) e)

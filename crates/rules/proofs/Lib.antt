@@ -1,3 +1,4 @@
+pub mod Cases
 pub mod Steps
 pub mod Room
 pub mod Refusals
@@ -7,7 +8,7 @@ pub mod Flip
 pub mod Sized
 pub mod Renew
 pub mod Renewed
-pub mod Spellings
+pub mod Named
 pub mod Canon
 pub mod Places
 pub mod Asked

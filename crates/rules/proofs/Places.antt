@@ -15,8 +15,10 @@ use Rattle.walk.specs.Plays.{Plays, gives, numbers}
 use Rattle.walk.specs.Walk.{Padding, Event, numeral, blank, size, render, run, Walk, passed, give, number, read, _>>=_, _>>_}
 use Rattle.walk.proofs.Tracing.{render-append}
 use Rattle.walk.proofs.Laws.{complete, length-render, size-append, by-parts, skipped, plays-gave, traced, eventsOf, valueOf, checked, counted, taken}
-use Rattle.rules.specs.Rules.{between, padding, padded, makerCode, zeros, series, Head, head, span, admit, exactly, fixed, Basic, Channel, channelBody, channel, channels, Item, item, itemBytes, itemSize, itemList, items, width, samplesIn, sampleBytes, numberList, samples, Frame, frame, Frames, frames, channelsBody, itemsBody, frameBody, framesBody}
+use Rattle.rules.specs.declared.Form.the-variants as Form
+use Rattle.rules.specs.Rules.{between, padding, padded, makerCode, zeros, series, Head, head, span, admit, exactly, fixed, Basic, Sub, Group, Label, montageGroup, Channel, channelBody, channel, channels, montage, Item, item, itemBytes, itemSize, itemList, items, width, samplesIn, sampleBytes, numberList, samples, Frame, frame, Frames, frames, channelsBody, itemsBody, frameBody, framesBody}
 use Rattle.rules.proofs.Renew.{and-true, channel-size, series-ok}
+use Rattle.rules.proofs.Cases.{by-form}
 
 -- the walk w gave a, p bytes into the events t
 pub record Found {A : Type 0} (t : List Event) (w : Walk A) (a : A) (p : ℕ) : Type 0 where
@@ -89,8 +91,8 @@ fixed-size n code serial m body f room p =
     by-parts (admit room 0 (eqb n) (eqb serial) h) _ (checked p .then) λ _ c d e₁ a₀ p.
     join a b e (head-size room h₀) (join c d e₁ (admit-size room 0 (eqb n) (eqb serial) h a₀) (f d _ p) ∙ zero-add m)
 
-pub channel-bytes : (room i : ℕ) {t : List Event} {c : Channel} → Plays t (channel room i) c → size t ≡ 256
-channel-bytes room i p = fixed-size 256 125 i 240 channelBody (λ t c q. channel-size q) room p
+pub channel-bytes : (k : Sub) (room i : ℕ) {t : List Event} {c : Channel} → Plays t (channel k room i) c → size t ≡ 256
+channel-bytes k room i p = fixed-size 256 (k .code) i 240 (channelBody k) (λ t c q. channel-size k q) room p
 
 -- one of a series
 
@@ -124,21 +126,28 @@ module _ {A : Type 0} (d : A) (w : ℕ → ℕ → Walk A) (step : ℕ) (f : (ro
 series-count : {A : Type 0} (n i step room : ℕ) (w : ℕ → ℕ → Walk A) {t : List Event} {l : List A} → Plays t (series n i step room w) l → length l ≡ n
 series-count n i step room w p = series-ok (λ _. Unit {0}) w (λ _ _ _ _ _. tt) n i step room p .0
 
--- a channel in a 120, counted from behind its head
-pub channel-found : (d : Channel) (b : Basic) (room : ℕ) (h : Head) {t : List Event} {cs : List Channel} → Plays t (channels b room h) cs → (j : ℕ) → j < length cs →
-    Found t (channel (span h - 32 - 256 * j) (1 + j)) (getD cs j d) (16 + 256 * j)
+-- a channel in a 120, a 320 or a 350, counted from behind its head
+pub channel-found : (d : Channel) (g : Group) (room : ℕ) (h : Head) {t : List Event} {cs : List Channel} → Plays t (channels g room h) cs → (j : ℕ) → j < length cs →
+    Found t (channel (g .sub) (span h - 32 - 256 * j) (1 + j)) (getD cs j d) (16 + 256 * j)
 unfolding channels channelsBody size _>>=_ _>>_
-channel-found d b room h {cs} p j l =
+channel-found d g room h {cs} p j l =
     by-parts (admit room 0 (leb 32) (eqb 0) h) _ p λ _ u v e a₀ p.
     let m = counted p in
     let s = counted (checked (checked (checked (m .then) .then) .then) .then) in
     let k = skipped (checked (s .then) .then) in
-    let f = series-found d channel 256 (λ room i t c. channel-bytes room i) (m .word) 1 (span h - 32) (k .then) j (omega (arith, series-count (m .word) 1 256 (span h - 32) channel (k .then))) in
+    let f = series-found d (channel (g .sub)) 256 (λ room i t c. channel-bytes (g .sub) room i) (m .word) 1 (span h - 32) (k .then) j (omega (arith, series-count (m .word) 1 256 (span h - 32) (channel (g .sub)) (k .then))) in
     let q : numeral 4 (m .word) ∷ numeral 4 (s .word) ∷ blank (k .bytes) ∷ k .others ≡ v =
     sym (m .split ∙ ap (λ (x : List Event). numeral 4 (m .word) ∷ x) (s .split ∙ ap (λ (x : List Event). numeral 4 (s .word) ∷ x) (k .split))) in
     let z = admit-size room 0 (leb 32) (eqb 0) h a₀ in
-    let g : Found v (channel (span h - 32 - 256 * j) (1 + j)) (getD cs j d) (16 + 256 * j) = found-second (numeral 4 (m .word) ∷ numeral 4 (s .word) ∷ blank (k .bytes) ∷ []) f q (omega (arith, k .width)) in
-    found-second u g e (omega arith)
+    let f₁ : Found v (channel (g .sub) (span h - 32 - 256 * j) (1 + j)) (getD cs j d) (16 + 256 * j) = found-second (numeral 4 (m .word) ∷ numeral 4 (s .word) ∷ blank (k .bytes) ∷ []) f q (omega (arith, k .width)) in
+    found-second u f₁ e (omega arith)
+
+-- a 350 that is accepted: the file is one of electrodes, and the walk is that over the montage's group
+pub montage-is : (label : Label) (es : List Channel) (room : ℕ) (h : Head) {t : List Event} {cs : List Channel} → Plays t (montage label es room h) cs →
+    (label .form ≡ Form.Electrodes) × Plays t (channels (montageGroup (length es)) room h) cs
+unfolding montage
+montage-is label es room h {t} {cs} =
+    by-form (λ l. Plays t (montage l es room h) cs → (l .form ≡ Form.Electrodes) × Plays t (channels (montageGroup (length es)) room h) cs) (λ p. absurd (traced p .trace)) (λ p. (refl, p)) label
 
 -- an item among items
 
@@ -354,18 +363,18 @@ items-in d ok room h {is} p j l =
 
 -- how long the rest of a record is, behind its head
 
-pub channels-bytes : (b : Basic) (room : ℕ) (h : Head) {t : List Event} {cs : List Channel} → Plays t (channels b room h) cs → size t + 16 ≡ span h
+pub channels-bytes : (g : Group) (room : ℕ) (h : Head) {t : List Event} {cs : List Channel} → Plays t (channels g room h) cs → size t + 16 ≡ span h
 unfolding channels channelsBody size _>>=_ _>>_
-channels-bytes b room h p =
+channels-bytes g room h p =
     by-parts (admit room 0 (leb 32) (eqb 0) h) _ p λ _ u v e a₀ p.
     let m = counted p in
     let c = checked (checked (checked (m .then) .then) .then) in
     let s = counted (c .then) in
     let k = skipped (checked (s .then) .then) in
-    let n : size (k .others) ≡ 256 * m .word = series-bytes channel 256 (λ room i t c. channel-bytes room i) (m .word) 1 (span h - 32) (k .then) in
+    let n : size (k .others) ≡ 256 * m .word = series-bytes (channel (g .sub)) 256 (λ room i t c. channel-bytes (g .sub) room i) (m .word) 1 (span h - 32) (k .then) in
     let q : size v ≡ 16 + 256 * m .word = ap size (m .split) ∙ ap (λ (x : List Event). 4 + size x) (s .split) ∙ ap (λ (x : List Event). 4 + (4 + size x)) (k .split) ∙ omega (arith, k .width) in
-    let g : span h ≡ 32 + 256 * m .word = eqb-true (span h) (32 + 256 * m .word) (c .holds) in
-    ap (λ (x : ℕ). x + 16) (join u v e (admit-size room 0 (leb 32) (eqb 0) h a₀) q) ∙ sum (m .word) (span h) g
+    let o : span h ≡ 32 + 256 * m .word = eqb-true (span h) (32 + 256 * m .word) (c .holds) in
+    ap (λ (x : ℕ). x + 16) (join u v e (admit-size room 0 (leb 32) (eqb 0) h a₀) q) ∙ sum (m .word) (span h) o
   where
     sum : (m s : ℕ) → s ≡ 32 + 256 * m → 0 + (16 + 256 * m) + 16 ≡ s
     sum m s e = omega arith

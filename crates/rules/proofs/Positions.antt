@@ -15,9 +15,10 @@ use Rattle.walk.proofs.Laws.{Spent, spent}
 use Rattle.walk.specs.See.{Stays}
 use Rattle.walk.proofs.Seen.{stays-bind}
 use Rattle.walk.proofs.Reach.{stays-grows, Reaches, reaches-bind, reaches-any, reaches-then, reaches-next, reaches-require, Later, run-later}
-use Rattle.rules.specs.Rules.{head, Head, span, coded, admit, exactly, fixed, basicBody, basic, channelBody, channel, Basic, channelsBody, channels, item, itemSize, itemList, itemsBody, items, series, zeros, padding, Channel, width, samplesIn, sampleBytes, numberList, samples, frameBody, frame, padOk, framesBody, frames, Next, next, makerCode, Part, part, delimiter, Held, heldChannels, heldPatient, patientCode, eventCode, descriptions, countBack, signals, recordingBody, recording, recordings, fileHeader, File, file, orderOf, whole, judge}
+use Rattle.rules.specs.Rules.{head, Head, span, coded, admit, exactly, fixed, basicBody, basic, Label, Sub, Group, channelsGroup, montageGroup, anything, fieldIf, channelBody, channel, Basic, channelsBody, channels, montage, item, itemSize, itemList, itemsBody, items, series, zeros, padding, Channel, width, samplesIn, sampleBytes, numberList, samples, frameBody, frame, padOk, framesBody, frames, Next, next, makerCode, Part, part, delimiter, Held, heldChannels, heldPatient, patientCode, eventCode, descriptions, countBack, signals, recordingBody, recording, recordings, fileHeader, File, file, orderOf, whole, judge}
 use Rattle.rules.proofs.Steps.{body-steps}
-use Rattle.rules.proofs.Room.{Behind, stays-head, stays-admit, stays-basic, stays-itemList, Rests, stays-channelsRest, stays-itemsRest, stays-framesRest, stays-next, stays-part, stays-delimiter}
+use Rattle.rules.proofs.Cases.{by-form}
+use Rattle.rules.proofs.Room.{Behind, stays-head, stays-admit, stays-basic, stays-itemList, Rests, stays-channelsRest, stays-montageRest, stays-itemsRest, stays-framesRest, stays-next, stays-part, stays-delimiter}
 use Rattle.rules.proofs.Refusals.{room}
 
 -- a record: its head, and what is said of it from behind the head
@@ -43,7 +44,7 @@ reaches-fixed : {A : Type 0} (size code serial : ℕ) (body : Walk A) → ((at :
 unfolding fixed
 reaches-fixed size code serial body k at rest = reaches-record code 0 (λ _. eqb size) (eqb serial) (λ _. body) at rest (λ h f. k (at + 16))
 
--- 100, 120 and 125
+-- 100; 120, 320 and 350, and their subs
 
 reaches-basicBody : (at : ℕ) → Reaches at basicBody
 unfolding basicBody _>>=_ _>>_
@@ -52,18 +53,23 @@ reaches-basicBody at = λ _. (omega arith, λ _ _. (omega arith, λ _ _. (omega 
 reaches-basic : (at rest : ℕ) → Reaches at (basic rest)
 reaches-basic = reaches-fixed 128 100 0 basicBody reaches-basicBody
 
-reaches-channelBody : (at : ℕ) → Reaches at channelBody
+reaches-fieldIf : {A : Type 0} (c : Bool) (ok : ℕ → Bool) (f : ℕ → Walk A) (at : ℕ) → ((n : ℕ) → Reaches (at + 4) (f n)) → Reaches at (fieldIf c ok >>= f)
+unfolding fieldIf _>>=_
+reaches-fieldIf true ok f at k = λ n. (omega arith, λ _. k n)
+reaches-fieldIf false ok f at k = k 0
+
+reaches-channelBody : (k : Sub) (at : ℕ) → Reaches at (channelBody k)
 unfolding channelBody _>>=_ _>>_
-reaches-channelBody at = λ _ _ _. (omega arith, λ _ _. (omega arith, λ _ _. (omega arith, λ _ _ _ _ _ _ _ _ _ _ _ _ _ _ _. tt)))
+reaches-channelBody k at = λ _. (omega arith, λ _ _ _. (omega arith, λ _ _. (omega arith, λ _ _. (omega arith, λ _ _ _ _ _. reaches-fieldIf (k .calibrated) anything _ _ λ _ _ _. reaches-fieldIf (k .calibrated) anything _ _ λ _ _ _ _ _. reaches-fieldIf (k .wired) (k .input) _ _ λ _. reaches-fieldIf (k .wired) (k .input) _ _ λ _ _ _. tt))))
 
 reaches-series : {A : Type 0} (step : ℕ) (w : ℕ → ℕ → Walk A) → ((i at rest : ℕ) → Reaches at (w rest i)) → (n i rest at : ℕ) → Reaches at (series n i step rest w)
 unfolding series
 reaches-series step w k zero i rest at = tt
 reaches-series step w k (suc n) i rest at = reaches-any (w rest i) _ at (k i at rest) (λ a e. reaches-any (series n (suc i) step (rest - step) w) _ e (reaches-series step w k n (suc i) (rest - step) e) (λ _ _. tt))
 
-reaches-channelsBody : (b : Basic) (n at : ℕ) → Reaches at (channelsBody b n)
+reaches-channelsBody : (g : Group) (n at : ℕ) → Reaches at (channelsBody g n)
 unfolding channelsBody _>>=_ _>>_
-reaches-channelsBody b n at = λ m. (omega arith, λ _. (omega arith, λ _. (omega arith, λ _ _. (omega arith, λ _. reaches-series 256 channel (λ i. reaches-fixed 256 125 i channelBody reaches-channelBody) m 1 (n - 32) _))))
+reaches-channelsBody g n at = λ m. (omega arith, λ _. (omega arith, λ _. (omega arith, λ _ _. (omega arith, λ _. reaches-series 256 (channel (g .sub)) (λ i. reaches-fixed 256 (g .sub .code) i (channelBody (g .sub)) (reaches-channelBody (g .sub))) m 1 (n - 32) _))))
 
 -- 130 and 200
 
@@ -135,9 +141,13 @@ reaches-framesBody b cs h at = λ t. (
 abbrev AfterHead : {A : Type 0} → (ℕ → Head → Walk A) → Type 0
 AfterHead body = (rest : ℕ) (h : Head) (at : ℕ) → 16 ≤ at → Reaches at (body rest h)
 
-reaches-channels : (b : Basic) → AfterHead (channels b)
+reaches-channels : (g : Group) → AfterHead (channels g)
 unfolding channels
-reaches-channels b rest h at g = reaches-next _ _ _ (reaches-admit rest 0 (leb 32) (eqb 0) h at g) (λ e. reaches-channelsBody b (span h) e)
+reaches-channels g rest h at k = reaches-next _ _ _ (reaches-admit rest 0 (leb 32) (eqb 0) h at k) (λ e. reaches-channelsBody g (span h) e)
+
+reaches-montage : (label : Label) (cs : List Channel) → AfterHead (montage label cs)
+unfolding montage
+reaches-montage label cs = by-form (λ l. AfterHead (montage l cs)) (λ rest h at k. omega arith) (reaches-channels (montageGroup (length cs))) label
 
 reaches-items : (ok : ℕ → Bool) → AfterHead (items ok)
 unfolding items
@@ -182,32 +192,34 @@ unfolding delimiter _>>=_ _>>_
 reaches-delimiter h at g = (omega arith, λ _. (omega arith, λ _. (omega arith, λ _. (omega arith, λ _. (omega arith, tt)))))
 
 -- a recording: 100's count of channels and all that was used lie behind its own head
-pub reaches-recordingBody : (held : Option Held) (h : Head) (at : ℕ) → 16 ≤ at → 16 ≤ span h → Reaches at (recordingBody held h)
+pub reaches-recordingBody : (label : Label) (held : Option Held) (h : Head) (at : ℕ) → 16 ≤ at → 16 ≤ span h → Reaches at (recordingBody label held h)
 unfolding signals
-reaches-recordingBody held h at g s =
+reaches-recordingBody label held h at g s =
     rw body-steps (
     let L : ℕ = at + (span h - 16) in
     reaches-bind _ _ _ _ _ (stays-basic at (span h - 16)) (reaches-basic at (span h - 16))
     (λ b e₁ q₁. reaches-bind _ _ _ _ _ (stays-next (span h) (span h - 144) (span h) L e₁ (omega (arith, q₁)) (omega (arith, q₁)) (omega (arith, q₁))) (reaches-makers (span h) (span h - 144) e₁)
-    (λ n e₂ q₂. reaches-bind _ _ _ _ _ (stays-part (span h) 120 (channels b) (stays-channelsRest b) (heldChannels held) n L e₂ q₂) (reaches-part (span h) 120 (channels b) (reaches-channels b) (heldChannels held) n e₂ (omega (arith, q₂ .1, q₂ .2)))
+    (λ n e₂ q₂. let k : Group = channelsGroup label (b .channels) in
+    reaches-bind _ _ _ _ _ (stays-part (span h) (k .code) (channels k) (stays-channelsRest k) (heldChannels held) n L e₂ q₂) (reaches-part (span h) (k .code) (channels k) (reaches-channels k) (heldChannels held) n e₂ (omega (arith, q₂ .1, q₂ .2)))
     (λ c e₃ q₃. reaches-bind _ _ _ _ _ (stays-part (span h) 130 (items patientCode) (stays-itemsRest patientCode) (heldPatient held) (c .next) L e₃ q₃) (reaches-part (span h) 130 (items patientCode) (reaches-items patientCode) (heldPatient held) (c .next) e₃ (omega (arith, q₃ .1, q₃ .2)))
     (λ p e₄ q₄. reaches-bind _ _ _ _ _ (stays-part (span h) 200 (items eventCode) (stays-itemsRest eventCode) (some []) (p .next) L e₄ q₄) (reaches-part (span h) 200 (items eventCode) (reaches-items eventCode) (some []) (p .next) e₄ (omega (arith, q₄ .1, q₄ .2)))
-    (λ e e₅ q₅. reaches-require _ 9 12 _ _ (omega (arith, q₅ .1, q₅ .2))
-    (λ _. reaches-bind _ _ _ _ _ (stays-framesRest b (c .own) (c .value) _ (e .next .room) (e .next .head) L e₅ (q₅ .2)) (reaches-frames b (c .own) (c .value) _ (e .next .room) (e .next .head) e₅ (omega (arith, q₅ .1, q₅ .2)) (omega (arith, q₅ .1, q₅ .2)))
-    (λ f e₆ q₆. reaches-bind _ _ _ _ _ (stays-next (span h) (e .next .room - span (e .next .head)) (span h) L e₆ (omega (arith, q₅ .1)) (omega (arith, q₅ .1)) (q₆ .2)) (reaches-makers (span h) (e .next .room - span (e .next .head)) e₆)
-    (λ d e₇ q₇. reaches-then _ _ _ _ _ (stays-delimiter (d .head) L e₇) (reaches-delimiter (d .head) e₇ (omega (arith, q₇ .1, q₇ .2)))
-    (λ _ e₈ q₈. reaches-require _ 14 _ _ _ (omega (arith, q₇ .0, q₇ .1, q₇ .2, q₈))
+    (λ e e₅ q₅. reaches-bind _ _ _ _ _ (stays-part (span h) 350 (montage label (c .value)) (stays-montageRest label (c .value)) (some []) (e .next) L e₅ q₅) (reaches-part (span h) 350 (montage label (c .value)) (reaches-montage label (c .value)) (some []) (e .next) e₅ (omega (arith, q₅ .1, q₅ .2)))
+    (λ m e₆ q₆. reaches-require _ 9 12 _ _ (omega (arith, q₆ .1, q₆ .2))
+    (λ _. reaches-bind _ _ _ _ _ (stays-framesRest b (c .own) (c .value) _ (m .next .room) (m .next .head) L e₆ (q₆ .2)) (reaches-frames b (c .own) (c .value) _ (m .next .room) (m .next .head) e₆ (omega (arith, q₆ .1, q₆ .2)) (omega (arith, q₆ .1, q₆ .2)))
+    (λ f e₇ q₇. reaches-bind _ _ _ _ _ (stays-next (span h) (m .next .room - span (m .next .head)) (span h) L e₇ (omega (arith, q₆ .1)) (omega (arith, q₆ .1)) (q₇ .2)) (reaches-makers (span h) (m .next .room - span (m .next .head)) e₇)
+    (λ d e₈ q₈. reaches-then _ _ _ _ _ (stays-delimiter (d .head) L e₈) (reaches-delimiter (d .head) e₈ (omega (arith, q₈ .1, q₈ .2)))
+    (λ _ e₉ q₉. reaches-require _ 14 _ _ _ (omega (arith, q₈ .0, q₈ .1, q₈ .2, q₉))
     (λ _. reaches-require _ 10 0 _ _ (omega arith)
-    (λ _. reaches-next _ _ _ (reaches-padding (d .room - 16) e₈) (λ _. tt)))))))))))))
+    (λ _. reaches-next _ _ _ (reaches-padding (d .room - 16) e₉) (λ _. tt))))))))))))))
 
-reaches-recording : (held : Option Held) (i at rest : ℕ) → Reaches at (recording held rest i)
+reaches-recording : (label : Label) (held : Option Held) (i at rest : ℕ) → Reaches at (recording label held rest i)
 unfolding recording
-reaches-recording held i at rest = reaches-record 10 128 (λ _. leb 16) (eqb i) (recordingBody held) at rest (λ h f. reaches-recordingBody held h (at + 16) (omega arith) (leb-true 16 (span h) f))
+reaches-recording label held i at rest = reaches-record 10 128 (λ _. leb 16) (eqb i) (recordingBody label held) at rest (λ h f. reaches-recordingBody label held h (at + 16) (omega arith) (leb-true 16 (span h) f))
 
-reaches-recordings : (n : ℕ) (held : Option Held) (rest i at : ℕ) → Reaches at (recordings n held rest i)
+reaches-recordings : (label : Label) (n : ℕ) (held : Option Held) (rest i at : ℕ) → Reaches at (recordings label n held rest i)
 unfolding recordings
-reaches-recordings zero held rest i at = tt
-reaches-recordings (suc n) held rest i at = reaches-any _ _ _ (reaches-recording held i at rest) (λ x e. reaches-any _ _ _ (reaches-recordings n (some (record { channels = x .recording .channels; patient = x .recording .patient })) (rest - x .layout .bytes) (suc i) e) (λ _ _. tt))
+reaches-recordings label zero held rest i at = tt
+reaches-recordings label (suc n) held rest i at = reaches-any _ _ _ (reaches-recording label held i at rest) (λ x e. reaches-any _ _ _ (reaches-recordings label n (some (record { channels = x .recording .channels; patient = x .recording .patient })) (rest - x .layout .bytes) (suc i) e) (λ _ _. tt))
 
 reaches-fileHeader : (n at : ℕ) → Reaches at (fileHeader n)
 unfolding fileHeader _>>=_ _>>_
@@ -217,7 +229,7 @@ reaches-fileHeader n at =
 -- the whole walk, from the first byte
 pub reaches-file : (n : ℕ) → Reaches 0 (file n)
 unfolding file
-reaches-file n = reaches-any _ _ _ (reaches-fileHeader n 0) (λ f e. reaches-any _ _ _ (reaches-recordings (f .count) none (n - 32) 1 e) (λ _ _. tt))
+reaches-file n = reaches-any _ _ _ (reaches-fileHeader n 0) (λ f e. reaches-any _ _ _ (reaches-recordings (f .heading .label) (f .count) none (n - 32) 1 e) (λ _ _. tt))
 
 -- what is left over is refused where it begins
 whole-later : (k n : ℕ) (x y : Outcome File) → Spent n x → Later k 0 x y → Later k 0 (whole n x) (whole (k + n) y)
@@ -239,18 +251,20 @@ part-grows : {A : Type 0} (fuel code : ℕ) (body : ℕ → Head → Walk A) →
 part-grows fuel code body k held n L at low q = stays-grows (part fuel code body held n) L at low (λ p. Behind L fuel (p .next)) (q .1) (stays-part fuel code body k held n L at (q .0))
 
 -- of a recording that begins at `start`, 100's count of channels is told 36 bytes into it, from behind the head of the 140
-pub count-place : (held : Option Held) (h : Head) (start : ℕ) → 16 ≤ span h → Stays (start + span h) (start + 16) (descriptions held (span h)) (λ t e. e - countBack (span h) (t .events .next .room) ≡ start + 36)
+pub count-place : (label : Label) (held : Option Held) (h : Head) (start : ℕ) → 16 ≤ span h → Stays (start + span h) (start + 16) (descriptions label held (span h)) (λ t e. e - countBack (span h) (t .montage .next .room) ≡ start + 36)
 unfolding descriptions
-count-place held h start s =
+count-place label held h start s =
     let L : ℕ = start + span h in
     let l : start + 16 + (span h - 16) ≡ L = omega arith in
     let low : ℕ = start + 144 in
     stays-bind _ _ _ _ _ _ (rw l at (stays-basic (start + 16) (span h - 16)))
     (λ b e₁ q₁. stays-bind _ _ _ _ _ _ (stays-grows (next (span h) (span h - 144)) L e₁ low (Behind L (span h)) (omega (arith, q₁)) (stays-next (span h) (span h - 144) (span h) L e₁ (omega (arith, q₁)) (omega (arith, q₁)) (omega (arith, q₁))))
-    (λ n e₂ q₂. stays-bind _ _ _ _ _ _ (part-grows (span h) 120 (channels b) (stays-channelsRest b) (heldChannels held) n L e₂ low q₂)
+    (λ n e₂ q₂. let g : Group = channelsGroup label (b .channels) in
+    stays-bind _ _ _ _ _ _ (part-grows (span h) (g .code) (channels g) (stays-channelsRest g) (heldChannels held) n L e₂ low q₂)
     (λ c e₃ q₃. stays-bind _ _ _ _ _ _ (part-grows (span h) 130 (items patientCode) (stays-itemsRest patientCode) (heldPatient held) (c .next) L e₃ low q₃)
     (λ p e₄ q₄. stays-bind _ _ _ _ _ _ (part-grows (span h) 200 (items eventCode) (stays-itemsRest eventCode) (some []) (p .next) L e₄ low q₄)
-    (λ e e₅ q₅. omega (arith, q₅ .0 .2, q₅ .1))))))
+    (λ e e₅ q₅. stays-bind _ _ _ _ _ _ (part-grows (span h) 350 (montage label (c .value)) (stays-montageRest label (c .value)) (some []) (e .next) L e₅ low q₅)
+    (λ m e₆ q₆. omega (arith, q₆ .0 .2, q₆ .1)))))))
 
 -- and all that a recording has used, told from behind its delimiter, begins where it begins
 pub used-place : (start bytes : ℕ) (n : Next) (e : ℕ) → Behind (start + bytes) bytes n e → e - (bytes - (n .room - 16)) ≡ start

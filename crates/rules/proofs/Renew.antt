@@ -13,9 +13,10 @@ use Rattle.words.specs.Numbers.{Bytes}
 use Rattle.walk.specs.Plays.{Plays, gives, checks, numbers, reads, skips, lists}
 use Rattle.walk.specs.Walk.{Text, Event, numeral, piece, size, Walk, give, _>>=_, _>>_, pick}
 use Rattle.walk.proofs.Apart.{false-true}
-use Rattle.walk.proofs.Laws.{plays-bind, plays-split, plays-give, plays-last, checked, counted, taken, skipped, traced, renewed, size-append, zeros-bytes, zeros-length}
-use Rattle.rules.specs.Canonical.{multiplierFor, most, zeroes, numerals, rowOf, plainHead, recordOf, basicFields, channelFields, channelEvents, channelsHead, channelsWritten, itemEvents, itemsHead, itemsWritten, sampleEvents, frameWritten, frameSize, frameEvents, framesBytes, framesHead, framesWritten, makerEvents}
-use Rattle.rules.specs.Rules.{between, padding, padded, makerCode, zeros, series, limit, Head, head, lengthOf, span, admit, exactly, fixed, Basic, basicBody, basic, Channel, channelBody, channel, channels, Item, item, itemBytes, itemList, items, width, sampled, samplesIn, all, sampleBytes, numberList, samples, Frame, frame, Frames, frames, Maker, Next, next, channelsBody, itemsBody, frameBody, framesBody}
+use Rattle.walk.proofs.Laws.{plays-bind, plays-split, plays-give, plays-last, checked, counted, taken, skipped, traced, renewed, Trace, eventsOf, valueOf, clear, size-append, zeros-bytes, zeros-length}
+use Rattle.rules.specs.Canonical.{multiplierFor, most, zeroes, numerals, rowOf, plainHead, recordOf, basicFields, fieldEvent, channelFields, channelEvents, channelsHead, channelsWritten, itemEvents, itemsHead, itemsWritten, sampleEvents, frameWritten, frameSize, frameEvents, framesBytes, framesHead, framesWritten, makerEvents}
+use Rattle.rules.specs.Rules.{between, padding, padded, makerCode, zeros, series, limit, Head, head, lengthOf, span, admit, exactly, fixed, Basic, basicBody, basic, Sub, Group, fieldIf, Channel, channelBody, channel, channels, Item, item, itemBytes, itemList, items, width, sampled, samplesIn, all, sampleBytes, numberList, samples, Frame, frame, Frames, frames, Maker, Next, next, channelsBody, itemsBody, frameBody, framesBody}
+use Rattle.rules.proofs.Cases.{by-shape}
 use Rattle.rules.proofs.Sized.{sized}
 
 pub and-true : (a b : Bool) → a && b ≡ true → (a ≡ true) × (b ≡ true)
@@ -95,19 +96,26 @@ pub basic-ok : (room : ℕ) {t : List Event} {b : Basic} → Plays t (basic room
 unfolding basicBody basicFields _>>=_ _>>_
 basic-ok room p = renewed basicBody basicFields (λ q. cc (eqb-true 1 (q .word) (q .then .holds))) (fixed-ok 128 100 0 basicBody room p .1)
 
--- 125
+-- 125, 325 and 355
 
-pub channel-ok : (room i : ℕ) {t : List Event} {c : Channel} → Plays t (channel room i) c → Plays (channelFields c) channelBody c
-unfolding channelBody channelFields _>>=_ _>>_
-channel-ok room i p = renewed channelBody channelFields (λ q. refl) (fixed-ok 256 125 i channelBody room p .1)
+-- how its events are written
+pub renews : (k : Sub) (q : Trace (channelBody k)) → eventsOf (channelBody k) (clear (channelBody k) q) ≡ channelFields k (valueOf (channelBody k) q)
+unfolding channelBody channelFields fieldIf fieldEvent _>>=_ _>>_
+renews = by-shape (λ k. (q : Trace (channelBody k)) → eventsOf (channelBody k) (clear (channelBody k) q) ≡ channelFields k (valueOf (channelBody k) q)) (λ k q. refl) (λ k q. refl) (λ k q. refl) (λ k q. refl)
+
+pub channel-ok : (k : Sub) (room i : ℕ) {t : List Event} {c : Channel} → Plays t (channel k room i) c → Plays (channelFields k c) (channelBody k) c
+channel-ok k room i p = renewed (channelBody k) (channelFields k) (renews k) (fixed-ok 256 (k .code) i (channelBody k) room p .1)
 
 pub basic-size : {t : List Event} {b : Basic} → Plays t basicBody b → size t ≡ 112
 unfolding basicBody size _>>=_ _>>_
 basic-size p = let q = traced p in rw (q .events) (omega arith)
 
-pub channel-size : {t : List Event} {c : Channel} → Plays t channelBody c → size t ≡ 240
-unfolding channelBody size _>>=_ _>>_
-channel-size p = let q = traced p in rw (q .events) (omega arith)
+trace-size : (k : Sub) (q : Trace (channelBody k)) → size (eventsOf (channelBody k) q) ≡ 240
+unfolding channelBody fieldIf size _>>=_ _>>_
+trace-size = by-shape (λ k. (q : Trace (channelBody k)) → size (eventsOf (channelBody k) q) ≡ 240) (λ k q. omega arith) (λ k q. omega arith) (λ k q. omega arith) (λ k q. omega arith)
+
+pub channel-size : (k : Sub) {t : List Event} {c : Channel} → Plays t (channelBody k) c → size t ≡ 240
+channel-size k p = let q = traced p in ap size (q .events) ∙ trace-size k (q .trace)
 
 -- lists
 
@@ -126,65 +134,66 @@ series-ok P w f (suc n) i step room p =
     let j = series-ok P w f n (suc i) step (room - step) (q .before) in
     rw (traced (q .behind) .value) (ap suc (j .0), (f room i _ _ (h .before), j .1))
 
--- 120
+-- 120, 320 and 350
 
-abbrev pub ChannelOk : Channel → Type 0
-ChannelOk c = Plays (channelFields c) channelBody c
+abbrev pub ChannelOk : Sub → Channel → Type 0
+ChannelOk u c = Plays (channelFields u c) (channelBody u) c
 
-pub channels-play : (cs : List Channel) → All ChannelOk cs → (i room : ℕ) → i + length cs ≤ 1000 → 256 * length cs ≤ room → Plays (channelEvents i cs) (series (length cs) i 256 room channel) cs
+pub channels-play : (u : Sub) → u .code < 256 ^ 4 → (cs : List Channel) → All (ChannelOk u) cs → (i room : ℕ) → i + length cs ≤ 1000 → 256 * length cs ≤ room →
+    Plays (channelEvents u i cs) (series (length cs) i 256 room (channel u)) cs
 unfolding channelEvents series
-channels-play [] k i room b r = gives
-channels-play (c ∷ cs) k i room b r =
-    plays-bind _ (fixed-plays 256 125 i channelBody room (k .0) (omega arith) (omega arith) (omega arith) (omega arith) (omega arith))
-    (plays-give _ (channels-play cs (k .1) (suc i) (room - 256) (omega arith) (omega arith)))
+channels-play u z [] k i room b r = gives
+channels-play u z (c ∷ cs) k i room b r =
+    plays-bind _ (fixed-plays 256 (u .code) i (channelBody u) room (k .0) (omega arith) (omega arith) z (omega arith) (omega arith))
+    (plays-give _ (channels-play u z cs (k .1) (suc i) (room - 256) (omega arith) (omega arith)))
 
 pub record-size : (h : Head) (t : List Event) → size (recordOf h t) ≡ 16 + size t
 unfolding recordOf size
 record-size h t = omega arith
 
-channel-events-size : (cs : List Channel) → All ChannelOk cs → (i : ℕ) → size (channelEvents i cs) ≡ 256 * length cs
+channel-events-size : (u : Sub) (cs : List Channel) → All (ChannelOk u) cs → (i : ℕ) → size (channelEvents u i cs) ≡ 256 * length cs
 unfolding channelEvents size
-channel-events-size [] k i = refl
-channel-events-size (c ∷ cs) k i =
-    rw (size-append (recordOf (plainHead 256 125 i) (channelFields c)) (channelEvents (suc i) cs), record-size, channel-size (k .0), channel-events-size cs (k .1) (suc i)) (omega arith)
+channel-events-size u [] k i = refl
+channel-events-size u (c ∷ cs) k i =
+    rw (size-append (recordOf (plainHead 256 (u .code) i) (channelFields u c)) (channelEvents u (suc i) cs), record-size, channel-size u (k .0), channel-events-size u cs (k .1) (suc i)) (omega arith)
 
-pub record ChannelsOk (b : Basic) (cs : List Channel) : Type 0 where
+pub record ChannelsOk (g : Group) (cs : List Channel) : Type 0 where
   pub count : between 1 128 (length cs) ≡ true
-  pub same : length cs ≡ b .channels
-  pub each : All ChannelOk cs
+  pub same : g .counts (length cs) ≡ true
+  pub each : All (ChannelOk (g .sub)) cs
 
-pub few-channels : (b : Basic) (cs : List Channel) → ChannelsOk b cs → length cs ≤ 128
+pub few-channels : (g : Group) (cs : List Channel) → ChannelsOk g cs → length cs ≤ 128
 unfolding between padding padded makerCode
-few-channels b cs k = leb-true (length cs) 128 (and-true (leb 1 (length cs)) _ (k .count) .1)
+few-channels g cs k = leb-true (length cs) 128 (and-true (leb 1 (length cs)) _ (k .count) .1)
 
-pub channels-size : (b : Basic) (cs : List Channel) → ChannelsOk b cs → size (recordOf (channelsHead cs) (channelsWritten cs)) ≡ 32 + 256 * length cs
+pub channels-size : (g : Group) (cs : List Channel) → ChannelsOk g cs → size (recordOf (channelsHead g cs) (channelsWritten g cs)) ≡ 32 + 256 * length cs
 unfolding channelsWritten size
-channels-size b cs k = rw (record-size, channel-events-size cs (k .each) 1) (omega arith)
+channels-size g cs k = rw (record-size, channel-events-size (g .sub) cs (k .each) 1) (omega arith)
 
-pub channels-ok : (b : Basic) (room : ℕ) (h : Head) {t : List Event} {cs : List Channel} → Plays t (channels b room h) cs →
-    ChannelsOk b cs × (32 + 256 * length cs ≡ span h) × (span h ≤ room)
+pub channels-ok : (g : Group) (room : ℕ) (h : Head) {t : List Event} {cs : List Channel} → Plays t (channels g room h) cs →
+    ChannelsOk g cs × (32 + 256 * length cs ≡ span h) × (span h ≤ room)
 unfolding channels channelsBody _>>=_ _>>_
-channels-ok b room h p =
+channels-ok g room h p =
     let a = plays-split (admit room 0 (leb 32) (eqb 0) h) _ p in
     let m = counted (a .behind) in
     let c₁ = checked (m .then) in
     let c₂ = checked (c₁ .then) in
     let c₃ = checked (c₂ .then) in
     let s = counted (c₃ .then) in
-    let j = series-ok ChannelOk channel (λ room i t c. channel-ok room i) (m .word) 1 256 (span h - 32) (skipped (checked (s .then) .then) .then) in (
-      record { count = rw (j .0) (c₁ .holds); same = j .0 ∙ eqb-true (m .word) (b .channels) (c₂ .holds); each = j .1 },
+    let j = series-ok (ChannelOk (g .sub)) (channel (g .sub)) (λ room i t c. channel-ok (g .sub) room i) (m .word) 1 256 (span h - 32) (skipped (checked (s .then) .then) .then) in (
+      record { count = rw (j .0) (c₁ .holds); same = rw (j .0) (c₂ .holds); each = j .1 },
       rw (j .0) (sym (eqb-true (span h) (32 + 256 * m .word) (c₃ .holds))),
       admit-ok room 0 (leb 32) (eqb 0) h (a .before) .room,
     )
 
-pub channels-plays : (b : Basic) (cs : List Channel) → ChannelsOk b cs → (room : ℕ) → 32 + 256 * length cs ≤ room →
-    Plays (rowOf (channelsHead cs) ∷ channelsWritten cs) (channels b room (channelsHead cs)) cs
+pub channels-plays : (g : Group) → g .sub .code < 256 ^ 4 → (cs : List Channel) → ChannelsOk g cs → (room : ℕ) → 32 + 256 * length cs ≤ room →
+    Plays (rowOf (channelsHead g cs) ∷ channelsWritten g cs) (channels g room (channelsHead g cs)) cs
 unfolding channels channelsBody channelsWritten _>>=_ _>>_ lengthOf
-channels-plays b cs k room r =
-    let n = few-channels b cs k in
-    plays-bind _ (admit-plays room 0 (leb 32) (eqb 0) (channelsHead cs) (record { low = omega arith; small = omega arith; fits = le-leb 32 (32 + 256 * length cs) (omega arith); room = r; serial = refl }))
-    (numbers (omega arith) (checks (k .count) (checks (eq-eqb (length cs) (b .channels) (k .same)) (checks (eq-eqb (32 + 256 * length cs) (32 + 256 * length cs) refl)
-    (numbers (omega arith) (checks refl (skips (zeros-length 8) (zeros-bytes 8) (channels-play cs (k .each) 1 (32 + 256 * length cs - 32) (omega arith) (omega arith)))))))))
+channels-plays g z cs k room r =
+    let n = few-channels g cs k in
+    plays-bind _ (admit-plays room 0 (leb 32) (eqb 0) (channelsHead g cs) (record { low = omega arith; small = omega arith; fits = le-leb 32 (32 + 256 * length cs) (omega arith); room = r; serial = refl }))
+    (numbers (omega arith) (checks (k .count) (checks (k .same) (checks (eq-eqb (32 + 256 * length cs) (32 + 256 * length cs) refl)
+    (numbers (omega arith) (checks refl (skips (zeros-length 8) (zeros-bytes 8) (channels-play (g .sub) z cs (k .each) 1 (32 + 256 * length cs - 32) (omega arith) (omega arith)))))))))
 
 -- 130 and 200
 

@@ -4,18 +4,20 @@ use mathlib.Core.Path.{_≡_, refl, sym, ap, _∙_}
 use mathlib.Core.Bool.{Bool, true, false}
 use mathlib.Core.List.{List, [], _∷_, _++_, append-assoc}
 use mathlib.Core.Option.{Option, none, some}
-use Prim.Native.Nat.{ℕ, _+_, _*_, _-_, _≤_, _<_, max}
+use Prim.Native.Nat.{ℕ, _+_, _*_, _-_, _^_, _≤_, _<_, max}
 use native.Mathlib.Nat.{zero-add}
 use native.Mathlib.Omega.{arith}
 use lib.Dec.{leb, eqb}
-use borrow.Author.Tests.{leb-true, le-leb, lt-ltb}
+use borrow.Author.Tests.{leb-true, le-leb, lt-ltb, eq-eqb}
 use lib.ListN.{length}
 use Rattle.walk.specs.Plays.{Plays, gives, checks, lists}
 use Rattle.walk.specs.Walk.{Event, row, size, Walk, give, refuse, _>>=_, _>>_}
 use Rattle.walk.proofs.Apart.{false-true}
 use Rattle.walk.proofs.Laws.{plays-bind, plays-split, plays-give, traced, size-append, by-split, by-check, by-read, plays-gave}
-use Rattle.rules.specs.Canonical.{zeroes, numerals, rowOf, plainHead, recordOf, basicFields, channelsHead, channelsWritten, itemsHead, itemsWritten, frameSize, framesBytes, framesHead, framesWritten, makerEvents, optional, delimiterHead, delimiterEvents, content}
-use Rattle.rules.specs.Rules.{between, padding, padded, makerCode, zeros, Head, head, lengthOf, span, admit, padOk, Basic, basicBody, basic, Channel, channels, Item, items, patientCode, eventCode, frames, Maker, Next, next, Part, part, Recording, heldChannels, heldPatient, contentLimit, delimiter, Layout, Placed, recording, frame, signals, between, padding, padded, makerCode, zeros, Head, head, lengthOf, span, admit, padOk, Basic, basicBody, basic, Channel, channels, Item, items, patientCode, eventCode, frames, Maker, Held as Inherited, Next, next, Part, part, Recording, heldChannels, heldPatient, contentLimit, delimiter, Layout, Placed, recording}
+use Rattle.rules.specs.Canonical.{zeroes, numerals, rowOf, plainHead, recordOf, basicFields, channelsHead, channelsWritten, itemsHead, itemsWritten, frameSize, framesBytes, framesHead, framesWritten, makerEvents, optional, delimiterHead, delimiterEvents, ownGroup, overGroup, content}
+use Rattle.rules.specs.Rules.{between, padding, padded, makerCode, zeros, Label, Head, head, lengthOf, span, admit, padOk, basicBody, basic, Group, channelsGroup, montageGroup, Channel, channels, Item, items, patientCode, eventCode, frames, Maker, Held as Inherited, Next, next, Part, part, Recording, heldChannels, heldPatient, contentLimit, delimiter, Layout, Placed, recording, montage, frame, signals}
+use Rattle.rules.specs.declared.Form.the-variants as Form
+use Rattle.rules.proofs.Cases.{by-form}
 use Rattle.rules.proofs.Steps.{body-steps}
 use Rattle.rules.proofs.Renew.{HeadOk, head-plays, Admitted, admit-plays, fixed-plays, basic-ok, basic-size, All, record-size, ChannelsOk, few-channels, channels-size, channels-ok, channels-plays, ItemsOk, items-ok, items-size, items-plays, padding-plays, FramesOk, frames-ok, frames-size, frames-plays, if-true, if-false, if-case, MakerOk, next-ok, next-plays, makers-count}
 use Rattle.rules.proofs.Sized.{sized}
@@ -81,25 +83,37 @@ module _ {A : Type 0} (P : A → Type 0) (events : A → List Event) (code : ℕ
 
 -- A recording
 
-channelsRecord : List Channel → List Event
-channelsRecord cs = recordOf (channelsHead cs) (channelsWritten cs)
+channelsRecord : Group → List Channel → List Event
+channelsRecord g cs = recordOf (channelsHead g cs) (channelsWritten g cs)
 
 itemsRecord : ℕ → List Item → List Event
 itemsRecord code is = recordOf (itemsHead code is) (itemsWritten is)
 
-pub record RecordingOk (held : Option Inherited) (r : Recording) : Type 0 where
+-- a montage of these electrodes: in form 00 there is none
+unfoldable pub MontageOk : Label → List Channel → List Channel → Type 0
+MontageOk label cs ms = elim (label .form) [
+  | Form.Channels ↦ ⊥
+  | Form.Electrodes ↦ ChannelsOk (montageGroup (length cs)) ms
+]
+
+pub montage-channels : (label : Label) (cs ms : List Channel) → MontageOk label cs ms → ChannelsOk (montageGroup (length cs)) ms
+unfolding MontageOk
+montage-channels label cs ms = by-form (λ l. MontageOk l cs ms → ChannelsOk (montageGroup (length cs)) ms) (λ k. absurd k) (λ k. k) label
+
+pub record RecordingOk (label : Label) (held : Option Inherited) (r : Recording) : Type 0 where
   pub basic : Plays (basicFields (r .basic)) basicBody (r .basic)
   pub makers₁ : All MakerOk (r .makers₁)
-  pub channels : PartOk (ChannelsOk (r .basic)) (heldChannels held) (r .ownChannels) (r .channels) (r .makers₂)
+  pub channels : PartOk (ChannelsOk (ownGroup label r)) (heldChannels held) (r .ownChannels) (r .channels) (r .makers₂)
   pub patient : PartOk (ItemsOk patientCode) (heldPatient held) (r .ownPatient) (r .patient) (r .makers₃)
   pub events : PartOk (ItemsOk eventCode) (some []) (r .ownEvents) (r .events) (r .makers₄)
+  pub montage : PartOk (MontageOk label (r .channels)) (some []) (r .ownMontage) (r .montage) (r .makers₅)
   pub frames : FramesOk (r .basic) (r .ownChannels) (r .channels) (r .seconds) (r .frames)
-  pub makers₅ : All MakerOk (r .makers₅)
-  pub limited : 16 + size (content r) ≤ contentLimit + (span (framesHead (r .seconds) (r .channels) (r .frames)) - framesBytes (r .seconds) (r .channels) (r .frames))
+  pub makers₆ : All MakerOk (r .makers₆)
+  pub limited : 16 + size (content label r) ≤ contentLimit + (span (framesHead (r .seconds) (r .channels) (r .frames)) - framesBytes (r .seconds) (r .channels) (r .frames))
 
 -- the lengths of the parts
-partC : Recording → ℕ
-partC r = size (optional (r .ownChannels) (channelsRecord (r .channels) ++ makerEvents (r .makers₂)))
+partC : Label → Recording → ℕ
+partC label r = size (optional (r .ownChannels) (channelsRecord (ownGroup label r) (r .channels) ++ makerEvents (r .makers₂)))
 
 partP : Recording → ℕ
 partP r = size (optional (r .ownPatient) (itemsRecord 130 (r .patient) ++ makerEvents (r .makers₃)))
@@ -107,70 +121,84 @@ partP r = size (optional (r .ownPatient) (itemsRecord 130 (r .patient) ++ makerE
 partE : Recording → ℕ
 partE r = size (optional (r .ownEvents) (itemsRecord 200 (r .events) ++ makerEvents (r .makers₄)))
 
+partM : Recording → ℕ
+partM r = size (optional (r .ownMontage) (channelsRecord (overGroup r) (r .montage) ++ makerEvents (r .makers₅)))
+
 spanF : Recording → ℕ
 spanF r = span (framesHead (r .seconds) (r .channels) (r .frames))
 
 usedF : Recording → ℕ
 usedF r = framesBytes (r .seconds) (r .channels) (r .frames)
 
-content-size : (r : Recording) → Plays (basicFields (r .basic)) basicBody (r .basic) → FramesOk (r .basic) (r .ownChannels) (r .channels) (r .seconds) (r .frames) →
-    size (content r) ≡ 128 + (size (makerEvents (r .makers₁)) + (partC r + (partP r + (partE r + (spanF r + (size (makerEvents (r .makers₅)) + 16))))))
-unfolding content partC partP partE spanF channelsRecord itemsRecord delimiterEvents size
-content-size r b f =
+content-size : (label : Label) (r : Recording) → Plays (basicFields (r .basic)) basicBody (r .basic) → FramesOk (r .basic) (r .ownChannels) (r .channels) (r .seconds) (r .frames) →
+    size (content label r) ≡ 128 + (size (makerEvents (r .makers₁)) + (partC label r + (partP r + (partE r + (partM r + (spanF r + (size (makerEvents (r .makers₆)) + 16)))))))
+unfolding content partC partP partE partM spanF channelsRecord itemsRecord delimiterEvents size
+content-size label r b f =
     rw (
       size-append (recordOf (plainHead 128 100 0) (basicFields (r .basic))),
       record-size,
       basic-size b,
       size-append (makerEvents (r .makers₁)),
-      size-append (optional (r .ownChannels) (recordOf (channelsHead (r .channels)) (channelsWritten (r .channels)) ++ makerEvents (r .makers₂))),
+      size-append (optional (r .ownChannels) (recordOf (channelsHead (ownGroup label r) (r .channels)) (channelsWritten (ownGroup label r) (r .channels)) ++ makerEvents (r .makers₂))),
       size-append (optional (r .ownPatient) (recordOf (itemsHead 130 (r .patient)) (itemsWritten (r .patient)) ++ makerEvents (r .makers₃))),
       size-append (optional (r .ownEvents) (recordOf (itemsHead 200 (r .events)) (itemsWritten (r .events)) ++ makerEvents (r .makers₄))),
+      size-append (optional (r .ownMontage) (recordOf (channelsHead (overGroup r) (r .montage)) (channelsWritten (overGroup r) (r .montage)) ++ makerEvents (r .makers₅))),
       size-append (recordOf (framesHead (r .seconds) (r .channels) (r .frames)) (framesWritten (r .seconds) (r .channels) (r .frames))),
       frames-size (r .basic) (r .ownChannels) (r .channels) (r .seconds) (r .frames) f,
-      size-append (makerEvents (r .makers₅)),
+      size-append (makerEvents (r .makers₆)),
     )
 
-limited-sum : (B m₁ n C c P p E e sp fb pd m₅ d sp′ L all : ℕ) → m₁ + n ≡ B - 144 → C + c ≡ n → P + p ≡ c → E + e ≡ p → fb + pd ≡ sp → sp ≤ e → m₅ + d ≡ e - sp → 16 ≤ d →
-    B - (d - 16) - pd ≤ L → all ≡ 128 + (m₁ + (C + (P + (E + (sp′ + (m₅ + 16)))))) → fb ≤ sp′ → 16 + all ≤ L + (sp′ - fb)
-limited-sum B m₁ n C c P p E e sp fb pd m₅ d sp′ L all h₁ h₂ h₃ h₄ h₅ h₆ h₇ h₈ h₉ h₁₀ h₁₁ =
-    let k₁ : e ≡ sp + (m₅ + d) = omega (arith, h₆, h₇) in
-    let k₂ : B ≡ 144 + (m₁ + (C + (P + (E + (sp + (m₅ + d)))))) = omega (arith, h₁, h₂, h₃, h₄, h₈, k₁) in
-    let k₃ : B - (d - 16) - pd ≡ 160 + (m₁ + (C + (P + (E + (fb + m₅))))) = omega (arith, k₂, h₅, h₈) in
-    let k₄ : 160 + (m₁ + (C + (P + (E + (fb + m₅))))) ≤ L = rw k₃ at h₉ in
-    final m₁ C P E fb m₅ sp′ L all k₄ h₁₀ h₁₁
+limited-sum : (B m₁ n C c P p E e M m sp fb pd m₆ d sp′ L all : ℕ) → m₁ + n ≡ B - 144 → C + c ≡ n → P + p ≡ c → E + e ≡ p → M + m ≡ e → fb + pd ≡ sp → sp ≤ m → m₆ + d ≡ m - sp → 16 ≤ d →
+    B - (d - 16) - pd ≤ L → all ≡ 128 + (m₁ + (C + (P + (E + (M + (sp′ + (m₆ + 16))))))) → fb ≤ sp′ → 16 + all ≤ L + (sp′ - fb)
+limited-sum B m₁ n C c P p E e M m sp fb pd m₆ d sp′ L all h₁ h₂ h₃ h₄ h₅ h₆ h₇ h₈ h₉ h₁₀ h₁₁ h₁₂ =
+    let k₁ : m ≡ sp + (m₆ + d) = omega (arith, h₇, h₈) in
+    let k₂ : B ≡ 144 + (m₁ + (C + (P + (E + (M + (sp + (m₆ + d))))))) = omega (arith, h₁, h₂, h₃, h₄, h₅, h₉, k₁) in
+    let k₃ : B - (d - 16) - pd ≡ 160 + (m₁ + (C + (P + (E + (M + (fb + m₆)))))) = omega (arith, k₂, h₆, h₉) in
+    let k₄ : 160 + (m₁ + (C + (P + (E + (M + (fb + m₆)))))) ≤ L = rw k₃ at h₁₀ in
+    final m₁ C P E M fb m₆ sp′ L all k₄ h₁₁ h₁₂
   where
-    final : (m₁ C P E fb m₅ sp′ L all : ℕ) → 160 + (m₁ + (C + (P + (E + (fb + m₅))))) ≤ L → all ≡ 128 + (m₁ + (C + (P + (E + (sp′ + (m₅ + 16)))))) → fb ≤ sp′ → 16 + all ≤ L + (sp′ - fb)
-    final m₁ C P E fb m₅ sp′ L all k h g = omega arith
+    final : (m₁ C P E M fb m₆ sp′ L all : ℕ) → 160 + (m₁ + (C + (P + (E + (M + (fb + m₆)))))) ≤ L → all ≡ 128 + (m₁ + (C + (P + (E + (M + (sp′ + (m₆ + 16))))))) → fb ≤ sp′ → 16 + all ≤ L + (sp′ - fb)
+    final m₁ C P E M fb m₆ sp′ L all k h g = omega arith
 
-channels-good : (b : Basic) (room : ℕ) (h : Head) (u : List Event) (cs : List Channel) → Plays u (channels b room h) cs → ChannelsOk b cs × (size (channelsRecord cs) ≡ span h) × (span h ≤ room)
+channels-good : (g : Group) (room : ℕ) (h : Head) (u : List Event) (cs : List Channel) → Plays u (channels g room h) cs → ChannelsOk g cs × (size (channelsRecord g cs) ≡ span h) × (span h ≤ room)
 unfolding channelsRecord
-channels-good b room h u cs p = let g = channels-ok b room h p in (g .0, channels-size b cs (g .0) ∙ g .1, g .2)
+channels-good g room h u cs p = let k = channels-ok g room h p in (k .0, channels-size g cs (k .0) ∙ k .1, k .2)
+
+montage-good : (label : Label) (cs : List Channel) (room : ℕ) (h : Head) (u : List Event) (ms : List Channel) → Plays u (montage label cs room h) ms →
+    MontageOk label cs ms × (size (channelsRecord (montageGroup (length cs)) ms) ≡ span h) × (span h ≤ room)
+unfolding montage MontageOk
+montage-good label cs room h u ms =
+    by-form (λ l. Plays u (montage l cs room h) ms → MontageOk l cs ms × (size (channelsRecord (montageGroup (length cs)) ms) ≡ span h) × (span h ≤ room))
+    (λ p. absurd (traced p .trace)) (channels-good (montageGroup (length cs)) room h u ms) label
 
 items-good : (ok : ℕ → Bool) (code room : ℕ) (h : Head) (u : List Event) (is : List Item) → Plays u (items ok room h) is → ItemsOk ok is × (size (itemsRecord code is) ≡ span h) × (span h ≤ room)
 unfolding itemsRecord
 items-good ok code room h u is p = let g = items-ok ok room h p in (g .0, items-size code is ∙ g .1, g .2)
 
-pub recording-ok : (held : Option Inherited) (room i : ℕ) {t : List Event} {x : Placed} → Plays t (recording held room i) x → RecordingOk held (x .recording)
-unfolding recording signals partC partP partE spanF _>>=_ _>>_ between padding padded makerCode
-recording-ok held room i p =
+pub recording-ok : (label : Label) (held : Option Inherited) (room i : ℕ) {t : List Event} {x : Placed} → Plays t (recording label held room i) x → RecordingOk label held (x .recording)
+unfolding recording signals partC partP partE partM spanF _>>=_ _>>_ between padding padded makerCode
+recording-ok label held room i p =
     by-split (head room) _ p λ h _ _ _ p. by-check p λ _ p.
     by-split (admit room 128 (leb 16) (eqb i) h) _ p λ _ _ _ _ p.
     by-split (basic (span h - 16)) _ (rw body-steps at p) λ b _ _ b₀ p.
+    let g : Group = channelsGroup label (b .channels) in
     by-split (next (span h) (span h - 144)) _ p λ n _ _ n₀ p.
-    by-split (part (span h) 120 (channels b) (heldChannels held) n) _ p λ c _ _ c₀ p.
+    by-split (part (span h) (g .code) (channels g) (heldChannels held) n) _ p λ c _ _ c₀ p.
     by-split (part (span h) 130 (items patientCode) (heldPatient held) (c .next)) _ p λ q _ _ q₀ p.
-    by-split (part (span h) 200 (items eventCode) (some []) (q .next)) _ p λ e _ _ e₀ p. by-check p λ _ p.
-    by-split (frames b (c .own) (c .value) (span h - e .next .room - 20) (e .next .room) (e .next .head)) _ p λ f _ _ f₀ p.
-    by-split (next (span h) (e .next .room - span (e .next .head))) _ p λ d _ _ d₀ p.
+    by-split (part (span h) 200 (items eventCode) (some []) (q .next)) _ p λ e _ _ e₀ p.
+    by-split (part (span h) 350 (montage label (c .value)) (some []) (e .next)) _ p λ m _ _ m₀ p. by-check p λ _ p.
+    by-split (frames b (c .own) (c .value) (span h - m .next .room - 20) (m .next .room) (m .next .head)) _ p λ f _ _ f₀ p.
+    by-split (next (span h) (m .next .room - span (m .next .head))) _ p λ d _ _ d₀ p.
     by-split (delimiter (d .head)) _ p λ _ _ _ _ p. by-check p λ l p. by-check p λ _ p. by-read p λ bs _ _ _ p.
     by-split (zeros bs) _ p λ _ _ _ _ p.
     let b₁ = basic-ok (span h - 16) b₀ in
     let n₁ = next-ok (span h) (span h - 144) n₀ in
-    let c₁ = part-ok (ChannelsOk b) channelsRecord 120 (channels b) (channels-good b) (span h) (heldChannels held) n (n₁ .enough) c₀ in
+    let c₁ = part-ok (ChannelsOk g) (channelsRecord g) (g .code) (channels g) (channels-good g) (span h) (heldChannels held) n (n₁ .enough) c₀ in
     let q₁ = part-ok (ItemsOk patientCode) (itemsRecord 130) 130 (items patientCode) (items-good patientCode 130) (span h) (heldPatient held) (c .next) (c₁ .enough) q₀ in
     let e₁ = part-ok (ItemsOk eventCode) (itemsRecord 200) 200 (items eventCode) (items-good eventCode 200) (span h) (some []) (q .next) (q₁ .enough) e₀ in
-    let f₁ = frames-ok b (c .own) (c .value) (span h - e .next .room - 20) (e .next .room) (e .next .head) f₀ in
-    let d₁ = next-ok (span h) (e .next .room - span (e .next .head)) d₀ in
+    let m₁ = part-ok (MontageOk label (c .value)) (channelsRecord (montageGroup (length (c .value)))) 350 (montage label (c .value)) (montage-good label (c .value)) (span h) (some []) (e .next) (e₁ .enough) m₀ in
+    let f₁ = frames-ok b (c .own) (c .value) (span h - m .next .room - 20) (m .next .room) (m .next .head) f₀ in
+    let d₁ = next-ok (span h) (m .next .room - span (m .next .head)) d₀ in
     rw (plays-gave p)
     (record {
       basic = b₁;
@@ -178,9 +206,10 @@ recording-ok held room i p =
       channels = c₁ .good;
       patient = q₁ .good;
       events = e₁ .good;
+      montage = m₁ .good;
       frames = f₁ .0;
-      makers₅ = d₁ .each;
-      limited = limited-sum (span h) _ _ _ _ _ _ _ _ _ _ _ _ _ _ contentLimit _ (n₁ .left) (c₁ .left) (q₁ .left) (e₁ .left) (f₁ .1) (f₁ .2) (d₁ .left) (d₁ .enough) (leb-true _ contentLimit l) (content-size _ b₁ (f₁ .0)) (sized _ .serves);
+      makers₆ = d₁ .each;
+      limited = limited-sum (span h) _ _ _ _ _ _ _ _ _ _ _ _ _ _ _ _ contentLimit _ (n₁ .left) (c₁ .left) (q₁ .left) (e₁ .left) (m₁ .left) (f₁ .1) (f₁ .2) (d₁ .left) (d₁ .enough) (leb-true _ contentLimit l) (content-size label _ b₁ (f₁ .0)) (sized _ .serves);
     })
 
 -- the events of a recording in the order in which the walk has them: each head is read with what stands before it
@@ -191,52 +220,61 @@ unfolding optional recordOf
 shift true h k inside mk t = simp append-assoc
 shift false h k inside mk t = refl
 
-assoc : (b m c p e f g d z : List Event) → (b ++ (m ++ (c ++ (p ++ (e ++ (f ++ (g ++ d))))))) ++ z ≡ b ++ (m ++ (c ++ (p ++ (e ++ (f ++ (g ++ (d ++ z)))))))
-assoc b m c p e f g d z = simp append-assoc
+assoc : (b m c p e o f g d z : List Event) → (b ++ (m ++ (c ++ (p ++ (e ++ (o ++ (f ++ (g ++ d)))))))) ++ z ≡ b ++ (m ++ (c ++ (p ++ (e ++ (o ++ (f ++ (g ++ (d ++ z))))))))
+assoc b m c p e o f g d z = simp append-assoc
 
 module _ (r : Recording) where
   h140 : Head
   h140 = framesHead (r .seconds) (r .channels) (r .frames)
 
+  h350 : Head
+  h350 = pick (r .ownMontage) (channelsHead (overGroup r) (r .montage)) h140
+
   h200 : Head
-  h200 = pick (r .ownEvents) (itemsHead 200 (r .events)) h140
+  h200 = pick (r .ownEvents) (itemsHead 200 (r .events)) h350
 
   h130 : Head
   h130 = pick (r .ownPatient) (itemsHead 130 (r .patient)) h200
-
-  h120 : Head
-  h120 = pick (r .ownChannels) (channelsHead (r .channels)) h130
-
-  eventsC : List Event
-  eventsC = optional (r .ownChannels) ((rowOf (channelsHead (r .channels)) ∷ channelsWritten (r .channels)) ++ (makerEvents (r .makers₂) ++ numerals h130))
 
   eventsP : List Event
   eventsP = optional (r .ownPatient) ((rowOf (itemsHead 130 (r .patient)) ∷ itemsWritten (r .patient)) ++ (makerEvents (r .makers₃) ++ numerals h200))
 
   eventsE : List Event
-  eventsE = optional (r .ownEvents) ((rowOf (itemsHead 200 (r .events)) ∷ itemsWritten (r .events)) ++ (makerEvents (r .makers₄) ++ numerals h140))
+  eventsE = optional (r .ownEvents) ((rowOf (itemsHead 200 (r .events)) ∷ itemsWritten (r .events)) ++ (makerEvents (r .makers₄) ++ numerals h350))
+
+  eventsM : List Event
+  eventsM = optional (r .ownMontage) ((rowOf (channelsHead (overGroup r) (r .montage)) ∷ channelsWritten (overGroup r) (r .montage)) ++ (makerEvents (r .makers₅) ++ numerals h140))
 
   eventsF : List Event
   eventsF = rowOf h140 ∷ framesWritten (r .seconds) (r .channels) (r .frames)
 
-  arranged : (z : List Event) → content r ++ z ≡
-      recordOf (plainHead 128 100 0) (basicFields (r .basic)) ++ ((makerEvents (r .makers₁) ++ numerals h120) ++ (eventsC ++ (eventsP ++ (eventsE ++ (eventsF ++
-      ((makerEvents (r .makers₅) ++ numerals delimiterHead) ++ (row 16 16 0 0 ∷ z)))))))
-  unfolding content h140 h200 h130 h120 eventsC eventsP eventsE eventsF delimiterEvents recordOf
+module _ (label : Label) (r : Recording) where
+  h120 : Head
+  h120 = pick (r .ownChannels) (channelsHead (ownGroup label r) (r .channels)) (h130 r)
+
+  eventsC : List Event
+  eventsC = optional (r .ownChannels) ((rowOf (channelsHead (ownGroup label r) (r .channels)) ∷ channelsWritten (ownGroup label r) (r .channels)) ++ (makerEvents (r .makers₂) ++ numerals (h130 r)))
+
+  arranged : (z : List Event) → content label r ++ z ≡
+      recordOf (plainHead 128 100 0) (basicFields (r .basic)) ++ ((makerEvents (r .makers₁) ++ numerals h120) ++ (eventsC ++ (eventsP r ++ (eventsE r ++ (eventsM r ++ (eventsF r ++
+      ((makerEvents (r .makers₆) ++ numerals delimiterHead) ++ (row 16 16 0 0 ∷ z))))))))
+  unfolding content h140 h350 h200 h130 h120 eventsC eventsP eventsE eventsM eventsF delimiterEvents recordOf
   arranged z =
       let b : List Event = recordOf (plainHead 128 100 0) (basicFields (r .basic)) in
       let m : List Event = makerEvents (r .makers₁) in
-      let c : List Event = optional (r .ownChannels) (recordOf (channelsHead (r .channels)) (channelsWritten (r .channels)) ++ makerEvents (r .makers₂)) in
+      let c : List Event = optional (r .ownChannels) (recordOf (channelsHead (ownGroup label r) (r .channels)) (channelsWritten (ownGroup label r) (r .channels)) ++ makerEvents (r .makers₂)) in
       let p : List Event = optional (r .ownPatient) (recordOf (itemsHead 130 (r .patient)) (itemsWritten (r .patient)) ++ makerEvents (r .makers₃)) in
       let e : List Event = optional (r .ownEvents) (recordOf (itemsHead 200 (r .events)) (itemsWritten (r .events)) ++ makerEvents (r .makers₄)) in
-      let f : List Event = recordOf h140 (framesWritten (r .seconds) (r .channels) (r .frames)) in
-      let y : List Event = (makerEvents (r .makers₅) ++ numerals delimiterHead) ++ (row 16 16 0 0 ∷ z) in
-      assoc b m c p e f (makerEvents (r .makers₅)) delimiterEvents z ∙
-      ap (λ (x : List Event). b ++ (m ++ (c ++ (p ++ (e ++ (f ++ x)))))) (sym (append-assoc (makerEvents (r .makers₅)) (numerals delimiterHead) (row 16 16 0 0 ∷ z))) ∙
-      ap (λ (x : List Event). b ++ (m ++ (c ++ (p ++ x)))) (shift (r .ownEvents) (itemsHead 200 (r .events)) h140 (itemsWritten (r .events)) (makerEvents (r .makers₄)) (eventsF ++ y)) ∙
-      ap (λ (x : List Event). b ++ (m ++ (c ++ x))) (shift (r .ownPatient) (itemsHead 130 (r .patient)) h200 (itemsWritten (r .patient)) (makerEvents (r .makers₃)) (eventsE ++ (eventsF ++ y))) ∙
-      ap (λ (x : List Event). b ++ (m ++ x)) (shift (r .ownChannels) (channelsHead (r .channels)) h130 (channelsWritten (r .channels)) (makerEvents (r .makers₂)) (eventsP ++ (eventsE ++ (eventsF ++ y)))) ∙
-      ap (λ (x : List Event). b ++ x) (sym (append-assoc m (numerals h120) (eventsC ++ (eventsP ++ (eventsE ++ (eventsF ++ y))))))
+      let o : List Event = optional (r .ownMontage) (recordOf (channelsHead (overGroup r) (r .montage)) (channelsWritten (overGroup r) (r .montage)) ++ makerEvents (r .makers₅)) in
+      let f : List Event = recordOf (h140 r) (framesWritten (r .seconds) (r .channels) (r .frames)) in
+      let y : List Event = (makerEvents (r .makers₆) ++ numerals delimiterHead) ++ (row 16 16 0 0 ∷ z) in
+      assoc b m c p e o f (makerEvents (r .makers₆)) delimiterEvents z ∙
+      ap (λ (x : List Event). b ++ (m ++ (c ++ (p ++ (e ++ (o ++ (f ++ x))))))) (sym (append-assoc (makerEvents (r .makers₆)) (numerals delimiterHead) (row 16 16 0 0 ∷ z))) ∙
+      ap (λ (x : List Event). b ++ (m ++ (c ++ (p ++ (e ++ x))))) (shift (r .ownMontage) (channelsHead (overGroup r) (r .montage)) (h140 r) (channelsWritten (overGroup r) (r .montage)) (makerEvents (r .makers₅)) (eventsF r ++ y)) ∙
+      ap (λ (x : List Event). b ++ (m ++ (c ++ (p ++ x)))) (shift (r .ownEvents) (itemsHead 200 (r .events)) (h350 r) (itemsWritten (r .events)) (makerEvents (r .makers₄)) (eventsM r ++ (eventsF r ++ y))) ∙
+      ap (λ (x : List Event). b ++ (m ++ (c ++ x))) (shift (r .ownPatient) (itemsHead 130 (r .patient)) (h200 r) (itemsWritten (r .patient)) (makerEvents (r .makers₃)) (eventsE r ++ (eventsM r ++ (eventsF r ++ y)))) ∙
+      ap (λ (x : List Event). b ++ (m ++ x)) (shift (r .ownChannels) (channelsHead (ownGroup label r) (r .channels)) (h130 r) (channelsWritten (ownGroup label r) (r .channels)) (makerEvents (r .makers₂)) (eventsP r ++ (eventsE r ++ (eventsM r ++ (eventsF r ++ y))))) ∙
+      ap (λ (x : List Event). b ++ x) (sym (append-assoc m (numerals h120) (eventsC ++ (eventsP r ++ (eventsE r ++ (eventsM r ++ (eventsF r ++ y)))))))
 
 pick-is : (Q : Head → Type 0) (own : Bool) (h k : Head) → (own ≡ true → Q h) → Q k → Q (pick own h k)
 pick-is Q true h k f q = f refl
@@ -262,31 +300,59 @@ no-padding n l x =
 content-fits : (B all pad n l x : ℕ) → B ≡ 16 + all + pad → 16 + all ≤ contentLimit + x → B - (16 + pad - 16) - (n * (l - l) + x) ≤ contentLimit
 content-fits B all pad n l x h k = rw no-padding (omega arith)
 
+-- a group with a code that is neither a maker's nor another part's
+record Apart (g : Group) : Type 0 where
+  code : g .code < 256 ^ 4
+  sub : g .sub .code < 256 ^ 4
+  maker : makerCode (g .code) ≡ false
+  patient : eqb 130 (g .code) ≡ false
+  events : eqb 200 (g .code) ≡ false
+  montage : eqb 350 (g .code) ≡ false
+  frames : eqb 140 (g .code) ≡ false
+
+channels-apart : (label : Label) (n : ℕ) → Apart (channelsGroup label n)
+unfolding channelsGroup between makerCode
+channels-apart label n =
+    by-form (λ l. Apart (channelsGroup l n))
+    (record { code = omega arith; sub = omega arith; maker = refl; patient = refl; events = refl; montage = refl; frames = refl })
+    (record { code = omega arith; sub = omega arith; maker = refl; patient = refl; events = refl; montage = refl; frames = refl }) label
+
+montage-plays : (label : Label) (cs ms : List Channel) → MontageOk label cs ms → (room : ℕ) → 32 + 256 * length ms ≤ room →
+    Plays (rowOf (channelsHead (montageGroup (length cs)) ms) ∷ channelsWritten (montageGroup (length cs)) ms) (montage label cs room (channelsHead (montageGroup (length cs)) ms)) ms
+unfolding montage MontageOk
+montage-plays label cs ms =
+    let g : Group = montageGroup (length cs) in
+    by-form (λ l. MontageOk l cs ms → (room : ℕ) → 32 + 256 * length ms ≤ room → Plays (rowOf (channelsHead g ms) ∷ channelsWritten g ms) (montage l cs room (channelsHead g ms)) ms)
+    (λ k. absurd k) (channels-plays g (omega arith) ms) label
+
 -- a recording that is played, wherever it has its parts
-pub record Anew (held : Option Inherited) (room i : ℕ) (t : List Event) (r : Recording) (n : ℕ) : Type 0 where
+pub record Anew (label : Label) (held : Option Inherited) (room i : ℕ) (t : List Event) (r : Recording) (n : ℕ) : Type 0 where
   pub layout : Layout
   pub bytes : layout .bytes ≡ n
-  pub plays : Plays t (recording held room i) (record { recording = r; layout = layout })
+  pub plays : Plays t (recording label held room i) (record { recording = r; layout = layout })
 
-module _ (held : Option Inherited) (r : Recording) (k : RecordingOk held r) (h : Head) (pad : ℕ) (total : span h ≡ 16 + size (content r) + pad) (short : pad < max 1 (h .multiplier)) where
+module _ (label : Label) (held : Option Inherited) (r : Recording) (k : RecordingOk label held r) (h : Head) (pad : ℕ) (total : span h ≡ 16 + size (content label r) + pad) (short : pad < max 1 (h .multiplier)) where
   roomD : ℕ
   roomD = 16 + pad
 
   roomF : ℕ
-  roomF = spanF r + (size (makerEvents (r .makers₅)) + roomD)
+  roomF = spanF r + (size (makerEvents (r .makers₆)) + roomD)
+
+  roomM : ℕ
+  roomM = partM r + roomF
 
   roomE : ℕ
-  roomE = partE r + roomF
+  roomE = partE r + roomM
 
   roomP : ℕ
   roomP = partP r + roomE
 
   roomC : ℕ
-  roomC = partC r + roomP
+  roomC = partC label r + roomP
 
   rooms : span h ≡ 144 + (size (makerEvents (r .makers₁)) + roomC)
-  unfolding roomC roomP roomE roomF roomD
-  rooms = omega (arith, total, content-size r (k .basic) (k .frames))
+  unfolding roomC roomP roomE roomM roomF roomD
+  rooms = omega (arith, total, content-size label r (k .basic) (k .frames))
 
   plain140 : Plain (h140 r)
   unfolding h140 between padding padded makerCode
@@ -298,43 +364,61 @@ module _ (held : Option Inherited) (r : Recording) (k : RecordingOk held r) (h :
   plain-items : (ok : ℕ → Bool) (code : ℕ) (is : List Item) → ItemsOk ok is → code < 1000 → makerCode code ≡ false → Plain (itemsHead code is)
   plain-items ok code is g c m = record { ok = record { size = omega (arith, g .small); code = omega arith; serial = omega arith; multiplier = omega arith }; code = m }
 
+  plain-channels : (g : Group) (cs : List Channel) → ChannelsOk g cs → g .code < 256 ^ 4 → makerCode (g .code) ≡ false → Plain (channelsHead g cs)
+  plain-channels g cs o c m =
+      let n = few-channels g cs o in
+      record { ok = record { size = omega arith; code = c; serial = omega arith; multiplier = omega arith }; code = m }
+
+  montage-own : r .ownMontage ≡ true → ChannelsOk (overGroup r) (r .montage)
+  montage-own e = montage-channels label (r .channels) (r .montage) (part-own (MontageOk label (r .channels)) (some []) (r .ownMontage) (r .montage) (r .makers₅) e (k .montage))
+
+  plain350 : Plain (h350 r)
+  unfolding h350 between padding padded makerCode
+  plain350 = pick-is Plain (r .ownMontage) (channelsHead (overGroup r) (r .montage)) (h140 r) (λ e. plain-channels (overGroup r) (r .montage) (montage-own e) (omega arith) refl) plain140
+
   plain200 : Plain (h200 r)
   unfolding h200 between padding padded makerCode
-  plain200 = pick-is Plain (r .ownEvents) (itemsHead 200 (r .events)) (h140 r) (λ e. plain-items eventCode 200 (r .events) (part-own (ItemsOk eventCode) (some []) (r .ownEvents) (r .events) (r .makers₄) e (k .events)) (omega arith) refl) plain140
+  plain200 = pick-is Plain (r .ownEvents) (itemsHead 200 (r .events)) (h350 r) (λ e. plain-items eventCode 200 (r .events) (part-own (ItemsOk eventCode) (some []) (r .ownEvents) (r .events) (r .makers₄) e (k .events)) (omega arith) refl) plain350
 
   plain130 : Plain (h130 r)
   unfolding h130 between padding padded makerCode
   plain130 = pick-is Plain (r .ownPatient) (itemsHead 130 (r .patient)) (h200 r) (λ e. plain-items patientCode 130 (r .patient) (part-own (ItemsOk patientCode) (heldPatient held) (r .ownPatient) (r .patient) (r .makers₃) e (k .patient)) (omega arith) refl) plain200
 
-  plain-channels : ChannelsOk (r .basic) (r .channels) → Plain (channelsHead (r .channels))
-  unfolding between padding padded makerCode
-  plain-channels g =
-      let n = few-channels (r .basic) (r .channels) g in
-      record { ok = record { size = omega arith; code = omega arith; serial = omega arith; multiplier = omega arith }; code = refl }
+  own : Apart (ownGroup label r)
+  own = channels-apart label (r .basic .channels)
 
-  plain120 : Plain (h120 r)
+  plain120 : Plain (h120 label r)
   unfolding h120
-  plain120 = pick-is Plain (r .ownChannels) (channelsHead (r .channels)) (h130 r) (λ e. plain-channels (part-own (ChannelsOk (r .basic)) (heldChannels held) (r .ownChannels) (r .channels) (r .makers₂) e (k .channels))) plain130
+  plain120 = pick-is Plain (r .ownChannels) (channelsHead (ownGroup label r) (r .channels)) (h130 r)
+      (λ e. plain-channels (ownGroup label r) (r .channels) (part-own (ChannelsOk (ownGroup label r)) (heldChannels held) (r .ownChannels) (r .channels) (r .makers₂) e (k .channels)) (own .code) (own .maker)) plain130
 
   other140 : (c : ℕ) → eqb 140 c ≡ false → eqb (h140 r .code) c ≡ false
   unfolding h140
   other140 c e = e
 
-  other200 : (c : ℕ) → eqb 140 c ≡ false → eqb 200 c ≡ false → eqb (h200 r .code) c ≡ false
-  unfolding h200
-  other200 c e f = pick-is (λ x. eqb (x .code) c ≡ false) (r .ownEvents) (itemsHead 200 (r .events)) (h140 r) (λ _. f) (other140 c e)
+  other350 : (c : ℕ) → eqb 140 c ≡ false → eqb 350 c ≡ false → eqb (h350 r .code) c ≡ false
+  unfolding h350
+  other350 c e m = pick-is (λ x. eqb (x .code) c ≡ false) (r .ownMontage) (channelsHead (overGroup r) (r .montage)) (h140 r) (λ _. m) (other140 c e)
 
-  other130 : (c : ℕ) → eqb 140 c ≡ false → eqb 200 c ≡ false → eqb 130 c ≡ false → eqb (h130 r .code) c ≡ false
+  other200 : (c : ℕ) → eqb 140 c ≡ false → eqb 350 c ≡ false → eqb 200 c ≡ false → eqb (h200 r .code) c ≡ false
+  unfolding h200
+  other200 c e m f = pick-is (λ x. eqb (x .code) c ≡ false) (r .ownEvents) (itemsHead 200 (r .events)) (h350 r) (λ _. f) (other350 c e m)
+
+  other130 : (c : ℕ) → eqb 140 c ≡ false → eqb 350 c ≡ false → eqb 200 c ≡ false → eqb 130 c ≡ false → eqb (h130 r .code) c ≡ false
   unfolding h130
-  other130 c e f g = pick-is (λ x. eqb (x .code) c ≡ false) (r .ownPatient) (itemsHead 130 (r .patient)) (h200 r) (λ _. g) (other200 c e f)
+  other130 c e m f g = pick-is (λ x. eqb (x .code) c ≡ false) (r .ownPatient) (itemsHead 130 (r .patient)) (h200 r) (λ _. g) (other200 c e m f)
 
   largeF : 16 ≤ roomF
   unfolding roomF roomD
   largeF = omega arith
 
+  largeM : 16 ≤ roomM
+  unfolding roomM
+  largeM = omega (arith, largeF)
+
   largeE : 16 ≤ roomE
   unfolding roomE
-  largeE = omega (arith, largeF)
+  largeE = omega (arith, largeM)
 
   largeP : 16 ≤ roomP
   unfolding roomP
@@ -348,31 +432,46 @@ module _ (held : Option Inherited) (r : Recording) (k : RecordingOk held r) (h :
   unfolding roomC roomP
   lessP = omega (arith, rooms)
 
-  lessE : partE r + roomF ≤ span h
+  lessE : partE r + roomM ≤ span h
   unfolding roomE
   lessE = omega (arith, lessP)
 
+  lessM : partM r + roomF ≤ span h
+  unfolding roomM
+  lessM = omega (arith, lessE)
+
   -- the parts
-  plays-c : Plays (eventsC r) (part (span h) 120 (channels (r .basic)) (heldChannels held) (record { makers = r .makers₁; head = h120 r; room = roomC }))
+  plays-c : Plays (eventsC label r) (part (span h) (ownGroup label r .code) (channels (ownGroup label r)) (heldChannels held) (record { makers = r .makers₁; head = h120 label r; room = roomC }))
       (record { own = r .ownChannels; value = r .channels; next = record { makers = r .makers₂; head = h130 r; room = roomP } })
   unfolding eventsC h120 roomC partC channelsRecord lengthOf
-  plays-c = part-plays (ChannelsOk (r .basic)) channelsRecord 120 (channels (r .basic)) (r .ownChannels) (heldChannels held) (r .channels) (r .makers₂) (r .makers₁) (channelsHead (r .channels)) (h130 r)
-      (channelsWritten (r .channels)) (span h) roomP (k .channels) refl refl (other130 120 refl refl refl) (plain130 .ok) (plain130 .code)
-      (channels-plays (r .basic) (r .channels)) (channels-size (r .basic) (r .channels)) largeP (omega (arith, rooms))
+  plays-c =
+      let g : Group = ownGroup label r in
+      part-plays (ChannelsOk g) (channelsRecord g) (g .code) (channels g) (r .ownChannels) (heldChannels held) (r .channels) (r .makers₂) (r .makers₁) (channelsHead g (r .channels)) (h130 r)
+      (channelsWritten g (r .channels)) (span h) roomP (k .channels) refl (eq-eqb (g .code) (g .code) refl) (other130 (g .code) (own .frames) (own .montage) (own .events) (own .patient)) (plain130 .ok) (plain130 .code)
+      (channels-plays g (own .sub) (r .channels)) (channels-size g (r .channels)) largeP (omega (arith, rooms))
 
   plays-p : Plays (eventsP r) (part (span h) 130 (items patientCode) (heldPatient held) (record { makers = r .makers₂; head = h130 r; room = roomP }))
       (record { own = r .ownPatient; value = r .patient; next = record { makers = r .makers₃; head = h200 r; room = roomE } })
   unfolding eventsP h130 roomP partP itemsRecord lengthOf
   plays-p = part-plays (ItemsOk patientCode) (itemsRecord 130) 130 (items patientCode) (r .ownPatient) (heldPatient held) (r .patient) (r .makers₃) (r .makers₂) (itemsHead 130 (r .patient)) (h200 r)
-      (itemsWritten (r .patient)) (span h) roomE (k .patient) refl refl (other200 130 refl refl) (plain200 .ok) (plain200 .code)
+      (itemsWritten (r .patient)) (span h) roomE (k .patient) refl refl (other200 130 refl refl refl) (plain200 .ok) (plain200 .code)
       (items-plays patientCode 130 (r .patient)) (λ _. items-size 130 (r .patient)) largeE lessP
 
   plays-e : Plays (eventsE r) (part (span h) 200 (items eventCode) (some []) (record { makers = r .makers₃; head = h200 r; room = roomE }))
-      (record { own = r .ownEvents; value = r .events; next = record { makers = r .makers₄; head = h140 r; room = roomF } })
+      (record { own = r .ownEvents; value = r .events; next = record { makers = r .makers₄; head = h350 r; room = roomM } })
   unfolding eventsE h200 roomE partE itemsRecord lengthOf
-  plays-e = part-plays (ItemsOk eventCode) (itemsRecord 200) 200 (items eventCode) (r .ownEvents) (some []) (r .events) (r .makers₄) (r .makers₃) (itemsHead 200 (r .events)) (h140 r)
-      (itemsWritten (r .events)) (span h) roomF (k .events) refl refl (other140 200 refl) (plain140 .ok) (plain140 .code)
-      (items-plays eventCode 200 (r .events)) (λ _. items-size 200 (r .events)) largeF lessE
+  plays-e = part-plays (ItemsOk eventCode) (itemsRecord 200) 200 (items eventCode) (r .ownEvents) (some []) (r .events) (r .makers₄) (r .makers₃) (itemsHead 200 (r .events)) (h350 r)
+      (itemsWritten (r .events)) (span h) roomM (k .events) refl refl (other350 200 refl refl) (plain350 .ok) (plain350 .code)
+      (items-plays eventCode 200 (r .events)) (λ _. items-size 200 (r .events)) largeM lessE
+
+  plays-m : Plays (eventsM r) (part (span h) 350 (montage label (r .channels)) (some []) (record { makers = r .makers₄; head = h350 r; room = roomM }))
+      (record { own = r .ownMontage; value = r .montage; next = record { makers = r .makers₅; head = h140 r; room = roomF } })
+  unfolding eventsM h350 roomM partM channelsRecord lengthOf
+  plays-m =
+      let g : Group = overGroup r in
+      part-plays (MontageOk label (r .channels)) (channelsRecord g) 350 (montage label (r .channels)) (r .ownMontage) (some []) (r .montage) (r .makers₅) (r .makers₄) (channelsHead g (r .montage)) (h140 r)
+      (channelsWritten g (r .montage)) (span h) roomF (k .montage) refl refl (other140 350 refl) (plain140 .ok) (plain140 .code)
+      (montage-plays label (r .channels) (r .montage)) (λ o. channels-size g (r .montage) (montage-channels label (r .channels) (r .montage) o)) largeF lessM
 
   padF : ℕ
   padF = length (r .frames) * (frameSize (r .seconds) (r .channels) - frameSize (r .seconds) (r .channels)) + (span (h140 r) - framesBytes (r .seconds) (r .channels) (r .frames))
@@ -381,14 +480,14 @@ module _ (held : Option Inherited) (r : Recording) (k : RecordingOk held r) (h :
   unfolding eventsF h140 roomF spanF padF
   plays-f back = frames-plays (r .basic) (r .ownChannels) (r .channels) (r .seconds) (r .frames) (k .frames) back roomF (omega arith)
 
-  plays-n : Plays (makerEvents (r .makers₁) ++ numerals (h120 r)) (next (span h) (span h - 144)) (record { makers = r .makers₁; head = h120 r; room = roomC })
-  plays-n = next-plays (r .makers₁) (k .makers₁) (h120 r) (plain120 .ok) (plain120 .code) (span h) (span h - 144) roomC
+  plays-n : Plays (makerEvents (r .makers₁) ++ numerals (h120 label r)) (next (span h) (span h - 144)) (record { makers = r .makers₁; head = h120 label r; room = roomC })
+  plays-n = next-plays (r .makers₁) (k .makers₁) (h120 label r) (plain120 .ok) (plain120 .code) (span h) (span h - 144) roomC
       (omega (arith, rooms, makers-count (r .makers₁) (k .makers₁))) (omega (arith, rooms)) largeC
 
-  plays-d : Plays (makerEvents (r .makers₅) ++ numerals delimiterHead) (next (span h) (roomF - span (h140 r))) (record { makers = r .makers₅; head = delimiterHead; room = roomD })
+  plays-d : Plays (makerEvents (r .makers₆) ++ numerals delimiterHead) (next (span h) (roomF - span (h140 r))) (record { makers = r .makers₆; head = delimiterHead; room = roomD })
   unfolding roomF spanF h140 roomD between padding padded makerCode
-  plays-d = next-plays (r .makers₅) (k .makers₅) delimiterHead (record { size = omega arith; code = omega arith; serial = omega arith; multiplier = omega arith }) refl (span h) (roomF - span (h140 r)) roomD
-      (omega (arith, lessE, makers-count (r .makers₅) (k .makers₅))) (omega arith) (omega arith)
+  plays-d = next-plays (r .makers₆) (k .makers₆) delimiterHead (record { size = omega arith; code = omega arith; serial = omega arith; multiplier = omega arith }) refl (span h) (roomF - span (h140 r)) roomD
+      (omega (arith, lessM, makers-count (r .makers₆) (k .makers₆))) (omega arith) (omega arith)
 
   code140 : eqb (h140 r .code) 140 ≡ true
   unfolding h140
@@ -396,7 +495,7 @@ module _ (held : Option Inherited) (r : Recording) (k : RecordingOk held r) (h :
 
   fits-limit : leb (span h - (roomD - 16) - padF) contentLimit ≡ true
   unfolding roomD padF h140
-  fits-limit = le-leb _ contentLimit (content-fits (span h) (size (content r)) pad (length (r .frames)) (frameSize (r .seconds) (r .channels))
+  fits-limit = le-leb _ contentLimit (content-fits (span h) (size (content label r)) pad (length (r .frames)) (frameSize (r .seconds) (r .channels))
       (span (framesHead (r .seconds) (r .channels) (r .frames)) - framesBytes (r .seconds) (r .channels) (r .frames)) total (k .limited))
 
   fits-pad : padOk h (roomD - 16) ≡ true
@@ -411,13 +510,13 @@ module _ (held : Option Inherited) (r : Recording) (k : RecordingOk held r) (h :
   left-pad = omega arith
 
   layoutOf : Layout
-  layoutOf = record { bytes = span h; at120 = span h - roomC; at130 = span h - roomP; at200 = span h - roomE; at140 = span h - roomF; frame = frameSize (r .seconds) (r .channels) }
+  layoutOf = record { bytes = span h; at120 = span h - roomC; at130 = span h - roomP; at200 = span h - roomE; at350 = span h - roomM; at140 = span h - roomF; frame = frameSize (r .seconds) (r .channels) }
 
   played-at : (i room : ℕ) → HeadOk h → eqb (h .code) 10 ≡ true → Admitted room 128 (leb 16) (eqb i) h →
-      Plays (recordOf h (content r ++ (zeroes pad ∷ []))) (recording held room i) (record { recording = r; layout = layoutOf })
+      Plays (recordOf h (content label r ++ (zeroes pad ∷ []))) (recording label held room i) (record { recording = r; layout = layoutOf })
   unfolding recording signals recordOf layoutOf _>>=_ _>>_
   played-at i room o c a =
-      rw (arranged r (zeroes pad ∷ []))
+      rw (arranged label r (zeroes pad ∷ []))
       (plays-bind _ (head-plays h o room (omega (arith, rooms, a .room)))
       (checks c
       (plays-bind _ (admit-plays room 128 (leb 16) (eqb i) h a)
@@ -426,15 +525,16 @@ module _ (held : Option Inherited) (r : Recording) (k : RecordingOk held r) (h :
       (plays-bind _ plays-c
       (plays-bind _ plays-p
       (plays-bind _ plays-e
+      (plays-bind _ plays-m
       (checks code140
       (plays-bind _ (plays-f (span h - roomF - 20))
       (plays-bind _ plays-d
       (plays-bind _ delimiter-plays
       (checks fits-limit
       (checks fits-pad
-      (padding-plays pad (roomD - 16) left-pad _))))))))))))))))
+      (padding-plays pad (roomD - 16) left-pad _)))))))))))))))))
 
   pub recording-from : (i room : ℕ) → HeadOk h → eqb (h .code) 10 ≡ true → Admitted room 128 (leb 16) (eqb i) h →
-      Anew held room i (recordOf h (content r ++ (zeroes pad ∷ []))) r (span h)
+      Anew label held room i (recordOf h (content label r ++ (zeroes pad ∷ []))) r (span h)
   unfolding layoutOf
   recording-from i room o c a = record { layout = layoutOf; bytes = refl; plays = played-at i room o c a }

@@ -7,10 +7,11 @@ use Prim.Native.Nat.{ℕ, suc, _+_, _-_}
 use lib.ListN.{length}
 use Rattle.walk.specs.Walk.{Event, numeral, size, cleared}
 use Rattle.walk.proofs.Tracing.{cleared-append}
-use Rattle.rules.specs.Rules.{Head, span, Basic, Channel, Item, Frame, Maker, Recording, width}
-use Rattle.rules.specs.Canonical.{zeroes, recordOf, basicFields, channelFields, channelEvents, channelsWritten, itemEvents, itemsWritten, sampleEvents, frameWritten, frameEvents, framesWritten, makerEvents, optional, delimiterEvents, content, recordingHead, recordingEvents, headerEvents, anew, canonical}
+use Rattle.rules.specs.Rules.{Head, span, Basic, Label, Sub, Group, Channel, Item, Frame, Maker, Recording, width}
+use Rattle.rules.specs.Canonical.{zeroes, recordOf, basicFields, fieldEvent, channelFields, channelEvents, channelsHead, channelsWritten, itemEvents, itemsWritten, sampleEvents, frameWritten, frameEvents, framesWritten, makerEvents, optional, delimiterEvents, ownGroup, overGroup, content, recordingHead, recordingEvents, headerEvents, anew, canonical}
 use Rattle.rules.specs.Reading.{Reading}
 use Rattle.rules.specs.Words.{wordsOf}
+use Rattle.rules.proofs.Cases.{by-shape}
 
 -- events whose reserve is zero
 abbrev pub Clear : List Event → Type 0
@@ -28,10 +29,14 @@ of-basic : (b : Basic) → Clear (basicFields b)
 unfolding cleared basicFields
 of-basic b = refl
 
-of-channels : (i : ℕ) (cs : List Channel) → Clear (channelEvents i cs)
-unfolding cleared channelEvents channelFields
-of-channels i [] = refl
-of-channels i (c ∷ cs) = both (recordOf _ (channelFields c)) (channelEvents (suc i) cs) (of-record _ (channelFields c) refl) (of-channels (suc i) cs)
+of-channel : (k : Sub) (c : Channel) → Clear (channelFields k c)
+unfolding cleared channelFields fieldEvent
+of-channel = by-shape (λ k. (c : Channel) → Clear (channelFields k c)) (λ k c. refl) (λ k c. refl) (λ k c. refl) (λ k c. refl)
+
+of-channels : (k : Sub) (i : ℕ) (cs : List Channel) → Clear (channelEvents k i cs)
+unfolding cleared channelEvents
+of-channels k i [] = refl
+of-channels k i (c ∷ cs) = both (recordOf _ (channelFields k c)) (channelEvents k (suc i) cs) (of-record _ (channelFields k c) (of-channel k c)) (of-channels k (suc i) cs)
 
 of-items : (is : List Item) → Clear (itemEvents is)
 unfolding cleared itemEvents
@@ -68,26 +73,33 @@ unfolding cleared optional
 of-optional true t k = k
 of-optional false t k = refl
 
-of-content : (r : Recording) → Clear (content r)
-unfolding cleared content channelsWritten itemsWritten framesWritten delimiterEvents
-of-content r =
+-- 120, 320 or 350, where it stands, and the makers' records behind it
+of-group : (own : Bool) (g : Group) (cs : List Channel) (ms : List Maker) → Clear (optional own (recordOf (channelsHead g cs) (channelsWritten g cs) ++ makerEvents ms))
+unfolding cleared channelsWritten
+of-group own g cs ms = of-optional own _ (both (recordOf _ (channelsWritten g cs)) _ (of-record _ (channelsWritten g cs) (rw (of-channels (g .sub) 1 cs))) (of-makers ms))
+
+of-content : (label : Label) (r : Recording) → Clear (content label r)
+unfolding cleared content itemsWritten framesWritten delimiterEvents
+of-content label r =
     both (recordOf _ (basicFields (r .basic))) _ (of-record _ (basicFields (r .basic)) (of-basic (r .basic)))
     (both (makerEvents (r .makers₁)) _ (of-makers (r .makers₁))
-    (both (optional (r .ownChannels) _) _ (of-optional (r .ownChannels) _ (both (recordOf _ (channelsWritten (r .channels))) _ (of-record _ (channelsWritten (r .channels)) (rw (of-channels 1 (r .channels)))) (of-makers (r .makers₂))))
+    (both (optional (r .ownChannels) _) _ (of-group (r .ownChannels) (ownGroup label r) (r .channels) (r .makers₂))
     (both (optional (r .ownPatient) _) _ (of-optional (r .ownPatient) _ (both (recordOf _ (itemsWritten (r .patient))) _ (of-record _ (itemsWritten (r .patient)) (rw (of-items (r .patient)))) (of-makers (r .makers₃))))
     (both (optional (r .ownEvents) _) _ (of-optional (r .ownEvents) _ (both (recordOf _ (itemsWritten (r .events))) _ (of-record _ (itemsWritten (r .events)) (rw (of-items (r .events)))) (of-makers (r .makers₄))))
+    (both (optional (r .ownMontage) _) _ (of-group (r .ownMontage) (overGroup r) (r .montage) (r .makers₅))
     (both (recordOf _ (framesWritten (r .seconds) (r .channels) (r .frames))) _ (of-record _ (framesWritten (r .seconds) (r .channels) (r .frames)) (rw (both (frameEvents (r .seconds) (r .channels) 1 (r .frames)) _ (of-frames (r .seconds) (r .channels) 1 (r .frames)) refl)))
-    (both (makerEvents (r .makers₅)) delimiterEvents (of-makers (r .makers₅)) refl))))))
+    (both (makerEvents (r .makers₆)) delimiterEvents (of-makers (r .makers₆)) refl)))))))
 
-pub of-recording : (h : Head) (r : Recording) (n : ℕ) → Clear (recordOf h (content r ++ (zeroes n ∷ [])))
+pub of-recording : (label : Label) (h : Head) (r : Recording) (n : ℕ) → Clear (recordOf h (content label r ++ (zeroes n ∷ [])))
 unfolding cleared
-of-recording h r n = of-record h _ (both (content r) _ (of-content r) refl)
+of-recording label h r n = of-record h _ (both (content label r) _ (of-content label r) refl)
 
-of-recordings : (i : ℕ) (rs : List Recording) → Clear (recordingEvents i rs)
+of-recordings : (label : Label) (i : ℕ) (rs : List Recording) → Clear (recordingEvents label i rs)
 unfolding cleared recordingEvents
-of-recordings i [] = refl
-of-recordings i (r ∷ rs) = both (recordOf _ _) (recordingEvents (suc i) rs) (of-recording (recordingHead i r) r (span (recordingHead i r) - (16 + size (content r)))) (of-recordings (suc i) rs)
+of-recordings label i [] = refl
+of-recordings label i (r ∷ rs) =
+    both (recordOf _ _) (recordingEvents label (suc i) rs) (of-recording label (recordingHead label i r) r (span (recordingHead label i r) - (16 + size (content label r)))) (of-recordings label (suc i) rs)
 
 pub reserve-zero : (v : Reading) → cleared (canonical v) ≡ canonical v
 unfolding cleared anew headerEvents
-reserve-zero v = both (headerEvents (v .heading) (length (wordsOf v .recordings))) (recordingEvents 1 (wordsOf v .recordings)) refl (of-recordings 1 (wordsOf v .recordings))
+reserve-zero v = both (headerEvents (v .heading) (length (wordsOf v .recordings))) (recordingEvents (v .heading .label) 1 (wordsOf v .recordings)) refl (of-recordings (v .heading .label) 1 (wordsOf v .recordings))

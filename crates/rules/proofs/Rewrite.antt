@@ -12,7 +12,7 @@ use Rattle.walk.proofs.Laws.{length-render}
 use Rattle.rules.specs.Canonical.{anew, canonical, rewritten, Canonical, multiplierFor, framesBytes, content}
 use Rattle.rules.specs.Reading.{Reading, reading, readingOf}
 use Rattle.rules.specs.Words.{wordsOf}
-use Rattle.rules.specs.Rules.{File, Contents, contents, orderOf, judge, file, channels, Held, Recording}
+use Rattle.rules.specs.Rules.{Label, File, Contents, contents, orderOf, judge, file, channels, Held, Recording}
 use Rattle.rules.specs.Turned.{turned}
 use Rattle.rules.proofs.Canon.{ContentsOk, file-ok, file-plays, total-low, RecordingsOk}
 use Rattle.rules.proofs.Renew.{All}
@@ -76,15 +76,15 @@ pub rewrite-itself : (v : Reading) (s : List ℕ) → Bytes s → Canonical v s 
 rewrite-itself v s b c = rewritten-of (orderOf s) s (c .judged) ∙ ap (λ (x : Reading). render (orderOf s) (canonical x)) (c .same) ∙ sym (is-render s b (c .judged))
 
 -- the multipliers of a recording and of its 140, written anew, are at most 128
-abbrev Low : Recording → Type 0
-Low r = (multiplierFor (16 + size (content r)) ≤ 128) × (multiplierFor (framesBytes (r .seconds) (r .channels) (r .frames)) ≤ 128)
+abbrev Low : Label → Recording → Type 0
+Low label r = (multiplierFor (16 + size (content label r)) ≤ 128) × (multiplierFor (framesBytes (r .seconds) (r .channels) (r .frames)) ≤ 128)
 
-recordings-low : (held : Option Held) (rs : List Recording) → RecordingsOk held rs → All Low rs
-recordings-low held [] k = tt
-recordings-low held (r ∷ rs) k = (
-  (sized (16 + size (content r)) .low (total-low held r (k .0)), sized (framesBytes (r .seconds) (r .channels) (r .frames)) .low (k .0 .frames .total)),
-  recordings-low (some (record { channels = r .channels; patient = r .patient })) rs (k .1),
+recordings-low : (label : Label) (held : Option Held) (rs : List Recording) → RecordingsOk label held rs → All (Low label) rs
+recordings-low label held [] k = tt
+recordings-low label held (r ∷ rs) k = (
+  (sized (16 + size (content label r)) .low (total-low label held r (k .0)), sized (framesBytes (r .seconds) (r .channels) (r .frames)) .low (k .0 .frames .total)),
+  recordings-low label (some (record { channels = r .channels; patient = r .patient })) rs (k .1),
 )
 
-pub multipliers-low : (s : List ℕ) → Bytes s → {v : File} {r : List ℕ} {t : List Event} → judge s ≡ passed v r t → All Low (contents v .recordings)
-multipliers-low s b {v} h = recordings-low none (contents v .recordings) (ok s b h .recordings)
+pub multipliers-low : (s : List ℕ) → Bytes s → {v : File} {r : List ℕ} {t : List Event} → judge s ≡ passed v r t → All (Low (v .heading .label)) (contents v .recordings)
+multipliers-low s b {v} h = recordings-low (v .heading .label) none (contents v .recordings) (ok s b h .recordings)

@@ -9,10 +9,12 @@ use native.Mathlib.Nat.{suc-mul}
 use native.Mathlib.Omega.{arith}
 use borrow.Author.Tests.{leb-true, eqb-true}
 use lib.Dec.{leb, ltb, eqb}
+use lib.ListN.{length}
 use Rattle.walk.specs.See.{Stays}
 use Rattle.walk.specs.Walk.{Walk, give, _>>=_, _>>_, pick, text, refuse}
 use Rattle.walk.proofs.Seen.{stays-bind, stays-then, stays-weaken, and-left, and-right, stays-require}
-use Rattle.rules.specs.Rules.{itemsBody, channelsBody, frameBody, Head, head, limit, admit, span, coded, exactly, fixed, Basic, basicBody, channelBody, channel, item, itemSize, itemBytes, itemList, series, zeros, padding, Channel, width, samplesIn, sampleBytes, numberList, samples, frame, Next, channels, frames, framesBody, items, next, padOk, makerCode, between, delimiter, part, recording, Held, Part, basic, heldChannels, patientCode, heldPatient, eventCode, file, fileHeader, recordings, recordingBody, signals}
+use Rattle.rules.specs.Rules.{itemsBody, channelsBody, frameBody, Head, head, limit, admit, span, coded, exactly, fixed, Basic, basicBody, Label, Sub, Group, channelsGroup, montageGroup, anything, fieldIf, channelBody, channel, item, itemSize, itemBytes, itemList, series, zeros, padding, Channel, width, samplesIn, sampleBytes, numberList, samples, frame, Next, channels, montage, frames, framesBody, items, next, padOk, makerCode, between, delimiter, part, recording, Held, Part, basic, heldChannels, patientCode, heldPatient, eventCode, file, fileHeader, recordings, recordingBody, signals}
+use Rattle.rules.proofs.Cases.{by-form}
 use Rattle.rules.proofs.Steps.{body-steps}
 
 pub stays-head : (at room : ℕ) → Stays (at + room) at (head room) (λ h e. (e ≡ at + 16) × (16 ≤ room))
@@ -35,9 +37,15 @@ pub stays-basicBody : (at L : ℕ) → at + 112 ≤ L → Stays L at basicBody (
 unfolding basicBody _>>=_ _>>_
 stays-basicBody at L h = (omega arith, λ _ _. (omega arith, λ _ _. (omega arith, λ _ _. (omega arith, (omega arith, λ _ _. (omega arith, λ _ _. (omega arith, λ _ _. (omega arith, λ _ _. (omega arith, λ _ _. (omega arith, λ _ _. (omega arith, λ _ _. (omega arith, λ _ _. (omega arith, (omega arith, λ _ _. omega arith))))))))))))))
 
-pub stays-channelBody : (at L : ℕ) → at + 240 ≤ L → Stays L at channelBody (λ b e. e ≡ at + 240)
+-- a field that only some subs have takes its 4 bytes either way
+stays-fieldIf : {A : Type 0} (c : Bool) (ok : ℕ → Bool) (f : ℕ → Walk A) (L at : ℕ) (Q : A → ℕ → Type 0) → at + 4 ≤ L → ((n : ℕ) → Stays L (at + 4) (f n) Q) → Stays L at (fieldIf c ok >>= f) Q
+unfolding fieldIf _>>=_
+stays-fieldIf true ok f L at Q h k = (h, λ n _. k n)
+stays-fieldIf false ok f L at Q h k = (h, k 0)
+
+pub stays-channelBody : (k : Sub) (at L : ℕ) → at + 240 ≤ L → Stays L at (channelBody k) (λ b e. e ≡ at + 240)
 unfolding channelBody _>>=_ _>>_
-stays-channelBody at L h = (omega arith, λ _. (omega arith, λ _. (omega arith, λ _ _. (omega arith, λ _ _. (omega arith, λ _ _. (omega arith, λ _. (omega arith, λ _. (omega arith, λ _. (omega arith, λ _. (omega arith, λ _. (omega arith, λ _. (omega arith, λ _. (omega arith, λ _. (omega arith, (omega arith, λ _ _. (omega arith, λ _ _. (omega arith, (omega arith, λ _ _. omega arith))))))))))))))))))
+stays-channelBody k at L h = (omega arith, λ _ _. (omega arith, λ _. (omega arith, λ _ _. (omega arith, λ _ _. (omega arith, λ _ _. (omega arith, λ _. (omega arith, λ _. (omega arith, λ _. (omega arith, λ _. stays-fieldIf (k .calibrated) anything _ _ _ _ (omega arith) λ _. (omega arith, λ _. (omega arith, λ _. stays-fieldIf (k .calibrated) anything _ _ _ _ (omega arith) λ _. (omega arith, (omega arith, λ _ _. (omega arith, λ _ _. stays-fieldIf (k .wired) (k .input) _ _ _ _ (omega arith) λ _. stays-fieldIf (k .wired) (k .input) _ _ _ _ (omega arith) λ _. (omega arith, (omega arith, λ _ _. omega arith))))))))))))))))
 
 -- a record: its head, its code, and that it is admitted; then what stands behind the head
 stays-record : {A : Type 0} (code most : ℕ) (fits : Head → ℕ → Bool) (serial : ℕ → Bool) (body : Head → Walk A) (R : A → ℕ → Type 0) (at room : ℕ) →
@@ -60,8 +68,8 @@ stays-fixed size code serial body k z at room =
 pub stays-basic : (at room : ℕ) → Stays (at + room) at (basic room) (λ _ e. (e ≡ at + 128) × (e ≤ at + room))
 stays-basic = stays-fixed 128 100 0 basicBody (λ x. stays-basicBody x (x + 112) (omega arith)) (omega arith)
 
-pub stays-channel : (i at room : ℕ) → Stays (at + room) at (channel room i) (λ _ e. (e ≡ at + 256) × (e ≤ at + room))
-stays-channel i = stays-fixed 256 125 i channelBody (λ x. stays-channelBody x (x + 240) (omega arith)) (omega arith)
+pub stays-channel : (k : Sub) (i at room : ℕ) → Stays (at + room) at (channel k room i) (λ _ e. (e ≡ at + 256) × (e ≤ at + room))
+stays-channel k i = stays-fixed 256 (k .code) i (channelBody k) (λ x. stays-channelBody k x (x + 240) (omega arith)) (omega arith)
 
 pub stays-item : (ok : ℕ → Bool) (room at : ℕ) → Stays (at + room) at (item ok room) (λ i e. (e ≡ at + itemSize i) × (e ≤ at + room))
 unfolding item _>>=_ _>>_
@@ -109,19 +117,19 @@ stays-series step w k (suc n) i room L at h l =
     (λ c e q. stays-bind (series n (suc i) step (room - step) w) _ L e _ _ (stays-series step w k n (suc i) (room - step) L e (omega arith) (omega (arith, q .0)))
     (λ cs x r. omega (arith, q .0, r)))
 
-pub stays-channels : (n i room at : ℕ) → n * 256 ≤ room → Stays (at + room) at (series n i 256 room channel) (λ _ e. e ≡ at + n * 256)
-stays-channels n i room at h = stays-series 256 channel stays-channel n i room (at + room) at h refl
+pub stays-channels : (k : Sub) (n i room at : ℕ) → n * 256 ≤ room → Stays (at + room) at (series n i 256 room (channel k)) (λ _ e. e ≡ at + n * 256)
+stays-channels k n i room at h = stays-series 256 (channel k) (stays-channel k) n i room (at + room) at h refl
 
-pub stays-channelsBody : (b : Basic) (n at : ℕ) → 32 ≤ n → Stays (at + (n - 16)) at (channelsBody b n) (λ _ e. e ≡ at + (n - 16))
+pub stays-channelsBody : (g : Group) (n at : ℕ) → 32 ≤ n → Stays (at + (n - 16)) at (channelsBody g n) (λ _ e. e ≡ at + (n - 16))
 unfolding channelsBody _>>=_ _>>_
-stays-channelsBody b n at h = (
+stays-channelsBody g n at h = (
   omega arith,
   λ m c₁ c₂ c₃.
       let z : n ≡ 32 + 256 * m = eqb-true n (32 + 256 * m) c₃ in (
         omega arith,
         λ _ c₄. (
           omega arith,
-          stays-weaken (series m 1 256 (n - 32) channel) (at + 4 + 4 + 8 + (n - 32)) (at + (n - 16)) (at + 4 + 4 + 8) _ _ (omega arith) (λ cs e q. omega (arith, q, z)) (stays-channels m 1 (n - 32) (at + 4 + 4 + 8) (omega arith)),
+          stays-weaken (series m 1 256 (n - 32) (channel (g .sub))) (at + 4 + 4 + 8 + (n - 32)) (at + (n - 16)) (at + 4 + 4 + 8) _ _ (omega arith) (λ cs e q. omega (arith, q, z)) (stays-channels (g .sub) m 1 (n - 32) (at + 4 + 4 + 8) (omega arith)),
         ),
       ),
 )
@@ -206,9 +214,13 @@ stays-rest low most body z k room h L at s =
     let n : low ≤ span h = leb-true low (span h) (v .1) in
     stays-weaken (body h) (x + (span h - 16)) L x _ _ (omega (arith, v .0, v .2)) (λ a e q. (omega arith, v .2, omega (arith, v .0, v .2))) (k h x n))
 
-pub stays-channelsRest : (b : Basic) → Rests (channels b)
+pub stays-channelsRest : (g : Group) → Rests (channels g)
 unfolding channels
-stays-channelsRest b = stays-rest 32 0 (λ h. channelsBody b (span h)) (omega arith) (λ h at. stays-channelsBody b (span h) at)
+stays-channelsRest g = stays-rest 32 0 (λ h. channelsBody g (span h)) (omega arith) (λ h at. stays-channelsBody g (span h) at)
+
+pub stays-montageRest : (label : Label) (cs : List Channel) → Rests (montage label cs)
+unfolding montage
+stays-montageRest label cs = by-form (λ l. Rests (montage l cs)) (λ room h L at s. tt) (stays-channelsRest (montageGroup (length cs))) label
 
 pub stays-itemsRest : (ok : ℕ → Bool) → Rests (items ok)
 unfolding items
@@ -261,39 +273,41 @@ pub stays-delimiter : (h : Head) (L at : ℕ) → Stays L at (delimiter h) (λ _
 unfolding delimiter _>>=_ _>>_
 stays-delimiter h L at = λ _ _ _ _. refl
 
-pub stays-recordingBody : (held : Option Held) (h : Head) (at : ℕ) → 16 ≤ span h → Stays (at + (span h - 16)) at (recordingBody held h) (λ x e. (x .layout .bytes ≡ span h) × (e ≡ at + (span h - 16)))
+pub stays-recordingBody : (label : Label) (held : Option Held) (h : Head) (at : ℕ) → 16 ≤ span h → Stays (at + (span h - 16)) at (recordingBody label held h) (λ x e. (x .layout .bytes ≡ span h) × (e ≡ at + (span h - 16)))
 unfolding signals
-stays-recordingBody held h at s =
+stays-recordingBody label held h at s =
     rw body-steps (
     let L : ℕ = at + (span h - 16) in
     stays-bind _ _ _ _ _ _ (stays-basic at (span h - 16))
     (λ b e₁ q₁. stays-bind _ _ _ _ _ _ (stays-next (span h) (span h - 144) (span h) L e₁ (omega (arith, q₁)) (omega (arith, q₁)) (omega (arith, q₁)))
-    (λ n e₂ q₂. stays-bind _ _ _ _ _ _ (stays-part (span h) 120 (channels b) (stays-channelsRest b) (heldChannels held) n L e₂ q₂)
+    (λ n e₂ q₂. let g : Group = channelsGroup label (b .channels) in
+    stays-bind _ _ _ _ _ _ (stays-part (span h) (g .code) (channels g) (stays-channelsRest g) (heldChannels held) n L e₂ q₂)
     (λ c e₃ q₃. stays-bind _ _ _ _ _ _ (stays-part (span h) 130 (items patientCode) (stays-itemsRest patientCode) (heldPatient held) (c .next) L e₃ q₃)
     (λ p e₄ q₄. stays-bind _ _ _ _ _ _ (stays-part (span h) 200 (items eventCode) (stays-itemsRest eventCode) (some []) (p .next) L e₄ q₄)
-    (λ e e₅ q₅. stays-require _ 9 12 _ _ _ _ refl
-    (λ _. stays-bind _ _ _ _ _ _ (stays-framesRest b (c .own) (c .value) _ (e .next .room) (e .next .head) L e₅ (q₅ .2))
-    (λ f e₆ q₆. stays-bind _ _ _ _ _ _ (stays-next (span h) (e .next .room - span (e .next .head)) (span h) L e₆ (omega (arith, q₅ .1)) (omega (arith, q₅ .1)) (q₆ .2))
-    (λ d e₇ q₇. stays-then _ _ _ _ _ _ (stays-delimiter (d .head) L e₇)
-    (λ _ e₈ q₈. stays-require _ 14 _ _ _ _ _ refl
+    (λ e e₅ q₅. stays-bind _ _ _ _ _ _ (stays-part (span h) 350 (montage label (c .value)) (stays-montageRest label (c .value)) (some []) (e .next) L e₅ q₅)
+    (λ m e₆ q₆. stays-require _ 9 12 _ _ _ _ refl
+    (λ _. stays-bind _ _ _ _ _ _ (stays-framesRest b (c .own) (c .value) _ (m .next .room) (m .next .head) L e₆ (q₆ .2))
+    (λ f e₇ q₇. stays-bind _ _ _ _ _ _ (stays-next (span h) (m .next .room - span (m .next .head)) (span h) L e₇ (omega (arith, q₆ .1)) (omega (arith, q₆ .1)) (q₇ .2))
+    (λ d e₈ q₈. stays-then _ _ _ _ _ _ (stays-delimiter (d .head) L e₈)
+    (λ _ e₉ q₉. stays-require _ 14 _ _ _ _ _ refl
     (λ _. stays-require _ 10 0 _ _ _ _ refl
-    (λ _. stays-then _ _ _ _ _ _ (stays-padding L e₈ (d .room - 16) (omega (arith, q₇ .0, q₇ .2, q₈)))
-    (λ _ x r. (refl, omega (arith, q₇ .0, q₇ .2, q₈, r)))))))))))))))
+    (λ _. stays-then _ _ _ _ _ _ (stays-padding L e₉ (d .room - 16) (omega (arith, q₈ .0, q₈ .2, q₉)))
+    (λ _ x r. (refl, omega (arith, q₈ .0, q₈ .2, q₉, r))))))))))))))))
 
-pub stays-recording : (held : Option Held) (i at room : ℕ) → Stays (at + room) at (recording held room i) (λ x e. (e ≡ at + x .layout .bytes) × (x .layout .bytes ≤ room))
+pub stays-recording : (label : Label) (held : Option Held) (i at room : ℕ) → Stays (at + room) at (recording label held room i) (λ x e. (e ≡ at + x .layout .bytes) × (x .layout .bytes ≤ room))
 unfolding recording
-stays-recording held i at room =
-    stays-record 10 128 (λ _. leb 16) (eqb i) (recordingBody held) _ at room
+stays-recording label held i at room =
+    stays-record 10 128 (λ _. leb 16) (eqb i) (recordingBody label held) _ at room
     (λ h f l.
     let s : 16 ≤ span h = leb-true 16 (span h) f in
-    stays-weaken (recordingBody held h) (at + 16 + (span h - 16)) (at + span h) (at + 16) _ _ (omega arith) (λ x e q. (omega (arith, q .0, q .1), omega (arith, q .0))) (stays-recordingBody held h (at + 16) s))
+    stays-weaken (recordingBody label held h) (at + 16 + (span h - 16)) (at + span h) (at + 16) _ _ (omega arith) (λ x e q. (omega (arith, q .0, q .1), omega (arith, q .0))) (stays-recordingBody label held h (at + 16) s))
 
-pub stays-recordings : (n : ℕ) (held : Option Held) (room i L at : ℕ) → at + room ≡ L → Stays L at (recordings n held room i) (λ _ e. e ≤ L)
+pub stays-recordings : (label : Label) (n : ℕ) (held : Option Held) (room i L at : ℕ) → at + room ≡ L → Stays L at (recordings label n held room i) (λ _ e. e ≤ L)
 unfolding recordings
-stays-recordings zero held room i L at l = omega arith
-stays-recordings (suc n) held room i L at l =
-    stays-bind _ _ _ _ _ _ (rw l at (stays-recording held i at room))
-    (λ x e q. stays-bind _ _ _ _ _ _ (stays-recordings n (some (record { channels = x .recording .channels; patient = x .recording .patient })) (room - x .layout .bytes) (suc i) L e (omega (arith, q .0, q .1)))
+stays-recordings label zero held room i L at l = omega arith
+stays-recordings label (suc n) held room i L at l =
+    stays-bind _ _ _ _ _ _ (rw l at (stays-recording label held i at room))
+    (λ x e q. stays-bind _ _ _ _ _ _ (stays-recordings label n (some (record { channels = x .recording .channels; patient = x .recording .patient })) (room - x .layout .bytes) (suc i) L e (omega (arith, q .0, q .1)))
     (λ _ _ r. r))
 
 pub stays-fileHeader : (size at : ℕ) → Stays (at + size) at (fileHeader size) (λ _ e. (e ≡ at + 32) × (32 ≤ size))
@@ -306,5 +320,5 @@ pub stays-file : (size at : ℕ) → Stays (at + size) at (file size) (λ _ e. e
 unfolding file
 stays-file size at =
     stays-bind _ _ _ _ _ _ (stays-fileHeader size at)
-    (λ f e q. stays-bind _ _ _ _ _ _ (stays-recordings (f .count) none (size - 32) 1 (at + size) e (omega (arith, q .0, q .1)))
+    (λ f e q. stays-bind _ _ _ _ _ _ (stays-recordings (f .heading .label) (f .count) none (size - 32) 1 (at + size) e (omega (arith, q .0, q .1)))
     (λ _ _ r. r))

@@ -14,8 +14,9 @@ use Rattle.walk.specs.Walk.{Kind, Event, numeral, piece, blank, row, cleared, W
 use Rattle.walk.proofs.Laws.{Trace, eventsOf, valueOf, clear, traced, by-parts, by-check, counted, taken, skipped, plays-gave}
 use Rattle.walk.proofs.Tracing.{cleared-append}
 use Rattle.rules.specs.Canonical.{blanks, numerals, rowOf, plainHead, recordOf, basicFields, channelFields, channelEvents, channelsHead, channelsWritten, itemEvents, itemsHead, itemsWritten, sampleEvents, makerEvents, optional}
-use Rattle.rules.specs.Rules.{series, zeros, Head, head, span, lengthOf, admit, exactly, fixed, Basic, basicBody, basic, Channel, channelBody, channel, channelsBody, channels, Item, item, itemBytes, itemSize, itemList, itemsBody, items, width, samplesIn, numberList, samples, makerCode, Next, next, patientCode, eventCode, Held, heldChannels, heldPatient, Part, part, Descriptions, descriptions}
-use Rattle.rules.proofs.Renew.{admit-ok, if-case, pick-case, and-true}
+use Rattle.rules.specs.Rules.{series, zeros, Head, head, span, lengthOf, admit, exactly, fixed, Basic, basicBody, basic, Label, Sub, Group, channelsGroup, montageGroup, Channel, channelBody, channel, channelsBody, channels, montage, Item, item, itemBytes, itemSize, itemList, itemsBody, items, width, samplesIn, numberList, samples, makerCode, Next, next, patientCode, eventCode, Held, heldChannels, heldPatient, Part, part, Descriptions, descriptions}
+use Rattle.rules.proofs.Cases.{by-form}
+use Rattle.rules.proofs.Renew.{admit-ok, if-case, pick-case, and-true, renews}
 
 -- One walk
 
@@ -107,23 +108,22 @@ basicBody-written p = written basicBody basicFields (λ q. cc (eqb-true 1 (q .wo
 pub basic-written : (room : ℕ) {t : List Event} {b : Basic} → Plays t (basic room) b → cleared t ≡ recordOf (plainHead 128 100 0) (basicFields b)
 basic-written room p = fixed-written 128 100 0 basicBody basicFields (λ t b. basicBody-written) room p
 
--- 125 and 120
+-- 125, 325 and 355, and 120, 320 and 350
 
-channelBody-written : {t : List Event} {c : Channel} → Plays t channelBody c → cleared t ≡ channelFields c
-unfolding channelBody channelFields _>>=_ _>>_
-channelBody-written p = written channelBody channelFields (λ q. refl) p
+channelBody-written : (k : Sub) {t : List Event} {c : Channel} → Plays t (channelBody k) c → cleared t ≡ channelFields k c
+channelBody-written k p = written (channelBody k) (channelFields k) (renews k) p
 
-channel-written : (room i : ℕ) {t : List Event} {c : Channel} → Plays t (channel room i) c → cleared t ≡ recordOf (plainHead 256 125 i) (channelFields c)
-channel-written room i p = fixed-written 256 125 i channelBody channelFields (λ t c. channelBody-written) room p
+channel-written : (k : Sub) (room i : ℕ) {t : List Event} {c : Channel} → Plays t (channel k room i) c → cleared t ≡ recordOf (plainHead 256 (k .code) i) (channelFields k c)
+channel-written k room i p = fixed-written 256 (k .code) i (channelBody k) (channelFields k) (λ t c. channelBody-written k) room p
 
-series-written : (n i room : ℕ) {t : List Event} {cs : List Channel} → Plays t (series n i 256 room channel) cs → (length cs ≡ n) × (cleared t ≡ channelEvents i cs)
+series-written : (k : Sub) (n i room : ℕ) {t : List Event} {cs : List Channel} → Plays t (series n i 256 room (channel k)) cs → (length cs ≡ n) × (cleared t ≡ channelEvents k i cs)
 unfolding series channelEvents
-series-written zero i room p = rw (plays-gave p) (refl, gave-none p)
-series-written (suc n) i room p =
-    by-parts (channel room i) _ p λ c u v e c₀ p.
-    by-parts (series n (suc i) 256 (room - 256) channel) _ p λ cs x y e₁ q₀ p.
-    let j = series-written n (suc i) (room - 256) q₀ in
-    rw (plays-gave p) (ap suc (j .0), parts u v e (channel-written room i c₀) (ends x y e₁ (j .1) (gave-none p)))
+series-written k zero i room p = rw (plays-gave p) (refl, gave-none p)
+series-written k (suc n) i room p =
+    by-parts (channel k room i) _ p λ c u v e c₀ p.
+    by-parts (series n (suc i) 256 (room - 256) (channel k)) _ p λ cs x y e₁ q₀ p.
+    let j = series-written k n (suc i) (room - 256) q₀ in
+    rw (plays-gave p) (ap suc (j .0), parts u v e (channel-written k room i c₀) (ends x y e₁ (j .1) (gave-none p)))
 
 -- the rest of a record with multiplier 0 whose head is read: what the head says, and the events
 abbrev pub Rest : {A : Type 0} → ℕ → (ℕ → Head → Walk A) → (A → Head) → (A → List Event) → Type 0
@@ -139,17 +139,23 @@ rest-written low code body long inside f room h t a c p =
     let r = f (span h) v a p in
     (plain-is h (long a) code 0 (k .low) (r .0) c (sym (eqb-true 0 (h .serial) (k .serial))), parts u v e (admit-written room 0 (leb low) (eqb 0) h a₀) (r .1))
 
-channelsBody-written : (b : Basic) (n : ℕ) (t : List Event) (cs : List Channel) → Plays t (channelsBody b n) cs → (n ≡ 32 + 256 * length cs) × (cleared t ≡ channelsWritten cs)
+channelsBody-written : (g : Group) (n : ℕ) (t : List Event) (cs : List Channel) → Plays t (channelsBody g n) cs → (n ≡ 32 + 256 * length cs) × (cleared t ≡ channelsWritten g cs)
 unfolding channelsBody channelsWritten cleared _>>=_ _>>_
-channelsBody-written b n t cs p =
+channelsBody-written g n t cs p =
     by-counted p λ m _ e₁ p. by-check p λ _ p. by-check p λ _ p. by-check p λ l p. by-counted p λ k _ e₂ p. by-check p λ c p. by-skipped p λ _ _ e₃ w p.
-    let j = series-written m 1 (n - 32) p in
+    let j = series-written (g .sub) m 1 (n - 32) p in
     let z : k ≡ 256 = sym (eqb-true 256 k c) in
     (eqb-true n (32 + 256 * m) l ∙ rw (j .0), number-first e₁ (number-first e₂ (blank-first e₃ w (j .1))) ∙ rw (j .0, z))
 
-pub channels-written : (b : Basic) → Rest 120 (channels b) channelsHead channelsWritten
+pub channels-written : (g : Group) → Rest (g .code) (channels g) (channelsHead g) (channelsWritten g)
 unfolding channels
-channels-written b = rest-written 32 120 (channelsBody b) (λ cs. 32 + 256 * length cs) channelsWritten (channelsBody-written b)
+channels-written g = rest-written 32 (g .code) (channelsBody g) (λ cs. 32 + 256 * length cs) (channelsWritten g) (channelsBody-written g)
+
+-- a 350; form 00 refuses it
+pub montage-written : (label : Label) (es : List Channel) → Rest 350 (montage label es) (channelsHead (montageGroup (length es))) (channelsWritten (montageGroup (length es)))
+unfolding montage
+montage-written label es =
+    by-form (λ l. Rest 350 (montage l es) (channelsHead (montageGroup (length es))) (channelsWritten (montageGroup (length es)))) (λ room h t cs c p. absurd (traced p .trace)) (channels-written (montageGroup (length es))) label
 
 -- 130 and 200
 
@@ -258,30 +264,42 @@ module _ {A : Type 0} (code : ℕ) (body : ℕ → Head → Walk A) (headOf : A 
 
 -- A recording up to the head of its 140
 
-abbrev pub tablesEvents : Descriptions → List Event
-tablesEvents t =
+-- a 120, a 320 or a 350
+abbrev groupEvents : Group → Part (List Channel) → List Event
+groupEvents g x = partEvents (channelsHead g) (channelsWritten g) x
+
+abbrev pub tablesEvents : Label → Descriptions → List Event
+tablesEvents label t =
     recordOf (plainHead 128 100 0) (basicFields (t .basic)) ++ (makerEvents (t .next .makers) ++
-    (partEvents channelsHead channelsWritten (t .channels) ++ (partEvents (itemsHead 130) itemsWritten (t .patient) ++ partEvents (itemsHead 200) itemsWritten (t .events))))
+    (groupEvents (channelsGroup label (t .basic .channels)) (t .channels) ++ (partEvents (itemsHead 130) itemsWritten (t .patient) ++
+    (partEvents (itemsHead 200) itemsWritten (t .events) ++ groupEvents (montageGroup (length (t .channels .value))) (t .montage)))))
 
 -- what stands before a part goes behind it
 pass : (n c p m t : List Event) → n ++ c ≡ p ++ m → n ++ (c ++ t) ≡ p ++ (m ++ t)
 pass n c p m t h = sym (append-assoc n c t) ∙ (ap (λ (u : List Event). u ++ t) h ∙ append-assoc p m t)
 
-in-order : (b m n₁ c C n₂ p P n₃ e E n₄ : List Event) → n₁ ++ c ≡ C ++ n₂ → n₂ ++ p ≡ P ++ n₃ → n₃ ++ e ≡ E ++ n₄ → b ++ ((m ++ n₁) ++ (c ++ (p ++ e))) ≡ (b ++ (m ++ (C ++ (P ++ E)))) ++ n₄
-in-order b m n₁ c C n₂ p P n₃ e E n₄ h₁ h₂ h₃ = rw (append-assoc m n₁, pass n₁ c C n₂ _ h₁, pass n₂ p P n₃ _ h₂, h₃) (simp append-assoc)
+in-order : (b m n₁ c C n₂ p P n₃ e E n₄ o O n₅ : List Event) → n₁ ++ c ≡ C ++ n₂ → n₂ ++ p ≡ P ++ n₃ → n₃ ++ e ≡ E ++ n₄ → n₄ ++ o ≡ O ++ n₅ →
+    b ++ ((m ++ n₁) ++ (c ++ (p ++ (e ++ o)))) ≡ (b ++ (m ++ (C ++ (P ++ (E ++ O))))) ++ n₅
+in-order b m n₁ c C n₂ p P n₃ e E n₄ o O n₅ h₁ h₂ h₃ h₄ = rw (append-assoc m n₁, pass n₁ c C n₂ _ h₁, pass n₂ p P n₃ _ h₂, pass n₃ e E n₄ _ h₃, h₄) (simp append-assoc)
 
-pub tables-written : (held : Option Held) (n : ℕ) {u : List Event} {t : Descriptions} → Plays u (descriptions held n) t → cleared u ≡ tablesEvents t ++ numerals (t .events .next .head)
+pub tables-written : (label : Label) (held : Option Held) (n : ℕ) {u : List Event} {t : Descriptions} → Plays u (descriptions label held n) t →
+    cleared u ≡ tablesEvents label t ++ numerals (t .montage .next .head)
 unfolding descriptions
-tables-written held n p =
+tables-written label held n p =
     by-parts (basic (n - 16)) _ p λ b u₁ v₁ e₁ b₀ p.
     by-parts (next n (n - 144)) _ p λ m u₂ v₂ e₂ m₀ p.
-    by-parts (part n 120 (channels b) (heldChannels held) m) _ p λ c u₃ v₃ e₃ c₀ p.
+    let g : Group = channelsGroup label (b .channels) in
+    by-parts (part n (g .code) (channels g) (heldChannels held) m) _ p λ c u₃ v₃ e₃ c₀ p.
     by-parts (part n 130 (items patientCode) (heldPatient held) (c .next)) _ p λ q u₄ v₄ e₄ q₀ p.
     by-parts (part n 200 (items eventCode) (some []) (q .next)) _ p λ e u₅ v₅ e₅ s₀ p.
+    let o : Group = montageGroup (length (c .value)) in
+    by-parts (part n 350 (montage label (c .value)) (some []) (e .next)) _ p λ x u₆ v₆ e₆ x₀ p.
     rw (plays-gave p)
-    (parts u₁ v₁ e₁ (basic-written (n - 16) b₀) (parts u₂ v₂ e₂ (next-written n (n - 144) m₀) (parts u₃ v₃ e₃ refl (parts u₄ v₄ e₄ refl (ends u₅ v₅ e₅ refl (gave-none p))))) ∙
-    in-order (recordOf (plainHead 128 100 0) (basicFields b)) (makerEvents (m .makers)) (numerals (m .head)) (cleared u₃) (partEvents channelsHead channelsWritten c) (numerals (c .next .head))
+    (parts u₁ v₁ e₁ (basic-written (n - 16) b₀) (parts u₂ v₂ e₂ (next-written n (n - 144) m₀) (parts u₃ v₃ e₃ refl (parts u₄ v₄ e₄ refl (parts u₅ v₅ e₅ refl (ends u₆ v₆ e₆ refl (gave-none p)))))) ∙
+    in-order (recordOf (plainHead 128 100 0) (basicFields b)) (makerEvents (m .makers)) (numerals (m .head)) (cleared u₃) (groupEvents g c) (numerals (c .next .head))
     (cleared u₄) (partEvents (itemsHead 130) itemsWritten q) (numerals (q .next .head)) (cleared u₅) (partEvents (itemsHead 200) itemsWritten e) (numerals (e .next .head))
-    (part-written 120 (channels b) channelsHead channelsWritten (channels-written b) m n (heldChannels held) c₀)
+    (cleared u₆) (groupEvents o x) (numerals (x .next .head))
+    (part-written (g .code) (channels g) (channelsHead g) (channelsWritten g) (channels-written g) m n (heldChannels held) c₀)
     (part-written 130 (items patientCode) (itemsHead 130) itemsWritten (items-written patientCode 130) (c .next) n (heldPatient held) q₀)
-    (part-written 200 (items eventCode) (itemsHead 200) itemsWritten (items-written eventCode 200) (q .next) n (some []) s₀))
+    (part-written 200 (items eventCode) (itemsHead 200) itemsWritten (items-written eventCode 200) (q .next) n (some []) s₀)
+    (part-written 350 (montage label (c .value)) (channelsHead o) (channelsWritten o) (montage-written label (c .value)) (e .next) n (some []) x₀))

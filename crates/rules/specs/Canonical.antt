@@ -13,7 +13,7 @@ use Rattle.walk.specs.Walk.{Letter, Text, Padding, Event, numeral, piece, blank
 use Rattle.rules.specs.Reading.{Reading, reading}
 use Rattle.rules.specs.Words.{wordsOf}
 pub use Rattle.rules.specs.CanonicalForm.{most, shares}
-use Rattle.rules.specs.Rules.{spelled, version, form, Heading, Head, span, Basic, Channel, Item, itemBytes, width, sampleBytes, Frame, Maker, Recording, Contents, File, judge}
+use Rattle.rules.specs.Rules.{spelled, version, formed, Label, Heading, Head, span, Basic, Sub, Group, channelsGroup, montageGroup, Channel, Item, itemBytes, width, sampleBytes, Frame, Maker, Recording, Contents, File, judge}
 
 -- The size and the multiplier of a record of n bytes: multiplier 0 where n fits, else the smallest that serves
 
@@ -55,23 +55,29 @@ basicFields b =
     numeral 4 1 ∷ numeral 4 (b .channels) ∷ numeral 4 (b .frames) ∷ blanks 4 ∷ numeral 4 (b .year) ∷ numeral 4 (b .month) ∷ numeral 4 (b .day) ∷
     numeral 4 (b .hour) ∷ numeral 4 (b .minute) ∷ numeral 4 (b .second) ∷ piece Text (b .time) ∷ numeral 4 (b .mains) ∷ blanks 16 ∷ piece Text (b .comment) ∷ []
 
--- 120 and 125
+-- 120, 320 and 350, and their subs
 
-unfoldable pub channelFields : Channel → List Event
-channelFields c =
+-- a number of 4 bytes where it is a field; else reserve
+unfoldable pub fieldEvent : Bool → ℕ → Event
+fieldEvent true n = numeral 4 n
+fieldEvent false n = blanks 4
+
+unfoldable pub channelFields : Sub → Channel → List Event
+channelFields k c =
     numeral 4 (c .channel) ∷ numeral 4 (c .flags) ∷ numeral 4 (c .type) ∷ numeral 4 (c .format) ∷ numeral 4 (c .rate) ∷ numeral 4 (c .cal) ∷ numeral 4 (c .calAD) ∷
-    numeral 4 (c .offsetAD) ∷ numeral 4 (c .offsetCal) ∷ numeral 4 (c .calFrequency) ∷ numeral 4 (c .lowCut) ∷ numeral 4 (c .highCut) ∷ numeral 4 (c .sensitivity) ∷
-    blanks 4 ∷ piece Text (c .label) ∷ piece Text (c .unit) ∷ blanks 92 ∷ piece Text (c .comment) ∷ []
+    numeral 4 (c .offsetAD) ∷ numeral 4 (c .offsetCal) ∷ fieldEvent (k .calibrated) (c .calFrequency) ∷ numeral 4 (c .lowCut) ∷ numeral 4 (c .highCut) ∷
+    fieldEvent (k .calibrated) (c .sensitivity) ∷ blanks 4 ∷ piece Text (c .label) ∷ piece Text (c .unit) ∷ fieldEvent (k .wired) (c .g1) ∷
+    fieldEvent (k .wired) (c .g2) ∷ blanks 84 ∷ piece Text (c .comment) ∷ []
 
-unfoldable pub channelEvents : ℕ → List Channel → List Event
-channelEvents i [] = []
-channelEvents i (c ∷ cs) = recordOf (plainHead 256 125 i) (channelFields c) ++ channelEvents (suc i) cs
+unfoldable pub channelEvents : Sub → ℕ → List Channel → List Event
+channelEvents k i [] = []
+channelEvents k i (c ∷ cs) = recordOf (plainHead 256 (k .code) i) (channelFields k c) ++ channelEvents k (suc i) cs
 
-abbrev pub channelsHead : List Channel → Head
-channelsHead cs = plainHead (32 + 256 * length cs) 120 0
+abbrev pub channelsHead : Group → List Channel → Head
+channelsHead g cs = plainHead (32 + 256 * length cs) (g .code) 0
 
-unfoldable pub channelsWritten : List Channel → List Event
-channelsWritten cs = numeral 4 (length cs) ∷ numeral 4 256 ∷ blanks 8 ∷ channelEvents 1 cs
+unfoldable pub channelsWritten : Group → List Channel → List Event
+channelsWritten g cs = numeral 4 (length cs) ∷ numeral 4 256 ∷ blanks 8 ∷ channelEvents (g .sub) 1 cs
 
 -- 130 and 200
 
@@ -132,22 +138,32 @@ delimiterHead = plainHead 0 0 0
 unfoldable pub delimiterEvents : List Event
 delimiterEvents = numerals delimiterHead ++ (row 16 16 0 0 ∷ [])
 
-unfoldable pub content : Recording → List Event
-content r =
+-- its 120 or 320, and its 350
+abbrev pub ownGroup : Label → Recording → Group
+ownGroup label r = channelsGroup label (r .basic .channels)
+
+abbrev pub overGroup : Recording → Group
+overGroup r = montageGroup (length (r .channels))
+
+unfoldable pub content : Label → Recording → List Event
+content label r =
     recordOf (plainHead 128 100 0) (basicFields (r .basic)) ++ (makerEvents (r .makers₁) ++
-    (optional (r .ownChannels) (recordOf (channelsHead (r .channels)) (channelsWritten (r .channels)) ++ makerEvents (r .makers₂)) ++
+    (optional (r .ownChannels)
+    (recordOf (channelsHead (ownGroup label r) (r .channels)) (channelsWritten (ownGroup label r) (r .channels)) ++ makerEvents (r .makers₂)) ++
     (optional (r .ownPatient) (recordOf (itemsHead 130 (r .patient)) (itemsWritten (r .patient)) ++ makerEvents (r .makers₃)) ++
     (optional (r .ownEvents) (recordOf (itemsHead 200 (r .events)) (itemsWritten (r .events)) ++ makerEvents (r .makers₄)) ++
+    (optional (r .ownMontage) (recordOf (channelsHead (overGroup r) (r .montage)) (channelsWritten (overGroup r) (r .montage)) ++ makerEvents (r .makers₅)) ++
     (recordOf (framesHead (r .seconds) (r .channels) (r .frames)) (framesWritten (r .seconds) (r .channels) (r .frames)) ++
-    (makerEvents (r .makers₅) ++ delimiterEvents))))))
+    (makerEvents (r .makers₆) ++ delimiterEvents)))))))
 
-abbrev pub recordingHead : ℕ → Recording → Head
-recordingHead i r = sizedHead (16 + size (content r)) 10 i
+abbrev pub recordingHead : Label → ℕ → Recording → Head
+recordingHead label i r = sizedHead (16 + size (content label r)) 10 i
 
-unfoldable pub recordingEvents : ℕ → List Recording → List Event
-recordingEvents i [] = []
-recordingEvents i (r ∷ rs) =
-    recordOf (recordingHead i r) (content r ++ (zeroes (span (recordingHead i r) - (16 + size (content r))) ∷ [])) ++ recordingEvents (suc i) rs
+unfoldable pub recordingEvents : Label → ℕ → List Recording → List Event
+recordingEvents label i [] = []
+recordingEvents label i (r ∷ rs) =
+    recordOf (recordingHead label i r) (content label r ++ (zeroes (span (recordingHead label i r) - (16 + size (content label r))) ∷ [])) ++
+    recordingEvents label (suc i) rs
 
 -- The file
 
@@ -157,10 +173,11 @@ digits k = elim (ltb k 10) [ true ↦ (48 + k) ∷ 32 ∷ 32 ∷ 32 ∷ [] | fal
 
 unfoldable pub headerEvents : Heading → ℕ → List Event
 headerEvents g k =
-    piece Text (spelled (g .spelling)) ∷ piece Text version ∷ piece Text form ∷ piece Letter (letterOf Little ∷ []) ∷ piece Text (g .script ∷ []) ∷ piece Text (digits k) ∷ piece Text (replicate 10 32) ∷ []
+    piece Text (spelled (g .spelling)) ∷ piece Text version ∷ piece Text (formed (g .label .form)) ∷ piece Letter (letterOf Little ∷ []) ∷
+    piece Text (g .script ∷ []) ∷ piece Text (digits k) ∷ piece Text (replicate 10 32) ∷ []
 
 unfoldable pub anew : Contents → List Event
-anew v = headerEvents (v .heading) (length (v .recordings)) ++ recordingEvents 1 (v .recordings)
+anew v = headerEvents (v .heading) (length (v .recordings)) ++ recordingEvents (v .heading .label) 1 (v .recordings)
 
 -- the canonical file of a reading, as events
 abbrev pub canonical : Reading → List Event

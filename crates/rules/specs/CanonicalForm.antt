@@ -61,7 +61,7 @@ signalsTotal p = 32 + length (p .recording .frames) * p .layout .frame
 
 -- the total length of the 10: up to its 140, that with its padding, makers' records behind it, and the delimiter
 abbrev pub recordingTotal : List ℕ → ℕ → Placed → ℕ
-recordingTotal s at p = p .layout .at140 + lengthAt s (signalsAt at p) + makersLength (p .recording .makers₅) + 16
+recordingTotal s at p = p .layout .at140 + lengthAt s (signalsAt at p) + makersLength (p .recording .makers₆) + 16
 
 pub record RecordingForm (s : List ℕ) (at : ℕ) (p : Placed) : Type 0 where
   -- frames with multiplier 0

@@ -50,7 +50,7 @@ basicReading b = record {
   comment = b .comment;
 }
 
--- 125: the four calibration numbers are four floats when the format is 4, else four whole numbers
+-- 125, 325 and 355: the four calibration numbers are four floats when the format is 4, else four whole numbers
 
 pub record ChannelReading : Type 0 where
   pub channel : ℤ
@@ -68,6 +68,8 @@ pub record ChannelReading : Type 0 where
   pub sensitivity : ℤ
   pub label : List ℕ
   pub unit : List ℕ
+  pub g1 : ℤ
+  pub g2 : ℤ
   pub comment : List ℕ
 
 abbrev pub channelReading : Channel → ChannelReading
@@ -87,6 +89,8 @@ channelReading c = record {
   sensitivity = signed 4 (c .sensitivity);
   label = c .label;
   unit = c .unit;
+  g1 = signed 4 (c .g1);
+  g2 = signed 4 (c .g2);
   comment = c .comment;
 }
 
@@ -148,14 +152,17 @@ pub record RecordingReading : Type 0 where
   pub patient : List ItemReading
   pub ownEvents : Bool
   pub events : List ItemReading
+  pub ownMontage : Bool
+  pub montage : List ChannelReading
   pub seconds : ℤ
   pub frames : List FrameReading
-  -- behind 100, 120, 130, 200 and 140
+  -- behind 100, 120 or 320, 130, 200, 350 and 140
   pub makers₁ : List MakerReading
   pub makers₂ : List MakerReading
   pub makers₃ : List MakerReading
   pub makers₄ : List MakerReading
   pub makers₅ : List MakerReading
+  pub makers₆ : List MakerReading
 
 abbrev pub recordingReading : Recording → RecordingReading
 recordingReading r = record {
@@ -166,6 +173,8 @@ recordingReading r = record {
   patient = map itemReading (r .patient);
   ownEvents = r .ownEvents;
   events = map itemReading (r .events);
+  ownMontage = r .ownMontage;
+  montage = map channelReading (r .montage);
   seconds = signed 4 (r .seconds);
   frames = map (frameReading (r .channels)) (r .frames);
   makers₁ = map makerReading (r .makers₁);
@@ -173,6 +182,7 @@ recordingReading r = record {
   makers₃ = map makerReading (r .makers₃);
   makers₄ = map makerReading (r .makers₄);
   makers₅ = map makerReading (r .makers₅);
+  makers₆ = map makerReading (r .makers₆);
 }
 
 -- the file

@@ -13,9 +13,12 @@ use lib.ListN.{length, getD}
 use Rattle.words.specs.Numbers.{letterOf}
 use Rattle.words.specs.declared.Order.{Order}
 use Rattle.words.specs.declared.Order.the-variants.{Little, Big}
+use Rattle.rules.specs.declared.Form.{Form}
+use Rattle.rules.specs.declared.Form.the-variants as Form
+pub use Rattle.rules.specs.declared.Label.{Label}
 use Rattle.rules.specs.declared.Spelling.{Spelling}
 use Rattle.rules.specs.declared.Spelling.the-variants as Spelling
-use Rattle.walk.specs.Walk.{pick, Letter, Padding, Walk, give, refuse, check, number, read, list, _>>=_, _>>_, Outcome, refused, passed, run, require, num, text, reserve}
+use Rattle.walk.specs.Walk.{pick, Letter, Padding, Walk, give, refuse, check, number, read, skip, list, _>>=_, _>>_, Outcome, refused, passed, run, require, num, text, reserve}
 
 -- one step each
 
@@ -66,18 +69,33 @@ unfoldable pub spelled : Spelling → List ℕ
 spelled Spelling.Spg = 74 ∷ 83 ∷ 83 ∷ 82 ∷ 45 ∷ 83 ∷ 80 ∷ 71 ∷ []
 spelled Spelling.Psg = 74 ∷ 83 ∷ 83 ∷ 82 ∷ 45 ∷ 80 ∷ 83 ∷ 71 ∷ []
 
-unfoldable pub isSpelling : List ℕ → Bool
-isSpelling bs = sameBytes bs (spelled Spelling.Spg) || sameBytes bs (spelled Spelling.Psg)
+-- bytes that name one of two things, each with its text; and which
+unfoldable pub isOneOf : {A : Type 0} → (A → List ℕ) → A → A → List ℕ → Bool
+isOneOf text a b bs = sameBytes bs (text a) || sameBytes bs (text b)
 
-unfoldable pub spellingOf : List ℕ → Spelling
-spellingOf bs = pick (sameBytes bs (spelled Spelling.Spg)) Spelling.Spg Spelling.Psg
+unfoldable pub oneOf : {A : Type 0} → (A → List ℕ) → A → A → List ℕ → A
+oneOf text a b bs = pick (sameBytes bs (text a)) a b
 
--- 000300, 00
+abbrev pub isSpelling : List ℕ → Bool
+isSpelling = isOneOf spelled Spelling.Spg Spelling.Psg
+
+abbrev pub spellingOf : List ℕ → Spelling
+spellingOf = oneOf spelled Spelling.Spg Spelling.Psg
+
+-- 000300
 unfoldable pub version : List ℕ
 version = 48 ∷ 48 ∷ 48 ∷ 51 ∷ 48 ∷ 48 ∷ []
 
-unfoldable pub form : List ℕ
-form = 48 ∷ 48 ∷ []
+-- the two bytes of a form: 00, channels; 01, electrodes
+unfoldable pub formed : Form → List ℕ
+formed Form.Channels = 48 ∷ 48 ∷ []
+formed Form.Electrodes = 48 ∷ 49 ∷ []
+
+abbrev pub isForm : List ℕ → Bool
+isForm = isOneOf formed Form.Channels Form.Electrodes
+
+abbrev pub formOf : List ℕ → Form
+formOf = oneOf formed Form.Channels Form.Electrodes
 
 unfoldable pub allSpaces : List ℕ → Bool
 allSpaces [] = true
@@ -111,6 +129,7 @@ isScript b = eqb b 83 || eqb b 74 || eqb b 69 || eqb b 85
 -- what the header says of the whole file, besides the order and K
 pub record Heading : Type 0 where
   pub spelling : Spelling
+  pub label : Label
   pub script : ℕ
 
 pub record FileHeader : Type 0 where
@@ -125,7 +144,7 @@ fileHeader size = do
   v ← text 6
   require (sameBytes v version) 3 6
   f ← text 2
-  require (sameBytes f form) 4 2
+  require (isForm f) 4 2
   letter ← read Letter 1 give
   require (eqb (getD letter 0 0) (letterOf Little)) 5 1
   script ← text 1
@@ -134,7 +153,10 @@ fileHeader size = do
   require (countFits (countOf digits)) 7 4
   spaces ← text 10
   require (allSpaces spaces) 8 10
-  give (record { heading = record { spelling = spellingOf id; script = getD script 0 0 }; count = countIs (countOf digits) })
+  give (record {
+    heading = record { spelling = spellingOf id; label = record { form = formOf f }; script = getD script 0 0 };
+    count = countIs (countOf digits);
+  })
 
 -- A record's first 16 bytes
 
@@ -221,11 +243,12 @@ recordingRule i = atLeast 16 10 128 i
 abbrev pub basicRule : Rule
 basicRule = exactly 128 100 0
 
-abbrev pub channelsRule : Rule
-channelsRule = atLeast 32 120 0 0
+-- 120, 320 or 350, by the code; and 125, 325 or 355
+abbrev pub channelsRule : ℕ → Rule
+channelsRule code = atLeast 32 code 0 0
 
-abbrev pub channelRule : ℕ → Rule
-channelRule i = exactly 256 125 i
+abbrev pub channelRule : ℕ → ℕ → Rule
+channelRule code i = exactly 256 code i
 
 -- 130 or 200, by the code
 abbrev pub itemsRule : ℕ → Rule
@@ -251,7 +274,7 @@ codedBy r h = require (r .code (h .code)) 9 codeBack
 abbrev pub admitBy : Rule → ℕ → Head → Walk (Unit {0})
 admitBy r room h = admit room (r .most) (r .fits (h .multiplier)) (r .serial) h
 
--- a record with a body that its rule is all about: 100 and 125
+-- a record with a body that its rule is all about: 100, and 125, 325 and 355
 unfoldable pub fixed : {A : Type 0} → Rule → Walk A → ℕ → Walk A
 fixed r body room = do
   h ← head room
@@ -323,9 +346,11 @@ basicBody = do
 abbrev pub basic : ℕ → Walk Basic
 basic = fixed basicRule basicBody
 
--- 120 and 125
+-- 120 with 125, 320 with 325, and 350 with 355: channels, electrodes, and a montage's channels
 
+-- what any of the three subs says; 0 for a field that it does not have
 pub record Channel : Type 0 where
+  -- an electrode's code in a 325
   pub channel : ℕ
   pub flags : ℕ
   pub type : ℕ
@@ -341,7 +366,30 @@ pub record Channel : Type 0 where
   pub sensitivity : ℕ
   pub label : List ℕ
   pub unit : List ℕ
+  -- the inputs of a montage's channel
+  pub g1 : ℕ
+  pub g2 : ℕ
   pub comment : List ℕ
+
+-- what is fixed about each kind of sub
+pub record Sub : Type 0 where
+  pub code : ℕ
+  -- the tests on the number, the type, the format, and the rate by flags and type
+  pub number : ℕ → Bool
+  pub type : ℕ → Bool
+  pub format : ℕ → Bool
+  pub rate : ℕ → ℕ → ℕ → Bool
+  -- the calibration frequency and the sensitivity are fields, at 52 and 64; else reserve
+  pub calibrated : Bool
+  -- G1 and G2 are fields, at 104 and 108, with this test; else reserve
+  pub wired : Bool
+  pub input : ℕ → Bool
+
+-- and about each kind of record that holds subs: its code, the test of its count beside record 100's, and its subs
+pub record Group : Type 0 where
+  pub code : ℕ
+  pub counts : ℕ → Bool
+  pub sub : Sub
 
 unfoldable pub isType : ℕ → Bool
 isType t = leb t 18 || eqb t 20
@@ -351,25 +399,89 @@ unfoldable pub rateOk : ℕ → ℕ → ℕ → Bool
 rateOk flags type rate =
     pick (eqb rate 0) (eqb type 0) (pick (eqb (flags % 2) 0) (leb rate 1_000_000) (ltb rate limit))
 
-unfoldable pub channelBody : Walk Channel
-channelBody = do
-  n ← num 4
+-- with so many electrodes: the high 16 bits are 0 to 3; where they are 0, the low 16 bits are 0, earth, or an electrode's serial
+unfoldable pub isInput : ℕ → ℕ → Bool
+isInput electrodes g = pick (eqb (g / 65536) 0) (leb (g % 65536) electrodes) (leb (g / 65536) 3)
+
+abbrev pub anything : ℕ → Bool
+anything n = true
+
+abbrev pub channelSub : Sub
+channelSub = record {
+  code = 125;
+  number = anything;
+  type = isType;
+  format = between 1 4;
+  rate = rateOk;
+  calibrated = true;
+  wired = false;
+  input = anything;
+}
+
+abbrev pub electrodeSub : Sub
+electrodeSub = record {
+  code = 325;
+  number = λ n. ltb n limit;
+  type = λ t. isType t || eqb t 101;
+  format = between 1 4;
+  rate = rateOk;
+  calibrated = false;
+  wired = false;
+  input = anything;
+}
+
+abbrev pub montageSub : ℕ → Sub
+montageSub electrodes = record {
+  code = 355;
+  number = anything;
+  type = anything;
+  format = anything;
+  rate = λ _ _. anything;
+  calibrated = true;
+  wired = true;
+  input = isInput electrodes;
+}
+
+-- 120 and 320, of as many channels as record 100 has; 350, over so many electrodes
+abbrev pub channelGroup : ℕ → Group
+channelGroup count = record { code = 120; counts = λ m. eqb m count; sub = channelSub }
+
+abbrev pub electrodeGroup : ℕ → Group
+electrodeGroup count = record { code = 320; counts = λ m. eqb m count; sub = electrodeSub }
+
+abbrev pub montageGroup : ℕ → Group
+montageGroup electrodes = record { code = 350; counts = anything; sub = montageSub electrodes }
+
+-- 120 or 320, by the form
+unfoldable pub channelsGroup : Label → ℕ → Group
+channelsGroup label count = elim (label .form) [ Form.Channels ↦ channelGroup count | Form.Electrodes ↦ electrodeGroup count ]
+
+-- a number of 4 bytes where it is a field; else reserve, and 0
+unfoldable pub fieldIf : Bool → (ℕ → Bool) → Walk ℕ
+fieldIf true ok = field ok
+fieldIf false ok = skip 4 (give 0)
+
+unfoldable pub channelBody : Sub → Walk Channel
+channelBody k = do
+  n ← field (k .number)
   flags ← num 4
-  type ← field isType
-  format ← field (between 1 4)
-  rate ← field (rateOk flags type)
+  type ← field (k .type)
+  format ← field (k .format)
+  rate ← field (k .rate flags type)
   cal ← num 4
   calAD ← num 4
   offsetAD ← num 4
   offsetCal ← num 4
-  calFrequency ← num 4
+  calFrequency ← fieldIf (k .calibrated) anything
   lowCut ← num 4
   highCut ← num 4
-  sensitivity ← num 4
+  sensitivity ← fieldIf (k .calibrated) anything
   reserve 4
   label ← text 16
   unit ← text 16
-  reserve 92
+  g1 ← fieldIf (k .wired) (k .input)
+  g2 ← fieldIf (k .wired) (k .input)
+  reserve 84
   comment ← text 60
   give (record {
     channel = n;
@@ -387,27 +499,36 @@ channelBody = do
     sensitivity = sensitivity;
     label = label;
     unit = unit;
+    g1 = g1;
+    g2 = g2;
     comment = comment;
   })
 
-abbrev pub channel : ℕ → ℕ → Walk Channel
-channel room i = fixed (channelRule i) channelBody room
+abbrev pub channel : Sub → ℕ → ℕ → Walk Channel
+channel k room i = fixed (channelRule (k .code) i) (channelBody k) room
 
--- the body of a 120 of this length
-unfoldable pub channelsBody : Basic → ℕ → Walk (List Channel)
-channelsBody b bytes = do
+-- the body of a 120, a 320 or a 350 of this length
+unfoldable pub channelsBody : Group → ℕ → Walk (List Channel)
+channelsBody g bytes = do
   m ← field (between 1 128)
-  require (eqb m (b .channels)) 14 fieldBack
+  require (g .counts m) 14 fieldBack
   require (eqb bytes (32 + 256 * m)) 14 fieldBack
   _ ← field (eqb 256)
   reserve 8
-  series m 1 256 (bytes - 32) channel
+  series m 1 256 (bytes - 32) (channel (g .sub))
 
--- the rest of a 120 whose head is read
-unfoldable pub channels : Basic → ℕ → Head → Walk (List Channel)
-channels b room h = do
-  admitBy channelsRule room h
-  channelsBody b (span h)
+-- the rest of a 120, a 320 or a 350 whose head is read
+unfoldable pub channels : Group → ℕ → Head → Walk (List Channel)
+channels g room h = do
+  admitBy (channelsRule (g .code)) room h
+  channelsBody g (span h)
+
+-- the rest of a 350 whose head is read: in form 00 there is none
+unfoldable pub montage : Label → List Channel → ℕ → Head → Walk (List Channel)
+montage label electrodes room h = elim (label .form) [
+  | Form.Channels ↦ refuse 9 codeBack
+  | Form.Electrodes ↦ channels (montageGroup (length electrodes)) room h
+]
 
 -- 130 and 200
 
@@ -600,14 +721,17 @@ pub record Recording : Type 0 where
   pub patient : List Item
   pub ownEvents : Bool
   pub events : List Item
+  pub ownMontage : Bool
+  pub montage : List Channel
   pub seconds : ℕ
   pub frames : List Frame
-  -- behind 100, 120, 130, 200 and 140
+  -- behind 100, 120 or 320, 130, 200, 350 and 140
   pub makers₁ : List Maker
   pub makers₂ : List Maker
   pub makers₃ : List Maker
   pub makers₄ : List Maker
   pub makers₅ : List Maker
+  pub makers₆ : List Maker
 
 -- what a later recording takes over where it has none of its own
 pub record Held : Type 0 where
@@ -654,13 +778,14 @@ delimiter h = do
   require (eqb (h .serial) 0) 12 serialBack
   list startBack 16 0 0 (give tt)
 
--- where it stands: the recording's length, how far into it 120, 130, 200 and 140 stand (where one is absent: the record that stands in its place),
--- and its frames' length
+-- where it stands: the recording's length, how far into it 120 or 320, 130, 200, 350 and 140 stand (where one is absent: the record that stands
+-- in its place), and its frames' length
 pub record Layout : Type 0 where
   pub bytes : ℕ
   pub at120 : ℕ
   pub at130 : ℕ
   pub at200 : ℕ
+  pub at350 : ℕ
   pub at140 : ℕ
   pub frame : ℕ
 
@@ -675,16 +800,19 @@ pub record Descriptions : Type 0 where
   pub channels : Part (List Channel)
   pub patient : Part (List Item)
   pub events : Part (List Item)
+  pub montage : Part (List Channel)
 
 -- of a recording of so many bytes; its 10 and its 100 take 16 and 128 of them
-unfoldable pub descriptions : Option Held → ℕ → Walk Descriptions
-descriptions held bytes = do
+unfoldable pub descriptions : Label → Option Held → ℕ → Walk Descriptions
+descriptions label held bytes = do
   b ← basic (bytes - 16)
+  let g = channelsGroup label (b .channels)
   n ← next bytes (bytes - 144)
-  c ← part bytes 120 (channels b) (heldChannels held) n
+  c ← part bytes (g .code) (channels g) (heldChannels held) n
   p ← part bytes 130 (items patientCode) (heldPatient held) (c .next)
   e ← part bytes 200 (items eventCode) (some []) (p .next)
-  give (record { basic = b; next = n; channels = c; patient = p; events = e })
+  m ← part bytes 350 (montage label (c .value)) (some []) (e .next)
+  give (record { basic = b; next = n; channels = c; patient = p; events = e; montage = m })
 
 -- 100's count of channels stands 36 bytes into the recording: so many bytes back from behind the head of the 140, which has so much room
 abbrev pub countBack : ℕ → ℕ → ℕ
@@ -694,7 +822,7 @@ countBack bytes room = bytes - room - 20
 unfoldable pub signals : Descriptions → Head → Walk Placed
 signals t h = do
   let bytes = span h
-  let last = t .events .next
+  let last = t .montage .next
   codedBy framesRule (last .head)
   f ← frames (t .basic) (t .channels .own) (t .channels .value) (countBack bytes (last .room)) (last .room) (last .head)
   d ← next bytes (last .room - span (last .head))
@@ -713,42 +841,46 @@ signals t h = do
       patient = t .patient .value;
       ownEvents = t .events .own;
       events = t .events .value;
+      ownMontage = t .montage .own;
+      montage = t .montage .value;
       seconds = f .seconds;
       frames = f .frames;
       makers₁ = t .next .makers;
       makers₂ = t .channels .next .makers;
       makers₃ = t .patient .next .makers;
       makers₄ = t .events .next .makers;
-      makers₅ = d .makers;
+      makers₅ = t .montage .next .makers;
+      makers₆ = d .makers;
     };
     layout = record {
       bytes = bytes;
       at120 = bytes - t .next .room;
       at130 = bytes - t .channels .next .room;
       at200 = bytes - t .patient .next .room;
+      at350 = bytes - t .events .next .room;
       at140 = bytes - last .room;
       frame = f .size;
     };
   })
 
 -- the body of a recording with this head
-unfoldable pub recordingBody : Option Held → Head → Walk Placed
-recordingBody held h = do
-  t ← descriptions held (span h)
+unfoldable pub recordingBody : Label → Option Held → Head → Walk Placed
+recordingBody label held h = do
+  t ← descriptions label held (span h)
   signals t h
 
-unfoldable pub recording : Option Held → ℕ → ℕ → Walk Placed
-recording held room i = do
+unfoldable pub recording : Label → Option Held → ℕ → ℕ → Walk Placed
+recording label held room i = do
   h ← head room
   codedBy (recordingRule i) h
   admitBy (recordingRule i) room h
-  recordingBody held h
+  recordingBody label held h
 
-unfoldable pub recordings : ℕ → Option Held → ℕ → ℕ → Walk (List Placed)
-recordings zero held room i = give []
-recordings (suc n) held room i = do
-  r ← recording held room i
-  rest ← recordings n (some (record { channels = r .recording .channels; patient = r .recording .patient })) (room - r .layout .bytes) (suc i)
+unfoldable pub recordings : Label → ℕ → Option Held → ℕ → ℕ → Walk (List Placed)
+recordings label zero held room i = give []
+recordings label (suc n) held room i = do
+  r ← recording label held room i
+  rest ← recordings label n (some (record { channels = r .recording .channels; patient = r .recording .patient })) (room - r .layout .bytes) (suc i)
   give (r ∷ rest)
 
 -- What a file holds, and where
@@ -770,7 +902,7 @@ contents v = record { heading = v .heading; recordings = map (λ p. p .recording
 unfoldable pub file : ℕ → Walk File
 file size = do
   f ← fileHeader size
-  rs ← recordings (f .count) none (size - 32) 1
+  rs ← recordings (f .heading .label) (f .count) none (size - 32) 1
   give (record { heading = f .heading; recordings = rs })
 
 -- the order that the file's letter names; another letter is refused by the walk

@@ -43,6 +43,8 @@ channelWords c = record {
   sensitivity = unsigned 4 (c .sensitivity);
   label = c .label;
   unit = c .unit;
+  g1 = unsigned 4 (c .g1);
+  g2 = unsigned 4 (c .g2);
   comment = c .comment;
 }
 
@@ -77,6 +79,8 @@ recordingWords r = record {
   patient = map itemWords (r .patient);
   ownEvents = r .ownEvents;
   events = map itemWords (r .events);
+  ownMontage = r .ownMontage;
+  montage = map channelWords (r .montage);
   seconds = unsigned 4 (r .seconds);
   frames = map (frameWords (map channelWords (r .channels))) (r .frames);
   makers₁ = map makerWords (r .makers₁);
@@ -84,6 +88,7 @@ recordingWords r = record {
   makers₃ = map makerWords (r .makers₃);
   makers₄ = map makerWords (r .makers₄);
   makers₅ = map makerWords (r .makers₅);
+  makers₆ = map makerWords (r .makers₆);
 }
 
 -- the words that a reading stands for

@@ -10,9 +10,21 @@ pub enum Spelling {
     Psg,
 }
 
+// The forms: of channels, 00, and of electrodes, 01.
+pub enum Form {
+    Channels,
+    Electrodes,
+}
+
+// What the file header says that the rules for records go by.
+pub struct Label {
+    pub form: Form,
+}
+
 // What the file header says of the whole file, besides the order and K.
 pub struct Heading {
     pub spelling: Spelling,
+    pub label: Label,
     pub script: u32,
 }
 
@@ -40,10 +52,12 @@ impl FileHeader {
 
     pub const SPACES: usize = 22;
 
-    // The version and the form that are read, as numbers.
+    // The version that is read and the two forms, as numbers.
     pub const VERSION_NUMBER: u32 = 300;
 
-    pub const FORM_NUMBER: u32 = 0;
+    pub const CHANNELS_NUMBER: u32 = 0;
+
+    pub const ELECTRODES_NUMBER: u32 = 1;
 
     // The letters of the two orders, L and B.
     pub const LITTLE: u32 = 76;
@@ -98,13 +112,13 @@ impl Head {
     pub const LIMIT: u32 = 2147483648;
 }
 
-// A record's kind, with what its rule asks for: the serial, the code of 130 or 200, a frame's length and the byte where its samples end.
-// `Any` is what every record meets but the delimiter.
+// A record's kind, with what its rule asks for: the code where several records are of a kind, the serial, a frame's length and the byte where
+// its samples end. `Any` is what every record meets but the delimiter.
 pub enum Kind {
     Recording(u32),
     Basic,
-    Channels,
-    Channel(u32),
+    Channels(u32),
+    Channel(u32, u32),
     Items(u32),
     Frames,
     Frame(usize, usize, u32),
@@ -190,7 +204,20 @@ impl Basic {
     pub const MAINS_NUMBERS: usize = 1;
 }
 
-// Record 120: where its records 125 start in the file, and how many there are.
+// The records that hold subs: 120 and 320 with as many as record 100 says, and 350 over so many electrodes.
+pub enum Group {
+    Channels(u32),
+    Electrodes(u32),
+    Montage(u32),
+}
+
+// Which fields a sub has: the calibration frequency and the sensitivity, and the inputs G1 and G2. Those that it has not are reserve.
+pub struct Shape {
+    pub calibrated: bool,
+    pub wired: bool,
+}
+
+// Record 120, 320 or 350: where its subs start in the file, and how many there are.
 pub struct Channels {
     pub subs: usize,
     pub count: u32,
@@ -221,7 +248,43 @@ impl Channels {
     pub const BODY_SUBS: usize = Channels::SUBS - Head::LENGTH;
 }
 
-// Record 125: a channel.
+// Record 320: the electrodes.
+pub struct Electrodes;
+
+impl Electrodes {
+    pub const CODE: u32 = 320;
+}
+
+// Record 325: an electrode.
+pub struct Electrode;
+
+impl Electrode {
+    pub const CODE: u32 = 325;
+
+    // A type that only an electrode may have.
+    pub const TYPE: u32 = 101;
+}
+
+// Record 350: a montage.
+pub struct Montage;
+
+impl Montage {
+    pub const CODE: u32 = 350;
+}
+
+// Record 355: a montage's channel.
+pub struct MontageChannel;
+
+impl MontageChannel {
+    pub const CODE: u32 = 355;
+
+    // An input's high 16 bits say what it is, up to this; the low ones may name an electrode.
+    pub const MOST_INPUT: u32 = 3;
+
+    pub const INPUTS: u32 = 65536;
+}
+
+// Record 125, 325 or 355: a channel, an electrode, or a montage's channel.
 pub struct Channel;
 
 impl Channel {
@@ -268,7 +331,11 @@ impl Channel {
 
     pub const UNIT_LENGTH: usize = 16;
 
-    pub const SPARE: usize = 104;
+    pub const G1: usize = 104;
+
+    pub const G2: usize = 108;
+
+    pub const SPARE: usize = 112;
 
     pub const COMMENT: usize = 196;
 
@@ -295,8 +362,10 @@ impl Channel {
 
     pub const LONG_WIDTH: usize = 4;
 
-    // How many numbers stand up to the reserve, with the head's.
-    pub const NUMBERS: usize = 17;
+    // How many numbers stand up to the calibration frequency, with the head's; and behind it.
+    pub const NUMBERS: usize = 13;
+
+    pub const CUTS: usize = 2;
 }
 
 // Record 130: the patient's items.

@@ -39,7 +39,7 @@ module _ (s : List ℕ) (b : Bytes s) (i : ℕ) (r : Chosen) (x : ChosenIn s i r
   pub frame-samples : SamplesOk (r .this .recording .seconds) (r .this .recording .channels) (f .channels)
   frame-samples =
       let a = recording-at s b (x .judged) (r .this) (r .index) (x .one .inside) in
-      let k = recording-ok (a .held) (a .room) (1 + r .index) (a .found .plays) in
+      let k = recording-ok (x .file .heading .label) (a .held) (a .room) (1 + r .index) (a .found .plays) in
       rw (o .is f) at (all-one (FrameOk (r .this .recording .seconds) (r .this .recording .channels)) f (r .this .recording .frames) (n - 1) (o .inside) (rw (this-one s b i r x) at (k .frames .each)) .samples)
 
   -- sample m of channel c, both from 0

@@ -42,21 +42,24 @@ placed t r f d = record {
     patient = t .patient .value;
     ownEvents = t .events .own;
     events = t .events .value;
+    ownMontage = t .montage .own;
+    montage = t .montage .value;
     seconds = f .seconds;
     frames = f .frames;
     makers₁ = t .next .makers;
     makers₂ = t .channels .next .makers;
     makers₃ = t .patient .next .makers;
     makers₄ = t .events .next .makers;
-    makers₅ = d .makers;
+    makers₅ = t .montage .next .makers;
+    makers₆ = d .makers;
   };
-  layout = record { bytes = R.span r; at120 = R.span r - t .next .room; at130 = R.span r - t .channels .next .room; at200 = R.span r - t .patient .next .room; at140 = R.span r - t .events .next .room; frame = f .size };
+  layout = record { bytes = R.span r; at120 = R.span r - t .next .room; at130 = R.span r - t .channels .next .room; at200 = R.span r - t .patient .next .room; at350 = R.span r - t .events .next .room; at140 = R.span r - t .montage .next .room; frame = f .size };
 }
 
 -- it is whole: the code keeps the length and the seconds of its frames
 whole : (t : Descriptions) (r : R.Head) (a : R.Frames) (d : R.Next) (f : Frames) → a .size ≡ f .size → a .seconds ≡ f .seconds → Whole t r f (placed t r a d)
 unfolding placed
-whole t r a d f i j = record { layout = rw i; seconds = j; basic = refl; ownChannels = refl; channels = refl; ownPatient = refl; patient = refl; ownEvents = refl }
+whole t r a d f i j = record { layout = rw i; seconds = j; basic = refl; ownChannels = refl; channels = refl; ownPatient = refl; patient = refl; ownEvents = refl; ownMontage = refl }
 
 -- behind the delimiter: so many bytes of the recording are used, and so many are left
 unfoldable pub closing : R.Head → ℕ → ℕ → ℕ → R.Placed → Walk R.Placed
@@ -66,16 +69,16 @@ unfoldable pub behind : Descriptions → R.Head → R.Frames → R.Next → Walk
 behind t r f d = R.delimiter (d .head) >> closing r (R.span r - (d .room - 16)) (d .room - 16) (f .padded) (placed t r f d)
 
 signals-split : (t : Descriptions) (r : R.Head) → signals t r ≡
-    (R.coded (t .events .next .head) 140 >> (R.frames (t .basic) (t .channels .own) (t .channels .value) (R.span r - t .events .next .room - 20) (t .events .next .room) (t .events .next .head) >>= λ f.
-    R.next (R.span r) (t .events .next .room - R.span (t .events .next .head)) >>= behind t r f))
+    (R.coded (t .montage .next .head) 140 >> (R.frames (t .basic) (t .channels .own) (t .channels .value) (R.span r - t .montage .next .room - 20) (t .montage .next .room) (t .montage .next .head) >>= λ f.
+    R.next (R.span r) (t .montage .next .room - R.span (t .montage .next .head)) >>= behind t r f))
 unfolding signals behind closing placed
 signals-split t r = refl
 
 -- of a second half that the walk accepted: the 140 has room for its numbers, and they are in its bytes
-pub yields-signals : (o : Order) (b : ℕ) (s : List ℕ) (at : ℕ) (t : Descriptions) (r : R.Head) → Yields o b s at (signals t r) (λ x _. (32 ≤ t .events .next .room) × Whole t r (record { seconds = numberAt o 4 s (at - b); size = numberAt o 4 s (at + 4 - b); padded = 0 }) x)
+pub yields-signals : (o : Order) (b : ℕ) (s : List ℕ) (at : ℕ) (t : Descriptions) (r : R.Head) → Yields o b s at (signals t r) (λ x _. (32 ≤ t .montage .next .room) × Whole t r (record { seconds = numberAt o 4 s (at - b); size = numberAt o 4 s (at + 4 - b); padded = 0 }) x)
 unfolding behind closing _>>=_ _>>_
 yields-signals o b s at t r =
-    let last : R.Next = t .events .next in
+    let last : R.Next = t .montage .next in
     rw signals-split (λ _.
     yields-bind o b s (R.frames (t .basic) (t .channels .own) (t .channels .value) (R.span r - last .room - 20) (last .room) (last .head)) _ at _ _ (yields-frames o b s at (t .basic) (t .channels .own) (t .channels .value) (R.span r - last .room - 20) (last .room) (last .head))
     (λ f e q. yields-past o b s (R.next (R.span r) (last .room - R.span (last .head))) _ e _

@@ -29,14 +29,22 @@ pub record DescriptionsKnown (o : Order) (file : List ℕ) (cs : Channels) (isOw
   pub basic : basicOf (t .basic) ≡ b
   pub own : t .channels .own ≡ isOwn
   pub channels : ChannelsStand o file cs (t .channels .value)
-  pub head : t .events .next .head ≡ headOf h
-  pub room : t .events .next .room ≡ length s - h .at
+  pub head : t .montage .next .head ≡ headOf h
+  pub room : t .montage .next .room ≡ length s - h .at
   pub bytes : R.span r ≡ 16 + length s
   pub multiplier : r .multiplier ≡ m
 
 -- a recording of these descriptions with a 140 of which the code keeps f
 pub record Whole (t : Descriptions) (r : R.Head) (f : Frames) (p : R.Placed) : Type 0 where
-  pub layout : p .layout ≡ record { bytes = R.span r; at120 = R.span r - t .next .room; at130 = R.span r - t .channels .next .room; at200 = R.span r - t .patient .next .room; at140 = R.span r - t .events .next .room; frame = f .size }
+  pub layout : p .layout ≡ record {
+    bytes = R.span r;
+    at120 = R.span r - t .next .room;
+    at130 = R.span r - t .channels .next .room;
+    at200 = R.span r - t .patient .next .room;
+    at350 = R.span r - t .events .next .room;
+    at140 = R.span r - t .montage .next .room;
+    frame = f .size;
+  }
   pub seconds : p .recording .seconds ≡ f .seconds
   pub basic : p .recording .basic ≡ t .basic
   pub ownChannels : p .recording .ownChannels ≡ t .channels .own
@@ -44,6 +52,7 @@ pub record Whole (t : Descriptions) (r : R.Head) (f : Frames) (p : R.Placed) : T
   pub ownPatient : p .recording .ownPatient ≡ t .patient .own
   pub patient : p .recording .patient ≡ t .patient .value
   pub ownEvents : p .recording .ownEvents ≡ t .events .own
+  pub ownMontage : p .recording .ownMontage ≡ t .montage .own
 
 -- it ends there
 pub record WholeAt (end : ℕ) (t : Descriptions) (r : R.Head) (f : Frames) (p : R.Placed) (e : ℕ) : Type 0 where

@@ -62,7 +62,7 @@ fn sampled(t: u32, flags: u32, rate: u32) -> bool
     1 <= records::channels::samples_in(t, flags, rate)
 }
 
-// Each of the channels whose records 125 stand at cs has no rate, or at least one sample in t seconds.
+// Each of the channels whose subs stand at cs has no rate, or at least one sample in t seconds.
 fn all_sampled(o: Order, file: &[u8], cs: Channels, t: u32) -> bool
     requires { ⌜ SecondsOf (length (now file)) cs t ⌝ }
     ensures { λ r. ⌜ ((ch : List R.Channel) → ChannelsStand o (now (file .entry)) cs ch → r ≡ R.all (R.sampled t) ch) ⌝ }

@@ -48,7 +48,7 @@ kept-room rs out h = rw (le-leb (4 * length rs) (length out) h)
 module _ (s : List ℕ) (h : FileHeader) (x : AcceptedAs s h) where
   -- what the code wrote is its rows
   wrote-listed : (w : Bool) (out out′ : List ℤ) (k : ℕ) → OfFile (h .order) s (h .count) (Wrote w out out′ 0 k) → Wrote w out out′ 0 k (W.rows 0 (x .events))
-  wrote-listed w out out′ k wrote = rw (listed s h x) (wrote (x .file .recordings) (length s) (went s h x))
+  wrote-listed w out out′ k wrote = rw (listed s h x) (wrote (h .heading .label) (x .file .recordings) (length s) (went s h x))
 
   module _ (out out₁ : List ℤ) (need : ℕ) (first : OfFile (h .order) s (h .count) (Wrote false out out₁ 0 need)) where
     -- counting leaves the buffer as it was

@@ -1,7 +1,7 @@
 -- What is written of the records of a recording, one after the other, from what each of the code's steps wrote.
 -- Assumes nothing.
 use mathlib.Core.Path.{_≡_, refl, sym, ap, _∙_}
-use mathlib.Core.Bool.{Bool, true}
+use mathlib.Core.Bool.{Bool, true, false}
 use mathlib.Core.List.{List, [], _∷_, _++_, append-assoc, append-nil}
 use Prim.Native.Nat.{ℕ, _+_, _-_, _*_, _≤_, _<_}
 use native.Mathlib.Omega.{arith}
@@ -13,15 +13,16 @@ use Rattle.words.specs.declared.Order.{Order}
 use Rattle.walk.specs.See.{goes, see, Stays}
 use Rattle.walk.specs.Trace.{trace}
 use Rattle.walk.specs.Walk.{Padding, laid, Walk, text, _>>=_, _>>_}
+use Rattle.walk.proofs.Apart.{false-true}
 use Rattle.walk.proofs.Laid.{laid-padding}
 use Rattle.walk.proofs.Seen.{and-left, stays-goes, see-body, body-length}
 use Rattle.walk.proofs.Tracing.{written-append, written-none, written-row, written-piece}
-use Rattle.rules.specs.Rules.{Head, Basic, Channel, head, admit, span, zeros, padding, numberList, basicBody, channels, channelsBody, items, itemsBody, patientCode, eventCode, frames, makerCode, delimiter}
+use Rattle.rules.specs.Rules.{Head, Group, Channel, head, admit, span, zeros, padding, numberList, basicBody, channels, channelsBody, items, itemsBody, patientCode, eventCode, frames, makerCode, delimiter}
 use Rattle.rules.specs.declared.Head as At
 use Rattle.rules.proofs.Room.{stays-basicBody, stays-channelsBody, stays-itemsBody}
-use Rattle.records.specs.Says.{headOf}
+use Rattle.records.specs.Says.{headOf, isGroup, shapeOf, HasShape}
 use Rattle.records.proofs.Opened.{admit-went}
-use Rattle.children.specs.Children.{Said, said, _then_, Known, Reads, Inner, is100, is120, is130, is200, is140, isMaker, Links, Parted, Closed}
+use Rattle.children.specs.Children.{Said, said, _then_, Known, Reads, Inner, is100, isSubs, is130, is200, is140, isMaker, Links, Parted, Closed}
 use Rattle.rows.proofs.Lists.{channelsBody-lists}
 use Rattle.bodies.specs.Copy.{copy, Pastes}
 use Rattle.bodies.specs.declared.Way.{Way}
@@ -111,9 +112,9 @@ module _ (w : Way) (b : ℕ) (s : List ℕ) (p q : ℕ) (h : Head) (stop : q ≡
       let j : (at : ℕ) → at + (span h - 16) ≡ at + 112 = λ at. omega arith in
       let z = behind 0 (eqb 128) (eqb 0) basicBody (λ _ at. rw (j at) (stays-basicBody at (at + 112) (omega arith))) r in
       told z (λ d y. y .basic c (omega (arith, body-span)) from (r .value) (r .end) (z .reads))
-  inner-told {k} (is120 c r) n =
-      let z = behind 0 (leb 32) (eqb 0) (channelsBody (k .basic) (span h)) (λ e at. stays-channelsBody (k .basic) (span h) at (leb-true 32 (span h) e)) r in
-      told z (λ d y. (rw body-span at (y .channels c (k .basic) from)) (r .value) (r .end) (z .reads))
+  inner-told (isSubs g t c r) n =
+      let z = behind 0 (leb 32) (eqb 0) (channelsBody g (span h)) (λ e at. stays-channelsBody g (span h) at (leb-true 32 (span h) e)) r in
+      told z (λ d y. (rw body-span at (y .channels (ap isGroup c ∙ t .group) g (rw c (t .shape)) from)) (r .value) (r .end) (z .reads))
   inner-told (is130 c r) n = items-told patientCode (λ d y. y .patient c) r
   inner-told (is200 c r) n = items-told eventCode (λ d y. y .events c) r
   inner-told (is140 c r) n = absurd (n c)
@@ -125,10 +126,22 @@ maker-high : (code : ℕ) → makerCode code ≡ true → 1024 ≤ code
 unfolding makerCode
 maker-high code z = leb-true 1024 code (and-left (leb 1024 code) _ z)
 
+-- a record that holds subs is no maker's
+group-low : (code : ℕ) → isGroup code ≡ true → code ≤ 350
+unfolding isGroup
+group-low code h = go (eqb code 120) (eqb code 320) (eqb code 350) refl refl refl
+  where
+    go : (x y z : Bool) → eqb code 120 ≡ x → eqb code 320 ≡ y → eqb code 350 ≡ z → code ≤ 350
+    go true y z e f g = let i : code ≡ 120 = eqb-true code 120 e in omega arith
+    go false true z e f g = let i : code ≡ 320 = eqb-true code 320 f in omega arith
+    go false false true e f g = let i : code ≡ 350 = eqb-true code 350 g in omega arith
+    go false false false e f g = false-true (rw (isGroup, e, f, g) at h)
+
 -- one that is a 140
 pub inner-140 : {o : Order} {b : ℕ} {s : List ℕ} {p : ℕ} {k : Known} {h : Head} {l : Said} → Inner o b s p k h l → h .code ≡ 140 → Reads o b s p (frames (k .basic) (k .own) (k .channels) (k .back) (length s - p) h) l
+unfolding isGroup
 inner-140 (is100 c r) e = absurd (omega arith)
-inner-140 (is120 c r) e = absurd (omega arith)
+inner-140 (isSubs g t c r) e = false-true (sym (ap isGroup (sym c ∙ e)) ∙ t .group)
 inner-140 (is130 c r) e = absurd (omega arith)
 inner-140 (is200 c r) e = absurd (omega arith)
 inner-140 (is140 c r) e = r
@@ -137,19 +150,27 @@ inner-140 {h} (isMaker c r) e = absurd (omega (arith, maker-high (h .code) c))
 -- the body d of a record by its code, from what the code wrote of it
 module _ (w : Way) (code : ℕ) (s d : List ℕ) where
   pub bodied-100 : code ≡ 100 → (length s ≡ 112 → Anew w s d basicBody) → Bodied w code s d
-  bodied-100 q y = record { basic = λ _. y; channels = λ z. absurd (omega arith); patient = λ z. absurd (omega arith); events = λ z. absurd (omega arith); maker = λ z. absurd (omega (arith, maker-high code z)) }
+  unfolding isGroup
+  bodied-100 q y = record { basic = λ _. y; channels = λ z. false-true (sym (ap isGroup q) ∙ z); patient = λ z. absurd (omega arith); events = λ z. absurd (omega arith); maker = λ z. absurd (omega (arith, maker-high code z)) }
 
-  pub bodied-120 : code ≡ 120 → ((c : Basic) → Anew w s d (channelsBody c (16 + length s))) → Bodied w code s d
-  bodied-120 q y = record { basic = λ z. absurd (omega arith); channels = λ _. y; patient = λ z. absurd (omega arith); events = λ z. absurd (omega arith); maker = λ z. absurd (omega (arith, maker-high code z)) }
+  pub bodied-subs : isGroup code ≡ true → ((g : Group) → HasShape (g .sub) (shapeOf code) → Anew w s d (channelsBody g (16 + length s))) → Bodied w code s d
+  unfolding isGroup
+  bodied-subs q y = record {
+    basic = λ z. false-true (sym (ap isGroup z) ∙ q);
+    channels = λ _. y;
+    patient = λ z. false-true (sym (ap isGroup z) ∙ q);
+    events = λ z. false-true (sym (ap isGroup z) ∙ q);
+    maker = λ z. absurd (omega (arith, maker-high code z, group-low code q));
+  }
 
-  pub bodied-items : (code ≡ 100 → ⊥) → (code ≡ 120 → ⊥) → code < 1024 → Itemized w s d → Bodied w code s d
-  bodied-items n₁ n₂ l y = record { basic = λ z. absurd (n₁ z); channels = λ z. absurd (n₂ z); patient = λ _. y; events = λ _. y; maker = λ z. absurd (omega (arith, maker-high code z)) }
+  pub bodied-items : (code ≡ 100 → ⊥) → isGroup code ≡ false → code < 1024 → Itemized w s d → Bodied w code s d
+  bodied-items n₁ n₂ l y = record { basic = λ z. absurd (n₁ z); channels = λ z. false-true (sym n₂ ∙ z); patient = λ _. y; events = λ _. y; maker = λ z. absurd (omega (arith, maker-high code z)) }
 
-  pub bodied-other : (code ≡ 100 → ⊥) → (code ≡ 120 → ⊥) → (code ≡ 130 → ⊥) → (code ≡ 200 → ⊥) → d ≡ s → Bodied w code s d
-  bodied-other n₁ n₂ n₃ n₄ y = record { basic = λ z. absurd (n₁ z); channels = λ z. absurd (n₂ z); patient = λ z. absurd (n₃ z); events = λ z. absurd (n₄ z); maker = λ _. y }
+  pub bodied-other : (code ≡ 100 → ⊥) → isGroup code ≡ false → (code ≡ 130 → ⊥) → (code ≡ 200 → ⊥) → d ≡ s → Bodied w code s d
+  bodied-other n₁ n₂ n₃ n₄ y = record { basic = λ z. absurd (n₁ z); channels = λ z. false-true (sym n₂ ∙ z); patient = λ z. absurd (n₃ z); events = λ z. absurd (n₄ z); maker = λ _. y }
 
--- a 120 has the length that its count of channels asks for
-pub channels-counted : (o : Order) (b : ℕ) (s : List ℕ) (c : Basic) (n : ℕ) {l : List Channel} {e : ℕ} → see o b s b (channelsBody c n) ≡ goes l e → n ≡ 32 + 256 * numberAt o 4 s 0
+-- a 120, 320 or 350 has the length that its count of subs asks for
+pub channels-counted : (o : Order) (b : ℕ) (s : List ℕ) (c : Group) (n : ℕ) {l : List Channel} {e : ℕ} → see o b s b (channelsBody c n) ≡ goes l e → n ≡ 32 + 256 * numberAt o 4 s 0
 channels-counted o b s c n g =
     let i : b + 0 ≡ b = omega arith in
     channelsBody-lists o b s 0 c n (ap (λ (at : ℕ). see o b s at (channelsBody c n)) i ∙ g) .0

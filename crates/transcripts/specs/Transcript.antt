@@ -8,9 +8,9 @@ use lib.ListN.{length}
 use Rattle.walk.specs.See.{goes, see}
 use Rattle.walk.specs.Trace.{written}
 use Rattle.walk.specs.Walk.{Walk}
-use Rattle.rules.specs.Rules.{Basic, span, basicBody, channelsBody, itemsBody, makerCode}
+use Rattle.rules.specs.Rules.{Group, span, basicBody, channelsBody, itemsBody, makerCode}
 use Rattle.rules.specs.declared.Head.{Head}
-use Rattle.records.specs.Says.{headOf}
+use Rattle.records.specs.Says.{headOf, isGroup, shapeOf, HasShape}
 use Rattle.children.specs.Children.{Said, Known, Inner}
 use Rattle.bodies.specs.Copy.{copy, Pastes}
 use Rattle.bodies.specs.declared.Way.{Way}
@@ -45,7 +45,7 @@ Itemized w s d = 8 ≤ length s → (ok : ℕ → Bool) → Anew w s d (itemsBod
 -- d is the body s of a record with this code, written anew: each kind by its own walk, a maker's as it stands
 pub record Bodied (w : Way) (code : ℕ) (s d : List ℕ) : Type 0 where
   pub basic : code ≡ 100 → length s ≡ 112 → Anew w s d basicBody
-  pub channels : code ≡ 120 → (c : Basic) → Anew w s d (channelsBody c (16 + length s))
+  pub channels : isGroup code ≡ true → (g : Group) → HasShape (g .sub) (shapeOf code) → Anew w s d (channelsBody g (16 + length s))
   pub patient : code ≡ 130 → Itemized w s d
   pub events : code ≡ 200 → Itemized w s d
   pub maker : makerCode code ≡ true → d ≡ s

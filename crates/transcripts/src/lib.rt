@@ -4,6 +4,7 @@ ghost use mathlib.Core.Path.{_≡_};
 ghost use Prim.Native.Nat.{ℕ, _+_, _≤_};
 ghost use lib.ListN.{length};
 ghost use Rattle.rules.specs.Rules as R;
+ghost use Rattle.records.specs.Says.{HasShape};
 ghost use Rattle.bodies.specs.Copy.{copy, Pastes};
 ghost use Rattle.transcripts.specs.Transcript.{PlacesIn, RecordFrom, Anew, Itemized, Bodied, Transcribed};
 use bodies::Way;
@@ -12,6 +13,8 @@ use bodies::channels_body;
 use bodies::items_body;
 use bodies::runs::numbers;
 use bulk::copy_run;
+use records::channels::is_group;
+use records::channels::shape_of;
 use rules::Basic;
 use rules::Channel;
 use rules::Channels;
@@ -19,6 +22,7 @@ use rules::Events;
 use rules::Head;
 use rules::Items;
 use rules::Patient;
+use rules::Shape;
 use words::number4;
 
 // Bytes as they stand, if there is room for them.
@@ -65,10 +69,10 @@ fn sized_basic(w: Way, s: &[u8], d: &mut [u8])
     basic_body(w, s, d);
 }
 
-// The body of a 120, if it has the length that its count of channels asks for.
-fn sized_channels(w: Way, s: &[u8], d: &mut [u8])
+// The body of a 120, 320 or 350, if it has the length that its count of subs asks for.
+fn sized_channels(w: Way, k: Shape, s: &[u8], d: &mut [u8])
     requires { ⌜ length (now d) ≡ length (now s) ⌝ }
-    ensures { λ _. ⌜ ((c : R.Basic) → Anew w (now (s .entry)) (now (d .exit)) (R.channelsBody c (16 + length (now (s .entry))))) ⌝ }
+    ensures { λ _. ⌜ ((g : R.Group) → HasShape (g .sub) k → Anew w (now (s .entry)) (now (d .exit)) (R.channelsBody g (16 + length (now (s .entry))))) ⌝ }
 {
     if s.len() < Channels::BODY_SUBS {
         return;
@@ -78,7 +82,7 @@ fn sized_channels(w: Way, s: &[u8], d: &mut [u8])
     if s.len() != Channels::BODY_SUBS + Channel::LENGTH * count as usize {
         return;
     }
-    channels_body(w, count, s, d);
+    channels_body(w, k, count, s, d);
 }
 
 // The body of a 130 or a 200, if it has room for its count.
@@ -101,8 +105,8 @@ fn body(w: Way, code: u32, s: &[u8], d: &mut [u8])
         sized_basic(w, s, d);
         return;
     }
-    if code == Channels::CODE {
-        sized_channels(w, s, d);
+    if is_group(code) {
+        sized_channels(w, shape_of(code), s, d);
         return;
     }
     if code == Patient::CODE {

@@ -44,7 +44,7 @@ module _ (s : List ℕ) (h : FileHeader) (x : AcceptedAs s h) where
     turns-stopped a e r = stopped (answerOf s (length out)) (T.turned s) out a (answers e) r
 
     -- its header and its recordings, written, are the turned file
-    sent : copy (turning (h .order)) 0 s 0 (fileHeader (length s)) ++ copy (turning (h .order)) 0 s 32 (walked s h x) ≡ T.turned s
+    sent : copy (turning (h .order) (h .heading .label)) 0 s 0 (fileHeader (length s)) ++ copy (turning (h .order) (h .heading .label)) 0 s 32 (walked s h x) ≡ T.turned s
     unfolding file
     sent =
         let o : Order = h .order in
@@ -53,5 +53,5 @@ module _ (s : List ℕ) (h : FileHeader) (x : AcceptedAs s h) where
         rw (x .order) (judge-trace s (x .judged)) ∙ (trace-bind o 0 s 0 (fileHeader (length s)) (behindHeader (length s)) (opens s h x) ∙ ap (λ (u : List Event). t ++ u) (trace-give {B = R.File} o 0 s 32 (walked s h x) (λ l. record { heading = headed s h x .heading; recordings = l }))) in
         sym (turned-of s (x .judged) ∙ rw (← x .order, e) (render-append (other o) t (trace o 0 s 32 (walked s h x))))
 
-    pub turns-room : (a : Written) {n : ℕ} (out′ : List ℕ) → meaning a ≡ permitted m (length s) (length out) → meaning a ≡ bytes n → out′ ≡ pasted out 0 (copy (turning (h .order)) 0 s 0 (fileHeader (length s)) ++ copy (turning (h .order)) 0 s 32 (walked s h x)) → Turns s out out′ a
+    pub turns-room : (a : Written) {n : ℕ} (out′ : List ℕ) → meaning a ≡ permitted m (length s) (length out) → meaning a ≡ bytes n → out′ ≡ pasted out 0 (copy (turning (h .order) (h .heading .label)) 0 s 0 (fileHeader (length s)) ++ copy (turning (h .order) (h .heading .label)) 0 s 32 (walked s h x)) → Turns s out out′ a
     turns-room a out′ e r w = wrote (answerOf s (length out)) (T.turned s) out out′ a (answers e) r (w ∙ ap (pasted out 0) sent)

@@ -58,9 +58,9 @@ pub record SentUpTo (w : Way) (b : ℕ) (s : List ℕ) (known : Known) (out out�
   pub sent : Copying (anew w) (Chain (w .from) b s known) out out₁ k k₁ p all
 
 module _ {w : Way} {b : ℕ} {s out : List ℕ} {k : ℕ} where
-  pub sent-none : (held : Option R.Held) (h : R.Head) (x : R.Placed) (e : ℕ) → span h ≡ 16 + length s → see (w .from) b s b (recordingBody held h) ≡ goes x e → SentUpTo w b s (knownOf x) out out k k 0 (copy w b s b (recordingBody held h))
+  pub sent-none : (held : Option R.Held) (h : R.Head) (x : R.Placed) (e : ℕ) → span h ≡ 16 + length s → see (w .from) b s b (recordingBody (w .label) held h) ≡ goes x e → SentUpTo w b s (knownOf x) out out k k 0 (copy w b s b (recordingBody (w .label) held h))
   unfolding said
-  sent-none held h x e n g = record { sent = copying-none (said (w .from) b s b (recordingBody held h)) (body-chain (w .from) b s held h n g) }
+  sent-none held h x e n g = record { sent = copying-none (said (w .from) b s b (recordingBody (w .label) held h)) (body-chain (w .from) (w .label) b s held h n g) }
 
   module _ {known : Known} {out₁ : List ℕ} {k₁ p : ℕ} {all : List ℕ} (out₂ : List ℕ) (g : SentUpTo w b s known out out₁ k k₁ p all) where
     -- one more, with the head h and up to q
@@ -74,22 +74,22 @@ module _ {w : Way} {b : ℕ} {s out : List ℕ} {k : ℕ} where
         rw (g .sent .is, closed-bytes w b s p fit c) (holds-join out out₁ out₂ k k₁ k₁ (g .sent .done) _ (g .sent .wrote) (last (closed-inside (w .from) b s p fit c) b (length s - p)))
 
 -- the bytes of a recording that the walk accepted: those of its head, and of its body
-begun-bytes : (w : Way) (s : List ℕ) (p : ℕ) (held : Option R.Held) (i : ℕ) {x : R.Placed} {e : ℕ} (v : Begun (w .from) s p held i x e) →
-    copy w 0 s p (recording held (length s - p) i) ≡ copy w 0 s p (head (length s - p)) ++ copy w 0 s (p + 16) (recordingBody held (v .opens .top))
+begun-bytes : (w : Way) (s : List ℕ) (p : ℕ) (held : Option R.Held) (i : ℕ) {x : R.Placed} {e : ℕ} (v : Begun (w .from) (w .label) s p held i x e) →
+    copy w 0 s p (recording (w .label) held (length s - p) i) ≡ copy w 0 s p (head (length s - p)) ++ copy w 0 s (p + 16) (recordingBody (w .label) held (v .opens .top))
 unfolding recording
 begun-bytes w s p held i v =
     let room : ℕ = length s - p in
     let h = v .opens .top in
-    let k : R.Head → Walk R.Placed = λ h. coded h 10 >> (admit room 128 (leb 16) (eqb i) h >> recordingBody held h) in
+    let k : R.Head → Walk R.Placed = λ h. coded h 10 >> (admit room 128 (leb 16) (eqb i) h >> recordingBody (w .label) held h) in
     copy-bind w 0 s p (head room) k (v .opens .first)
     ∙ ap (λ (q : List ℕ). copy w 0 s p (head room) ++ q)
-    (copy-require w 0 s (p + 16) (eqb (h .code) 10) 9 12 (admit room 128 (leb 16) (eqb i) h >> recordingBody held h) ∙ copy-admit w 0 s (p + 16) room 128 (leb 16) (eqb i) h (recordingBody held h))
+    (copy-require w 0 s (p + 16) (eqb (h .code) 10) 9 12 (admit room 128 (leb 16) (eqb i) h >> recordingBody (w .label) held h) ∙ copy-admit w 0 s (p + 16) room 128 (leb 16) (eqb i) h (recordingBody (w .label) held h))
 
 -- the recording from byte p of the file up to q
 module _ (w : Way) (s : List ℕ) (p q : ℕ) where
   -- one that ends before its body begins was not accepted
-  pub recording-short : (held : Option R.Held) (i : ℕ) {x : R.Placed} → q < p + 16 → see (w .from) 0 s p (recording held (length s - p) i) ≡ goes x q → ⊥
-  recording-short held i l g = let v = begun (w .from) s p held i g in omega (arith, v .least, v .ends)
+  pub recording-short : (held : Option R.Held) (i : ℕ) {x : R.Placed} → q < p + 16 → see (w .from) 0 s p (recording (w .label) held (length s - p) i) ≡ goes x q → ⊥
+  recording-short held i l g = let v = begun (w .from) (w .label) s p held i g in omega (arith, v .least, v .ends)
 
   abbrev within : List ℕ
   within = take (q - (p + 16)) (drop (p + 16) s)
@@ -97,19 +97,19 @@ module _ (w : Way) (s : List ℕ) (p q : ℕ) where
   -- the code wrote its head, and its body as a part of the file
   pub recording-copied : (at count : ℕ) (out out₁ out₂ : List ℕ) (k : ℕ) → length s ≤ length out →
       ((b room : ℕ) → Pastes out out₁ p k (copy w b s (b + p) (head room))) →
-      ((held : Option R.Held) (h : R.Head) (x : R.Placed) (e : ℕ) → span h ≡ 16 + length within → ChannelsStand (w .from) s (subsAt at count) (x .recording .channels) → see (w .from) (p + 16) within (p + 16) (recordingBody held h) ≡ goes x e → HoldsFrom out₁ out₂ k (copy w (p + 16) within (p + 16) (recordingBody held h))) →
-      (held : Option R.Held) (i : ℕ) (x : R.Placed) → see (w .from) 0 s p (recording held (length s - p) i) ≡ goes x q → ChannelsStand (w .from) s (subsAt at count) (x .recording .channels) → out₂ ≡ pasted out p (copy w 0 s p (recording held (length s - p) i))
+      ((held : Option R.Held) (h : R.Head) (x : R.Placed) (e : ℕ) → span h ≡ 16 + length within → ChannelsStand (w .from) s (subsAt at count) (x .recording .channels) → see (w .from) (p + 16) within (p + 16) (recordingBody (w .label) held h) ≡ goes x e → HoldsFrom out₁ out₂ k (copy w (p + 16) within (p + 16) (recordingBody (w .label) held h))) →
+      (held : Option R.Held) (i : ℕ) (x : R.Placed) → see (w .from) 0 s p (recording (w .label) held (length s - p) i) ≡ goes x q → ChannelsStand (w .from) s (subsAt at count) (x .recording .channels) → out₂ ≡ pasted out p (copy w 0 s p (recording (w .label) held (length s - p) i))
   recording-copied at count out out₁ out₂ k fit first later held i x g stand =
-      let v = begun (w .from) s p held i g in
-      let u : Walk R.Placed = recordingBody held (v .opens .top) in
+      let v = begun (w .from) (w .label) s p held i g in
+      let u : Walk R.Placed = recordingBody (w .label) held (v .opens .top) in
       let xs : List ℕ = copy w 0 s p (head (length s - p)) in
       let l : 16 + length within ≡ q - p = body-length p q s (omega (arith, v .ends, v .least)) (v .inside) in
       let z : p + 16 + (span (v .opens .top) - 16) ≡ p + 16 + (q - (p + 16)) = omega (arith, v .ends, v .least) in
-      let stays = rw z at (stays-recordingBody held (v .opens .top) (p + 16) (v .least)) in
+      let stays = rw z at (stays-recordingBody (w .label) held (v .opens .top) (p + 16) (v .least)) in
       let f : p + 16 + (q - (p + 16)) ≤ length s = omega (arith, v .ends, v .least, v .inside) in
       let same : copy w (p + 16) within (p + 16) u ≡ copy w 0 s (p + 16) u = copy-part w 0 (p + 16) (p + 16) (q - (p + 16)) s (omega arith) f u (p + 16) _ (omega arith) stays (v .opens .given .rest) in
       let body = later held (v .opens .top) x q (omega (arith, l, v .ends)) stand (see-part (w .from) 0 (p + 16) (p + 16) (q - (p + 16)) s (omega arith) f u (p + 16) _ (omega arith) stays ∙ v .opens .given .rest) in
-      let n = length-copy w 0 s (p + (length s - p)) (omega (arith, v .ends, v .inside)) (recording held (length s - p) i) p _ (omega arith) (stays-recording held i p (length s - p)) g in
+      let n = length-copy w 0 s (p + (length s - p)) (omega (arith, v .ends, v .inside)) (recording (w .label) held (length s - p) i) p _ (omega arith) (stays-recording (w .label) held i p (length s - p)) g in
       let m : p + length (xs ++ copy w (p + 16) within (p + 16) u) ≤ length out = subst (λ (y : List ℕ). p + length y ≤ length out) (begun-bytes w s p held i v ∙ ap (λ (y : List ℕ). xs ++ y) (sym same)) (omega (arith, n, v .inside)) in
       holds-join out out₁ out₂ p k k xs (copy w (p + 16) within (p + 16) u) (rw zero-add at (first 0 (length s - p))) body m ∙ ap (pasted out p) (ap (λ (y : List ℕ). xs ++ y) same ∙ sym (begun-bytes w s p held i v))
 
@@ -137,21 +137,21 @@ module _ (w : Way) where
 
   module _ {s : List ℕ} {p : ℕ} where
     -- one recording more: the code has its places q, and wrote it where it stands in the file
-    pub sent-next : {i : ℕ} {before : Before} {held : Option R.Held} {q : Places} {x : R.Placed} → p ≤ length s → Next (w .from) s p i before held q x → {out₀ out : List ℕ} (l : Said) (out′ : List ℕ) →
-        ((held : Option R.Held) (j : ℕ) (y : R.Placed) → see (w .from) 0 s p (recording held (length s - p) j) ≡ goes y (q .end) → ChannelsStand (w .from) s (subsAt (q .channels) (q .count)) (y .recording .channels) → out′ ≡ pasted out p (copy w 0 s p (recording held (length s - p) j))) →
-        AfterHeader out₀ out p (sentOf l) → AfterHeader out₀ out′ (q .end) (sentOf (l then said (w .from) 0 s p (recording held (length s - p) (i + 1))))
+    pub sent-next : {i : ℕ} {before : Before} {held : Option R.Held} {q : Places} {x : R.Placed} → p ≤ length s → Next (w .from) (w .label) s p i before held q x → {out₀ out : List ℕ} (l : Said) (out′ : List ℕ) →
+        ((held : Option R.Held) (j : ℕ) (y : R.Placed) → see (w .from) 0 s p (recording (w .label) held (length s - p) j) ≡ goes y (q .end) → ChannelsStand (w .from) s (subsAt (q .channels) (q .count)) (y .recording .channels) → out′ ≡ pasted out p (copy w 0 s p (recording (w .label) held (length s - p) j))) →
+        AfterHeader out₀ out p (sentOf l) → AfterHeader out₀ out′ (q .end) (sentOf (l then said (w .from) 0 s p (recording (w .label) held (length s - p) (i + 1))))
     unfolding said _then_
     sent-next {i} {held = held} {q} {x} fit n l out′ copied h =
-        let m = length-copy w 0 s (p + (length s - p)) (omega arith) (recording held (length s - p) (i + 1)) p _ (omega arith) (stays-recording held (i + 1) p (length s - p)) (n .is) in
+        let m = length-copy w 0 s (p + (length s - p)) (omega arith) (recording (w .label) held (length s - p) (i + 1)) p _ (omega arith) (stays-recording (w .label) held (i + 1) p (length s - p)) (n .is) in
         rw (written-append (w .keep) (w .to) (l .events)) (after-more h out′ (q .end) _ (λ _. (sym m, copied held (i + 1) x (n .is) (n .stands))))
 
   -- all of them are as long as they were
-  pub sent-length : (s : List ℕ) (count : ℕ) {ps : List R.Placed} {e : ℕ} → 32 ≤ length s → ReadAs (w .from) s count ps e → 32 + length (sentOf (said (w .from) 0 s 32 (allOf count s))) ≤ length s
+  pub sent-length : (s : List ℕ) (count : ℕ) {ps : List R.Placed} {e : ℕ} → 32 ≤ length s → ReadAs (w .from) (w .label) s count ps e → 32 + length (sentOf (said (w .from) 0 s 32 (allOf (w .label) count s))) ≤ length s
   unfolding said
   sent-length s count f g =
-      let stays = stays-recordings count none (length s - 32) 1 (length s) 32 (omega arith) in
-      let m = stays-goes (w .from) 0 s (length s) (omega arith) (allOf count s) 32 _ (omega arith) stays g in
-      omega (arith, length-copy w 0 s (length s) (omega arith) (allOf count s) 32 _ (omega arith) stays g, m)
+      let stays = stays-recordings (w .label) count none (length s - 32) 1 (length s) 32 (omega arith) in
+      let m = stays-goes (w .from) 0 s (length s) (omega arith) (allOf (w .label) count s) 32 _ (omega arith) stays g in
+      omega (arith, length-copy w 0 s (length s) (omega arith) (allOf (w .label) count s) 32 _ (omega arith) stays g, m)
 
 -- the file header: texts, and the letter
 bytes-split : (n m k : ℕ) (s : List ℕ) → bytesAt (n + m) s k ≡ bytesAt n s k ++ bytesAt m s (k + n)

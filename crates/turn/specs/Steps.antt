@@ -13,6 +13,7 @@ use Rattle.walk.specs.See.{goes, see}
 use Rattle.rules.specs.Rules as R
 use Rattle.rules.specs.declared.Channels.{Channels}
 use Rattle.rules.specs.declared.Head.{Head}
+use Rattle.rules.specs.declared.Label.{Label}
 use Rattle.records.specs.Says.{headOf, subsAt, ChannelsIn, ChannelsStand}
 use Rattle.descriptions.specs.declared.Places.{Places}
 use Rattle.judge.specs.Recorded.{HeaderIn}
@@ -24,14 +25,14 @@ use Rattle.bodies.specs.declared.Widths.{Widths}
 use Rattle.transcripts.specs.Transcript.{Copied}
 
 -- from an order to the other, and every byte that is not judged as it stands
-abbrev pub turning : Order → Way
-turning o = record { from = o; to = other o; keep = true }
+abbrev pub turning : Order → Label → Way
+turning o label = record { from = o; label = label; to = other o; keep = true }
 
 -- what the steps ask of frames that go from s into d
 
 -- the frame s, which has so many bytes before its padding
 pub record FrameFrom (o : Order) (file : List ℕ) (cs : Channels) (widths : Widths) (t filled : ℕ) (s d : List ℕ) : Type 0 where
-  -- the records 125 that hold for it are in the file
+  -- the subs that hold for it are in the file
   pub channels : cs .subs + 256 * cs .count ≤ length file
   -- these are the widths that they give
   pub wide : widths ≡ widthsIn o file (cs .subs) (cs .count)
@@ -44,7 +45,7 @@ pub record FrameFrom (o : Order) (file : List ℕ) (cs : Channels) (widths : Wid
 
 -- the body s of a 140 of so many frames of this size
 pub record FramesSized (file : List ℕ) (cs : Channels) (t filled size count : ℕ) (s d : List ℕ) : Type 0 where
-  -- the records 125 that hold for it are in the file
+  -- the subs that hold for it are in the file
   pub channels : cs .subs + 256 * cs .count ≤ length file
   -- the longest frame
   pub seconds : t ≤ 3600
@@ -85,7 +86,7 @@ pub record RecordingFrom (file : List ℕ) (p : ℕ) (q : Places) (out : List �
   pub short : Addressable (length file)
   -- the buffer has room for the file
   pub room : length file ≤ length out
-  -- the records 125 that hold for it are in the file
+  -- the subs that hold for it are in the file
   pub channels : ChannelsIn (length file) (subsAt (q .channels) (q .count))
 
 -- the file
@@ -123,4 +124,4 @@ LastSent w s p out out′ k = p + 16 ≤ length s → (b room : ℕ) → HoldsFr
 abbrev pub BodySent : Way → List ℕ → Channels → List ℕ → ℕ → List ℕ → List ℕ → ℕ → Type 0
 BodySent w file cs s b out out′ k =
     (held : Option R.Held) (h : R.Head) (x : R.Placed) (e : ℕ) → R.span h ≡ 16 + length s → ChannelsStand (w .from) file cs (x .recording .channels) →
-    see (w .from) b s b (R.recordingBody held h) ≡ goes x e → HoldsFrom out out′ k (copy w b s b (R.recordingBody held h))
+    see (w .from) b s b (R.recordingBody (w .label) held h) ≡ goes x e → HoldsFrom out out′ k (copy w b s b (R.recordingBody (w .label) held h))

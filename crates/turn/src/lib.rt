@@ -20,6 +20,8 @@ pub fn turn(file: &[u8], out: &mut [u8]) -> Written
     let Written::Bytes(_) = leave else {
         return leave;
     };
-    recordings::file_turned(order, file, h.count, out);
+    let heading = h.heading;
+    let label = heading.label;
+    recordings::file_turned(order, label, file, h.count, out);
     leave
 }

@@ -26,6 +26,7 @@ use rules::Delimiter;
 use rules::FileHeader;
 use rules::Frames;
 use rules::Head;
+use rules::Label;
 use words::Order;
 
 // The other order.
@@ -49,7 +50,7 @@ fn header(w: Way, s: &[u8], d: &mut [u8])
     d[FileHeader::ORDER] = letter(to);
 }
 
-// The record with the head h that stands in a recording, up to byte `end` of its body s, with the records 125 that hold for it.
+// The record with the head h that stands in a recording, up to byte `end` of its body s, with the subs that hold for it.
 fn child(
     w: Way,
     file: &[u8],
@@ -82,7 +83,7 @@ fn last(w: Way, s: &[u8], p: usize, out: &mut [u8], k: usize)
     transcripts::text(&s[rest..], out, at);
 }
 
-// A recording's body, which stands at `base`, with the records 125 that hold for it.
+// A recording's body, which stands at `base`, with the subs that hold for it.
 fn body(w: Way, file: &[u8], cs: Channels, s: &[u8], base: usize, out: &mut [u8], k: usize)
     requires { ⌜ BodyFrom (now file) cs (now s) base (now out) k ⌝ }
     ensures { λ _. ⌜ BodySent w (now (file .entry)) cs (now (s .entry)) base (now (out .entry)) (now (out .exit)) k ⌝ }
@@ -105,9 +106,9 @@ fn body(w: Way, file: &[u8], cs: Channels, s: &[u8], base: usize, out: &mut [u8]
 fn recording(w: Way, file: &[u8], p: usize, q: Places, out: &mut [u8])
     requires { ⌜ RecordingFrom (now file) p q (now out) ⌝ }
     ensures { λ _. ⌜ ((held : Option R.Held) (i : ℕ) (x : R.Placed) →
-        see (w .from) 0 (now (file .entry)) p (R.recording held (length (now (file .entry)) - p) i) ≡ goes x (q .end) →
+        see (w .from) 0 (now (file .entry)) p (R.recording (w .label) held (length (now (file .entry)) - p) i) ≡ goes x (q .end) →
         ChannelsStand (w .from) (now (file .entry)) (subsAt (q .channels) (q .count)) (x .recording .channels) →
-        now (out .exit) ≡ pasted (now (out .entry)) p (copy w 0 (now (file .entry)) p (R.recording held (length (now (file .entry)) - p) i))) ⌝ }
+        now (out .exit) ≡ pasted (now (out .entry)) p (copy w 0 (now (file .entry)) p (R.recording (w .label) held (length (now (file .entry)) - p) i))) ⌝ }
 {
     let base = p + Head::LENGTH;
     let end = q.end;
@@ -123,17 +124,18 @@ fn recording(w: Way, file: &[u8], p: usize, q: Places, out: &mut [u8])
 }
 
 // A file with so many recordings.
-pub fn file_turned(o: Order, file: &[u8], count: u32, out: &mut [u8])
+pub fn file_turned(o: Order, label: Label, file: &[u8], count: u32, out: &mut [u8])
     requires { ⌜ FileFrom (now file) (now out) ⌝ }
     ensures { λ _. ⌜ ((f : R.FileHeader) (ps : List R.Placed) (e : ℕ) →
         see o 0 (now (file .entry)) 0 (R.fileHeader (length (now (file .entry)))) ≡ goes f 32 →
-        see o 0 (now (file .entry)) 32 (R.recordings count none (length (now (file .entry)) - 32) 1) ≡ goes ps e →
+        see o 0 (now (file .entry)) 32 (R.recordings label count none (length (now (file .entry)) - 32) 1) ≡ goes ps e →
         now (out .exit) ≡ pasted (now (out .entry)) 0
-        (copy (turning o) 0 (now (file .entry)) 0 (R.fileHeader (length (now (file .entry)))) ++
-        copy (turning o) 0 (now (file .entry)) 32 (R.recordings count none (length (now (file .entry)) - 32) 1))) ⌝ }
+        (copy (turning o label) 0 (now (file .entry)) 0 (R.fileHeader (length (now (file .entry)))) ++
+        copy (turning o label) 0 (now (file .entry)) 32 (R.recordings label count none (length (now (file .entry)) - 32) 1))) ⌝ }
 {
     let w = Way {
         from: o,
+        label,
         to: other(o),
         keep: true,
     };
@@ -142,7 +144,7 @@ pub fn file_turned(o: Order, file: &[u8], count: u32, out: &mut [u8])
     let mut before = Before::Nothing;
     let mut i: u32 = 0;
     while i < count {
-        let step = recording_again(o, file, p, before);
+        let step = recording_again(o, label, file, p, before);
         let Recorded::On(q) = step else {
             return;
         };

@@ -5,7 +5,7 @@ mod lent;
 
 pub use lent::{marked, Answer, Lent};
 
-use psg::{Calibration, Channel, FloatBits, Heading, Item, Text};
+use psg::{Calibration, Channel, FloatBits, Heading, Item, Montage, Text};
 use second::lines::joined;
 use second::refusal::Refusal;
 
@@ -56,6 +56,8 @@ fn question(file: &[u8], op: &str, args: &[u64]) -> Option<Result<String, psg::R
         ("header", &[]) => psg::header(file).map(header),
         ("facts", &[r]) => psg::facts(file, r).map(|f| joined(&[f.channels, f.frames, f.seconds])),
         ("channel", &[r, c]) => psg::channel(file, r, c).map(channel),
+        ("montage_count", &[r]) => psg::montage_count(file, r).map(|n| n.to_string()),
+        ("montage", &[r, c]) => psg::montage(file, r, c).map(montage),
         ("patient_item", &[r, i]) => psg::patient_item(file, r, i).map(item),
         ("event_item", &[r, i]) => psg::event_item(file, r, i).map(item),
         ("clock", &[r, f]) => psg::clock(file, r, f).map(|c| joined(&[c.hour, c.minute, c.second])),
@@ -99,17 +101,28 @@ fn sample(sample: psg::Sample) -> String {
 }
 
 fn channel(c: Channel) -> String {
+    descriptor(&c, &[])
+}
+
+/// G1 and G2 stand before the texts.
+fn montage(m: Montage) -> String {
+    descriptor(&m.channel, &[m.g1, m.g2])
+}
+
+/// A channel's fields, with these numbers before its texts.
+fn descriptor(c: &Channel, inputs: &[i32]) -> String {
     let first = joined(&[c.number, c.flags, c.kind, c.format, c.rate]);
     let calibration = match c.calibration {
         Calibration::Numbers(numbers) => format!("0 {}", joined(&numbers)),
         Calibration::Floats(floats) => format!("1 {}", joined(&floats.map(|float| float.0))),
     };
-    let last = joined(&[
+    let others = [
         c.calibration_frequency,
         c.low_cut,
         c.high_cut,
         c.sensitivity,
-    ]);
+    ];
+    let last = joined(&[&others, inputs].concat());
     let texts = joined(&[c.label, c.unit, c.comment].map(text));
     format!("{first} {calibration} {last} {texts}")
 }

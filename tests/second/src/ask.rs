@@ -1,6 +1,6 @@
 //! Answers to the questions of a corpus, in its form.
 
-use crate::header::{decimal, Form, VERSION};
+use crate::header::{decimal, VERSION};
 use crate::judge::judge;
 use crate::lines::{answer_line, joined, listed, written, Desk, Question};
 use crate::model::{Calibration, Item, Model, Sample, Span, Sub};
@@ -27,12 +27,8 @@ pub fn answer(file: &[u8], op: &str, args: &[u64]) -> Option<Result<String, Refu
         ("facts", &[r]) => questions::facts(file, r)
             .map(|facts| joined(&[facts.channels, facts.frames, facts.seconds])),
         ("channel", &[r, c]) => questions::channel(file, r, c).map(|c| sub_values(&c)),
-        ("montage_count", &[r]) if Form::Electrodes.is_read() => {
-            questions::montage_count(file, r).map(|n| n.to_string())
-        }
-        ("montage", &[r, c]) if Form::Electrodes.is_read() => {
-            questions::montage(file, r, c).map(|c| sub_values(&c))
-        }
+        ("montage_count", &[r]) => questions::montage_count(file, r).map(|n| n.to_string()),
+        ("montage", &[r, c]) => questions::montage(file, r, c).map(|c| sub_values(&c)),
         ("patient_item", &[r, i]) => questions::patient_item(file, r, i).map(|i| item_values(&i)),
         ("event_item", &[r, i]) => questions::event_item(file, r, i).map(|i| item_values(&i)),
         ("clock", &[r, f]) => questions::clock(file, r, f).map(|clock| joined(&clock)),

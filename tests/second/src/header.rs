@@ -67,20 +67,11 @@ pub enum Form {
 }
 
 impl Form {
-    /// The forms that are read. All that depends on the feature asks here.
-    pub const READ: &'static [Form] = if cfg!(feature = "electrodes") {
-        &[Form::Channels, Form::Electrodes]
-    } else {
-        &[Form::Channels]
-    };
-
-    pub fn is_read(self) -> bool {
-        Form::READ.contains(&self)
-    }
+    pub const ALL: [Form; 2] = [Form::Channels, Form::Electrodes];
 
     pub fn from_field(field: &[u8]) -> Option<Form> {
-        let mut read = Form::READ.iter().copied();
-        read.find(|form| form.field() == field)
+        let mut all = Form::ALL.into_iter();
+        all.find(|form| form.field() == field)
     }
 
     pub fn field(self) -> &'static [u8; FORM_LENGTH] {
@@ -133,17 +124,18 @@ impl Form {
     }
 }
 
-/// What may differ from file to file, beside the form; the version is fixed.
+/// What may differ from file to file; the version is fixed.
 #[derive(Clone, Copy, Debug, PartialEq, Eq)]
 pub struct Header {
     pub spelling: Spelling,
+    pub form: Form,
     pub order: Order,
     pub script: u8,
     pub recordings: usize,
 }
 
 /// Judges the header; each refusal stands at its field's first byte.
-pub fn judge(file: &[u8]) -> Result<(Form, Header), Refusal> {
+pub fn judge(file: &[u8]) -> Result<Header, Refusal> {
     require(file.len() >= LENGTH, refusal::FILE_SHORT, 0)?;
     let identifier = &file[IDENTIFIER_AT..IDENTIFIER_AT + IDENTIFIER_LENGTH];
     let spelling = Spelling::from_identifier(identifier)
@@ -159,26 +151,21 @@ pub fn judge(file: &[u8]) -> Result<(Form, Header), Refusal> {
     let recordings = recordings(digits).ok_or(Refusal::new(refusal::RECORDINGS, RECORDINGS_AT))?;
     let spaces = &file[SPACES_AT..LENGTH];
     require(all_spaces(spaces), refusal::SPACES, SPACES_AT)?;
-    let header = Header {
+    Ok(Header {
         spelling,
+        form,
         order,
         script,
         recordings,
-    };
-    Ok((form, header))
-}
-
-/// The canonical header of the channel form.
-pub fn canonical(header: &Header) -> [u8; LENGTH] {
-    canonical_in(Form::Channels, header)
+    })
 }
 
 /// The canonical header: spelling and form are kept, no leading zeros.
-pub fn canonical_in(form: Form, header: &Header) -> [u8; LENGTH] {
+pub fn canonical(header: &Header) -> [u8; LENGTH] {
     let mut out = [b' '; LENGTH];
     out[IDENTIFIER_AT..VERSION_AT].copy_from_slice(header.spelling.identifier());
     out[VERSION_AT..FORM_AT].copy_from_slice(VERSION);
-    out[FORM_AT..ORDER_AT].copy_from_slice(form.field());
+    out[FORM_AT..ORDER_AT].copy_from_slice(header.form.field());
     out[ORDER_AT] = header.order.letter();
     out[SCRIPT_AT] = header.script;
     let digits = header.recordings.to_string();
@@ -232,22 +219,38 @@ mod tests {
 
     #[test]
     fn a_canonical_header_is_accepted() {
-        let written: [(Spelling, &[u8; LENGTH]); 2] = [
-            (Spelling::Spg, b"JSSR-SPG00030000BU12            "),
-            (Spelling::Psg, b"JSSR-PSG00030000BU12            "),
+        let written: [(Spelling, Form, &[u8; LENGTH]); 4] = [
+            (
+                Spelling::Spg,
+                Form::Channels,
+                b"JSSR-SPG00030000BU12            ",
+            ),
+            (
+                Spelling::Psg,
+                Form::Channels,
+                b"JSSR-PSG00030000BU12            ",
+            ),
+            (
+                Spelling::Spg,
+                Form::Electrodes,
+                b"JSSR-SPG00030001BU12            ",
+            ),
+            (
+                Spelling::Psg,
+                Form::Electrodes,
+                b"JSSR-PSG00030001BU12            ",
+            ),
         ];
-        for (spelling, expected) in written {
+        for (spelling, form, expected) in written {
             let header = Header {
                 spelling,
+                form,
                 order: Order::Big,
                 script: b'U',
                 recordings: 12,
             };
             assert_eq!(&canonical(&header), expected);
-            for form in Form::READ {
-                let bytes = canonical_in(*form, &header);
-                assert_eq!(judge(&bytes), Ok((*form, header)));
-            }
+            assert_eq!(judge(expected), Ok(header));
         }
     }
 
@@ -277,6 +280,7 @@ mod tests {
     fn any_other_form_is_4() {
         let header = Header {
             spelling: Spelling::Spg,
+            form: Form::Electrodes,
             order: Order::Little,
             script: b'E',
             recordings: 1,
@@ -289,7 +293,5 @@ mod tests {
             let refused = Err(Refusal::new(refusal::FORM, FORM_AT));
             assert_eq!(judge(&bytes), refused, "{field:?}");
         }
-        let electrodes = canonical_in(Form::Electrodes, &header);
-        assert_eq!(judge(&electrodes).is_ok(), Form::Electrodes.is_read());
     }
 }

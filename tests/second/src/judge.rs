@@ -17,10 +17,10 @@ use std::rc::Rc;
 
 /// Judges the file: its whole reading, or the first refusal.
 pub fn judge(file: &[u8]) -> Result<Model, Refusal> {
-    let (form, header) = header::judge(file)?;
+    let header = header::judge(file)?;
     let mut walk = Walk {
         file,
-        form,
+        form: header.form,
         order: header.order,
         records: Vec::new(),
     };
@@ -34,7 +34,7 @@ pub fn judge(file: &[u8]) -> Result<Model, Refusal> {
     require(at == file.len(), refusal::BYTES_AFTER, at)?;
     Ok(Model {
         spelling: header.spelling,
-        form,
+        form: header.form,
         order: header.order,
         script: header.script,
         recordings,

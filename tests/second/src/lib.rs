@@ -1,7 +1,6 @@
-//! A second, independent reader of the JSSR PSG common format, version 000300
-//! (signal-channel form, frame data, one file), written from document 01 and
-//! requests 2 and 3 of document 02, and used to test another implementation. With
-//! the feature `electrodes` it reads the electrode form of request 1 too.
+//! A second, independent reader of the JSSR PSG common format, version 000300 (both
+//! forms, frame data, one file), written from document 01 and requests 1, 2 and 3 of
+//! document 02, and used to test another implementation.
 
 pub mod ask;
 pub mod bytes;

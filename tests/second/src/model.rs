@@ -44,6 +44,7 @@ impl Model {
     pub fn header(&self) -> Header {
         Header {
             spelling: self.spelling,
+            form: self.form,
             order: self.order,
             script: self.script,
             recordings: self.recordings.len(),

@@ -11,7 +11,7 @@ use crate::refusal::{self, Refusal};
 
 const OUTSIDE: Refusal = Refusal::new(refusal::QUESTION, 0);
 
-/// The header's values, beside the form. Nothing is outside its range.
+/// The header's values. Nothing is outside its range.
 pub fn header(file: &[u8]) -> Result<Header, Refusal> {
     Ok(judge(file)?.header())
 }

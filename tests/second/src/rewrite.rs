@@ -96,7 +96,7 @@ impl Writer<'_> {
             order: self.order,
             ..model.header()
         };
-        self.out.extend(header::canonical_in(model.form, &header));
+        self.out.extend(header::canonical(&header));
         for recording in &model.recordings {
             self.recording(recording);
         }

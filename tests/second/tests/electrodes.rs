@@ -1,8 +1,6 @@
 //! The electrode form (document 02, request 1): the smallest file of electrodes with a montage, every refusal that is
 //! new, and files of several recordings.
 
-#![cfg(feature = "electrodes")]
-
 mod common;
 
 use common::{of_electrodes, Pen, PENS};

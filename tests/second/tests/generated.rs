@@ -2,7 +2,7 @@
 
 use second::bytes::Order;
 use second::generate::{self, Field, Sheet};
-use second::header::{Form, Header, Spelling, IDENTIFIER_LENGTH};
+use second::header::{Header, Spelling, IDENTIFIER_LENGTH};
 use second::judge::judge;
 use second::model::{Item, Model, Recording, Span, Sub};
 use second::questions::{self, sample_at};
@@ -291,13 +291,10 @@ fn named_places() -> Vec<String> {
         Kind::Delimiter,
     ];
     const LISTS: &[Kind] = &[Kind::Channels, Kind::Electrodes, Kind::Montage];
-    // The lists of the forms that are read, and their subs.
-    let in_a_form = |kind: &Kind| Form::READ.iter().any(|form| form.parts().contains(kind));
-    let lists: Vec<Kind> = LISTS.iter().copied().filter(in_a_form).collect();
-    let subs = lists.iter().filter_map(|list| list.subs());
+    let subs = LISTS.iter().filter_map(|list| list.subs());
     let subs: Vec<Kind> = subs.map(|subs| subs.kind).collect();
     let mut all = Vec::new();
-    for kind in [SHARED, &lists[..], &subs[..]].concat() {
+    for kind in [SHARED, LISTS, &subs[..]].concat() {
         all.push(at_field(9, Field::Code(kind)));
         all.push(at_field(10, Field::Size(kind)));
         all.push(at_field(11, Field::Multiplier(kind)));
@@ -322,7 +319,7 @@ fn named_places() -> Vec<String> {
         Field::ClockSecond,
     ];
     all.extend(values.map(|field| at_field(13, field)));
-    for kind in &lists {
+    for kind in LISTS {
         all.push(at_field(13, Field::SubCount(*kind)));
         all.push(at_field(13, Field::SubSize(*kind)));
         all.push(at_field(14, Field::SubCount(*kind)));
@@ -332,10 +329,8 @@ fn named_places() -> Vec<String> {
         let fields = [Field::Type(kind), Field::Format(kind), Field::Rate(kind)];
         all.extend(fields.map(|field| at_field(13, field)));
     }
-    if Form::Electrodes.is_read() {
-        let fields = [Field::ElectrodeCode, Field::Lead1, Field::Lead2];
-        all.extend(fields.map(|field| at_field(13, field)));
-    }
+    let electrodes = [Field::ElectrodeCode, Field::Lead1, Field::Lead2];
+    all.extend(electrodes.map(|field| at_field(13, field)));
     for kind in [Kind::Patient, Kind::Events] {
         all.push(at_field(10, Field::ItemSize(kind)));
         all.push(at_field(13, Field::ItemCode(kind)));

@@ -1,4 +1,4 @@
--- `bodies::channels_body` meets its contract: after i turns i channels are written behind the front.
+-- `bodies::channels_body` meets its contract: after i turns i subs are written behind the front.
 -- Assumes nothing.
 use mathlib.Core.Path.{sym, _∙_}
 use Prim.Native.Nat.{_+_, _-_}
@@ -10,10 +10,10 @@ use Rattle.bodies.proofs.channels_body.Statement.{statement}
 use Rattle.bodies.proofs.channels_body.Tie as tie
 
 abbrev Inv-loop : tie.InvT-loop
-Inv-loop w m s d₀ reserve at₀ i₀ d at i = SoFar w m s d at i
+Inv-loop w k m s d₀ reserve at₀ i₀ d at i = SoFar w k m s d at i
 
 abbrev μ-loop : tie.MeasureT-loop
-μ-loop w m s d₀ reserve at₀ i₀ d at i = m - i
+μ-loop w k m s d₀ reserve at₀ i₀ d at i = m - i
 
 slice-aggregate-numbers : tie.Need-slice-aggregate-numbers Inv-loop μ-loop
 slice-aggregate-numbers c = sym (length-take-le 8 (c .before .before .before .args .s .now) (omega arith))
@@ -41,19 +41,19 @@ loop-holds : tie.Need-loop-holds Inv-loop μ-loop
 loop-holds c =
     let z = start (at-d c .before .before) in
     let a = z .args in
-    channels-front (a .w) (a .m) (a .s .now) (a .d .now) _ _ (z .pre .source) (z .pre .room ∙ sym (z .pre .source)) (c .before .d2 .given .1 ∙ at-d c .d .given .1) (at-d c .before .numbers .ensures) (c .before .before .reserved .ensures)
+    channels-front (a .w) (a .k) (a .m) (a .s .now) (a .d .now) _ _ (z .pre .source) (z .pre .room ∙ sym (z .pre .source)) (c .before .d2 .given .1 ∙ at-d c .d .given .1) (at-d c .before .numbers .ensures) (c .before .before .reserved .ensures)
 
 loop-again : tie.Need-loop-again Inv-loop μ-loop
 loop-again c =
     let l = in-loop c .before .loop in
     let a = far-start c .args in
-    channels-more (a .w) (a .m) (a .s .now) (l .d) (l .at) (l .i) (l .at + 256 - l .at) (l .at + 256) _ (in-loop c .loop-test .taken) (omega arith) (omega arith) (c .before .d3 .given .1) (c .before .before .channel .ensures) (l .inv)
+    channels-more (a .w) (a .k) (a .m) (a .s .now) (l .d) (l .at) (l .i) (l .at + 256 - l .at) (l .at + 256) _ (in-loop c .loop-test .taken) (omega arith) (omega arith) (c .before .d3 .given .1) (c .before .before .channel .ensures) (l .inv)
 
 returns : tie.Need-returns Inv-loop μ-loop
 returns c =
     let l = c .before .loop in
     let a = start (at-d (c .before .before) .before .before) .args in
-    channels-all (a .w) (a .m) (a .s .now) (l .d) (l .at) (l .i) (omega arith) (l .inv)
+    channels-all (a .w) (a .k) (a .m) (a .s .now) (l .d) (l .at) (l .i) (omega arith) (l .inv)
 
 pub channels-body-spec : {M : Type 1} → statement M
 channels-body-spec =

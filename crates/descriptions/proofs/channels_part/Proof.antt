@@ -1,30 +1,43 @@
--- `descriptions::channels_part` meets its contract: another code, a 120 that is refused, or the head behind one that passed.
--- x: behind the test of the code; y: behind the 120. Assumes nothing.
-use mathlib.Core.Path.{sym, _∙_}
+-- `descriptions::channels_part` meets its contract: another code, a 120 or 320 that is refused, or the head behind one that passed.
+-- x: behind the test of the code; y: behind the 120 or 320. Assumes nothing.
+use mathlib.Core.Path.{_≡_, sym, ap, _∙_}
 use Prim.Native.Nat.{_+_}
 use native.Mathlib.Omega.{arith}
 use borrow.Author.Tests.{not-true, not-false}
 use denote.Ref.{now}
+use lib.Dec.{eqb}
 use lib.ListN.{length}
 use Rattle.rules.specs.Rules as R
 use Rattle.rules.proofs.Room.{stays-channelsRest}
+use Rattle.records.specs.Says.{groupOf}
 use Rattle.descriptions.specs.DescriptionsJudged.{Owned}
 use Rattle.descriptions.proofs.Parts.{judges-absent, judges-stop, judges-behind, follows-lacking, follows-stood}
-use Rattle.descriptions.proofs.Stands.{owned}
+use Rattle.descriptions.proofs.Stands.{group-is, owned}
 use borrow.Author.Needs.{needs}
 use Rattle.descriptions.proofs.channels_part.Statement.{statement}
 use Rattle.descriptions.proofs.channels_part.Tie as tie
 
 abbrev start : tie.After-has-code → tie.Start
-start x = x .before .before
+start x = x .before .before .before .before
+
+-- the group, as the rules have it
+abbrev group : tie.After-has-code → R.Group
+group x = R.channelsGroup (start x .args .label) (start x .args .channels)
+
+grouped : (x : tie.After-has-code) → groupOf (x .before .before .group-for .result) ≡ group x
+grouped x = ap groupOf (x .before .before .group-for .ensures) ∙ group-is (start x .args .label) (start x .args .channels)
+
+-- the test of the code
+coded : (x : tie.After-has-code) → eqb (start x .args .h .code) (group x .code) ≡ x .has-code .result
+coded x = sym (x .has-code .ensures ∙ ap (eqb (start x .args .h .code)) (x .before .group-code .ensures ∙ ap (λ (g : R.Group). g .code) (grouped x)))
 
 returns : tie.Need-returns
 returns c =
     let x : tie.After-has-code = c .before .before in
     let a = start x .args in
-    let other = sym (x .has-code .ensures) ∙ not-true (x .has-code .result) (c .before .if1 .taken) in
+    let other = coded x ∙ not-true (x .has-code .result) (c .before .if1 .taken) in
     rw (c .absent .ensures) (record {
-      told = λ b e. judges-absent (a .o) (a .base) (now (a .s)) 120 (R.channels b) (Owned (a .o) (now (a .s)) (a .h .at) (a .channels)) (a .h) (a .held) other;
+      told = judges-absent (a .o) (a .base) (now (a .s)) (group x .code) (R.channels (group x)) (Owned (a .o) (now (a .s)) (a .h .at) (a .channels)) (a .h) (a .held) other;
       follows = follows-lacking (a .base) (length (now (a .s))) (a .h) (a .held) (start x .pre .inside);
     })
 
@@ -33,9 +46,9 @@ returns-2 c =
     let y : tie.After-channels-at = c .before .before .before in
     let x : tie.After-has-code = y .before .before in
     let a = start x .args in
-    let same = sym (x .has-code .ensures) ∙ not-false (x .has-code .result) (y .before .if1 .left) in
+    let same = coded x ∙ not-false (x .has-code .result) (y .before .if1 .left) in
     simp (c .of-step .ensures, c .before .enum-told .given .1) (record {
-      told = λ b e. judges-stop (a .o) (a .base) (now (a .s)) 120 (R.channels b) (Owned (a .o) (now (a .s)) (a .h .at) (a .channels)) (a .h) (a .held) same _ (rw (c .before .enum-told .given .1) at (y .channels-at .ensures .seen b e));
+      told = judges-stop (a .o) (a .base) (now (a .s)) (group x .code) (R.channels (group x)) (Owned (a .o) (now (a .s)) (a .h .at) (a .channels)) (a .h) (a .held) same _ (rw (grouped x, c .before .enum-told .given .1) at (y .channels-at .ensures .seen));
       follows = tt;
     })
 
@@ -51,12 +64,12 @@ returns-3 c =
     let x : tie.After-has-code = y .before .before in
     let a = start x .args in
     let s = now (a .s) in
-    let same = sym (x .has-code .ensures) ∙ not-false (x .has-code .result) (y .before .if1 .left) in
+    let same = coded x ∙ not-false (x .has-code .result) (y .before .if1 .left) in
     let q = t .step .given .0 .0 in
     let w = rw (t .step .given .1) at (y .channels-at .ensures .stands) in
     record {
-      told = λ b e. judges-behind (a .o) (a .base) s 120 (R.channels b) (Owned (a .o) s (a .h .at) (a .channels)) (a .h) (a .held) same (stays-channelsRest b) q (start x .pre .inside) (w .inside)
-          (rw (t .step .given .1) at (y .channels-at .ensures .seen b e)) (owned (a .o) (a .base) s b _ _ (a .h .at) q (a .channels) e (w .inside)) (c .behind .result) (c .behind .ensures);
+      told = judges-behind (a .o) (a .base) s (group x .code) (R.channels (group x)) (Owned (a .o) s (a .h .at) (a .channels)) (a .h) (a .held) same (stays-channelsRest (group x)) q (start x .pre .inside) (w .inside)
+          (rw (grouped x, t .step .given .1) at (y .channels-at .ensures .seen)) (owned (a .o) (a .base) s (a .label) _ _ (a .h .at) q (a .channels) (w .inside)) (c .behind .result) (c .behind .ensures);
       follows = follows-stood (a .base + a .h .at) (a .h .at) q (length s) (c .behind .result) (omega arith) (c .behind .ensures .stands);
     }
 
@@ -64,6 +77,8 @@ pub channels-part-spec : {M : Type 1} → statement M
 channels-part-spec =
     tie.close
     (tie.spec
+    (λ c κs. search needs)
+    (λ c κs. search needs)
     (λ c κs. search needs)
     (λ c κs. search needs)
     returns

@@ -7,6 +7,7 @@ use native.Mathlib.Omega.{arith}
 use borrow.Author.Needs.{needs}
 use lib.ListN.{length}
 use Rattle.words.specs.declared.Order.{Order}
+use Rattle.rules.specs.declared.Label.{Label}
 use Rattle.records.specs.Says.{From}
 use Rattle.descriptions.specs.DescriptionsJudged.{HeldWithin}
 use Rattle.descriptions.specs.declared.Before.{Before}
@@ -14,17 +15,17 @@ use Rattle.judge.proofs.Recordings.{Going, going-start, going-none, goi
 use Rattle.judge.proofs.recordings_from.Statement.{statement}
 use Rattle.judge.proofs.recordings_from.Tie as tie
 
-record Read (o : Order) (file : List ℕ) (count p i : ℕ) (before : Before) : Type 0 where
+record Read (o : Order) (label : Label) (file : List ℕ) (count p i : ℕ) (before : Before) : Type 0 where
   few : i ≤ count
   place : From 32 (length file) p
   held : HeldWithin (length file) before
-  going : Going o file count p i before
+  going : Going o label file count p i before
 
 abbrev Inv-loop : tie.InvT-loop
-Inv-loop o file count p₀ i₀ before₀ p i before = Read o file count p i before
+Inv-loop o label file count p₀ i₀ before₀ p i before = Read o label file count p i before
 
 abbrev μ-loop : tie.MeasureT-loop
-μ-loop o file count p₀ i₀ before₀ p i before = count - i
+μ-loop o label file count p₀ i₀ before₀ p i before = count - i
 
 abbrev looping : tie.After-recording-at Inv-loop μ-loop → tie.At-loop Inv-loop μ-loop
 looping x = x .before .before

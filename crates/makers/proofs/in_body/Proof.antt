@@ -31,14 +31,14 @@ returns : tie.Need-returns Inv-loop μ-loop
 returns c =
     let v = unrecorded (c .enum-told .given .1) (c .before .before .record-at .ensures) in
     let w = c .before .before .before .loop .inv in
-    λ held h x e n g. sought-none (w .sought held h x e n g) (w .inside) v
+    λ label held h x e n g. sought-none (w .sought label held h x e n g) (w .inside) v
 
 returns-2 : tie.Need-returns-2 Inv-loop μ-loop
 returns-2 c =
     let y = c .before .before .before in
     let v = recorded (y .there .given .1) (y .before .before .record-at .ensures) in
     let w = y .before .before .before .loop .inv in
-    λ held h x e n g. sought-found (w .sought held h x e n g) (w .inside) v (sym (c .before .maker-code .ensures) ∙ c .if1 .taken)
+    λ label held h x e n g. sought-found (w .sought label held h x e n g) (w .inside) v (sym (c .before .maker-code .ensures) ∙ c .if1 .taken)
 
 loop-less : tie.Need-loop-less Inv-loop μ-loop
 loop-less c =
@@ -51,7 +51,7 @@ loop-again c =
     let y = c .before .before .before in
     let v = recorded (y .there .given .1) (y .before .before .record-at .ensures) in
     let w = y .before .before .before .loop .inv in
-    record { inside = v .inside; sought = λ held h x e n g. sought-next (w .sought held h x e n g) (w .inside) v (sym (c .before .maker-code .ensures) ∙ c .if1 .left) }
+    record { inside = v .inside; sought = λ label held h x e n g. sought-next (w .sought label held h x e n g) (w .inside) v (sym (c .before .maker-code .ensures) ∙ c .if1 .left) }
 
 pub in-body-spec : {M : Type 1} → statement M
 in-body-spec =

@@ -17,7 +17,7 @@ returns : tie.Need-returns
 returns c =
     let z = start c in
     let v = unrecorded (c .enum-told .given .1) (c .before .before .record-at .ensures) in
-    record { on = omega arith; inside = z .pre .low; first = λ held i x e g. recording-none v held i g }
+    record { on = omega arith; inside = z .pre .low; first = λ label held i x e g. recording-none v label held i g }
 
 -- the part behind the head, of which the body is handed on
 sub-in-body : tie.Need-sub-in-body

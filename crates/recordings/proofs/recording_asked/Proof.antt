@@ -47,14 +47,16 @@ returns-2 c =
 
 cast-recordings-to : tie.Need-cast-recordings-to
 cast-recordings-to c =
-    let l = between-in _ _ _ (sym (c .before .within .ensures) ∙ not-false (c .before .within .result) (c .if1 .left)) in
-    omega (arith, l .1, c .before .before .known-told .given)
+    let e : tie.Else1 = c .before .before in
+    let l = between-in _ _ _ (sym (e .before .within .ensures) ∙ not-false (e .before .within .result) (e .if1 .left)) in
+    omega (arith, l .1, e .before .before .known-told .given)
 
 recordings-to-requires : tie.Need-recordings-to-requires
 recordings-to-requires c κs =
-    let k : tie.After-judged = c .before .before .before in
+    let e : tie.Else1 = c .before .before in
+    let k : tie.After-judged = e .before .before .before in
     let x = accepted (k .judged .given .1) (k .before .before .judge .ensures) in
-    let l = sym (c .before .within .ensures) ∙ not-false (c .before .within .result) (c .if1 .left) in
+    let l = sym (e .before .within .ensures) ∙ not-false (e .before .within .result) (e .if1 .left) in
     record {
       file = record { header = accepted-long _ _ x; short = omega (arith, start k .good) };
       first = between-in 1 _ _ l .0;
@@ -72,22 +74,24 @@ of-recording-requires c κs = search needs
 returns-3 : tie.Need-returns-3
 returns-3 c =
     let b : tie.After-recordings-to = c .before .before .before in
-    let d = b .before .before in
+    let e : tie.Else1 = b .before .before .before in
+    let d = e .before in
     let k : tie.After-judged = d .before .before in
     let x = accepted (k .judged .given .1) (k .before .before .judge .ensures) in
-    let l = sym (d .within .ensures) ∙ not-false (d .within .result) (b .before .if1 .left) in
-    absurd (rw (c .before .enum-told2 .given .1) at (b .recordings-to .ensures _ x refl (between-in 1 _ _ l .1)))
+    let l = sym (d .within .ensures) ∙ not-false (d .within .result) (e .if1 .left) in
+    absurd (rw (c .before .enum-told2 .given .1) at (b .recordings-to .ensures _ x refl refl (between-in 1 _ _ l .1)))
 
 returns-4 : tie.Need-returns-4
 returns-4 c =
     let b : tie.After-recordings-to = c .before .before .before in
-    let d = b .before .before in
+    let e : tie.Else1 = b .before .before .before in
+    let d = e .before in
     let k = d .before .before in
     let j = k .before .before in
     let x = accepted (k .judged .given .1) (k .before .before .judge .ensures) in
-    let l = sym (d .within .ensures) ∙ not-false (d .within .result) (b .before .if1 .left) in
+    let l = sym (d .within .ensures) ∙ not-false (d .within .result) (e .if1 .left) in
     let s = bytes (now (j .before .before .args .file)) (λ i. omega (arith, j .before .shared-slice-known .given i)) in
-    asked-found _ _ x s _ refl _ _ (rw (c .before .last .given .1) at (b .recordings-to .ensures _ x refl (between-in 1 _ _ l .1)))
+    asked-found _ _ x s _ refl _ _ (rw (c .before .last .given .1) at (b .recordings-to .ensures _ x refl refl (between-in 1 _ _ l .1)))
 
 pub recording-asked-spec : {M : Type 1} → statement M
 recording-asked-spec =

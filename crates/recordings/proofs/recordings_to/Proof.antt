@@ -12,10 +12,10 @@ use Rattle.recordings.proofs.recordings_to.Statement.{statement}
 use Rattle.recordings.proofs.recordings_to.Tie as tie
 
 abbrev Inv-loop : tie.InvT-loop
-Inv-loop o file n step₀ i₀ step i = Walked o file n i step
+Inv-loop o label file n step₀ i₀ step i = Walked o label file n i step
 
 abbrev μ-loop : tie.MeasureT-loop
-μ-loop o file n step₀ i₀ step i = n - i
+μ-loop o label file n step₀ i₀ step i = n - i
 
 recording-again-requires : tie.Need-recording-again-requires Inv-loop μ-loop
 recording-again-requires c κs = record { inside = c .before .pre .file .header; short = c .before .pre .file .short; held = tt }
@@ -29,13 +29,13 @@ loop-holds c =
       within = p .first;
       start = 32;
       bounds = k .continues;
-      meets = λ h x e l.
+      meets = λ h x e d l.
           let b = bytes (now (a .file)) (λ j. omega (arith, c .before .shared-slice-known .given j)) in
-          met Before.Nothing (going-start (now (a .file)) h x (a .o) e) (omega (arith, l, p .first)) (p .file .header) (ok-of _ b h x) (c .recording-again .result) k;
+          met Before.Nothing (going-start (now (a .file)) h x (a .o) (a .label) e d) (omega (arith, l, p .first)) (p .file .header) (ok-of _ b h x d) (c .recording-again .result) k;
     }
 
 returns : tie.Need-returns Inv-loop μ-loop
-returns c = λ h x o l. absurd (rw (c .enum-told .given .1) at (c .before .before .before .loop .inv .meets h x o l))
+returns c = λ h x o g l. absurd (rw (c .enum-told .given .1) at (c .before .before .before .loop .inv .meets h x o g l))
 
 recording-again-requires-2 : tie.Need-recording-again-requires-2 Inv-loop μ-loop
 recording-again-requires-2 c κs =
@@ -55,9 +55,9 @@ loop-again c =
       within = omega arith;
       start = d .step .given .0 .0 .end;
       bounds = u .continues;
-      meets = λ h x o l.
+      meets = λ h x o g l.
           let b = bytes (now (f .args .file)) (λ j. omega (arith, k .before .before .shared-slice-known .given j)) in
-          met (Before.These (d .step .given .0 .0)) (rw (d .step .given .1) at (i .meets h x o l)) (omega (arith, l, d .before .before .loop-test .taken)) ((rw (d .step .given .1) at (i .bounds)) .end) (ok-of _ b h x) (c .recording-again2 .result) u;
+          met (Before.These (d .step .given .0 .0)) (rw (d .step .given .1) at (i .meets h x o g l)) (omega (arith, l, d .before .before .loop-test .taken)) ((rw (d .step .given .1) at (i .bounds)) .end) (ok-of _ b h x g) (c .recording-again2 .result) u;
     }
 
 returns-2 : tie.Need-returns-2 Inv-loop μ-loop
@@ -66,7 +66,7 @@ returns-2 c =
     let k = l .loop in
     let a = l .before .before .before .args in
     let d : k .i ≡ a .n = omega (arith, k .inv .within) in
-    λ h x o e. met-reached (a .o) (now (a .file)) (h .count) (x .file .recordings) (a .n) (k .step) (rw d at (k .inv .meets h x o e))
+    λ h x o g e. met-reached (a .o) (a .label) (now (a .file)) (h .count) (x .file .recordings) (a .n) (k .step) (rw d at (k .inv .meets h x o g e))
 
 pub recordings-to-spec : {M : Type 1} → statement M
 recordings-to-spec =

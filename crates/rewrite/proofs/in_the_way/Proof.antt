@@ -6,10 +6,10 @@ use Rattle.rewrite.proofs.in_the_way.Statement.{statement}
 use Rattle.rewrite.proofs.in_the_way.Tie as tie
 
 returns : tie.Need-returns
-returns c = λ ps e g. rw (← c .before .same-order .ensures, c .if1 .taken) refl
+returns c = λ label ps e g. rw (← c .before .same-order .ensures, c .if1 .taken) refl
 
 returns-2 : tie.Need-returns-2
-returns-2 c = λ ps e g. rw (← c .before .same-order .ensures, c .if1 .left) (c .before .before .first-maker .ensures ps e g)
+returns-2 c = λ label ps e g. rw (← c .before .same-order .ensures, c .if1 .left) (c .before .before .first-maker .ensures label ps e g)
 
 pub in-the-way-spec : {M : Type 1} → statement M
 in-the-way-spec = tie.close (tie.spec (λ c κs. search needs) (λ c κs. search needs) returns returns-2)

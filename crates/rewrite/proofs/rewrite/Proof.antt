@@ -30,8 +30,11 @@ known c = c .before .before .before .before
 abbrev to-judged : tie.After-asked → tie.After-judged
 to-judged c = c .before .before .before .before
 
+abbrev sought : tie.After-permit → tie.After-in-the-way
+sought c = c .before .before .before .before
+
 abbrev to-asked : tie.After-permit → tie.After-asked
-to-asked c = c .before .before .before .before
+to-asked c = sought c .before .before
 
 -- the file is accepted
 module _ (c : tie.After-judged) where
@@ -47,7 +50,7 @@ module _ (c : tie.After-judged) where
   is-bytes : Bytes file
   is-bytes = bytes file (λ i. known c .shared-slice-known .given i .fits)
 
-  reads : ReadAs (c .judged .given .0 .0 .order) file (c .judged .given .0 .0 .count) (holds .file .recordings) (length file)
+  reads : ReadAs (c .judged .given .0 .0 .order) (c .judged .given .0 .0 .heading .label) file (c .judged .given .0 .0 .count) (holds .file .recordings) (length file)
   reads = went file _ holds
 
   headed : HeaderIn (length file)
@@ -65,13 +68,13 @@ module _ (c : tie.After-permit) where
   abbrev judged : tie.After-judged
   judged = to-judged (to-asked c)
 
-  need : c .before .file-length .result ≡ lengthAnew (holds judged .file .recordings)
+  need : c .before .file-length .result ≡ lengthAnew (judged .judged .given .0 .0 .heading .label) (holds judged .file .recordings)
   need = c .before .file-length .ensures _ _ (reads judged)
 
 room : (c : tie.After-enum-told3) → c .before .before .before .file-length .result ≤ length (now (start (judged (c .before .before)) .args .out))
 room c =
     let p = c .before .before in
-    permit-room (found (p .before .before .in-the-way .result)) _ (length (now (start (judged p) .args .out))) (sym (ap meaning (c .enum-told3 .given .1)) ∙ p .permit .ensures) .1
+    permit-room (found (sought p .in-the-way .result)) _ (length (now (start (judged p) .args .out))) (sym (ap meaning (c .enum-told3 .given .1)) ∙ p .permit .ensures) .1
 
 returns : tie.Need-returns
 returns c =
@@ -90,14 +93,14 @@ in-the-way-requires : tie.Need-in-the-way-requires
 in-the-way-requires c κs = headed (to-judged (c .before))
 
 file-length-requires : tie.Need-file-length-requires
-file-length-requires c κs = counts (to-judged (c .before .before))
+file-length-requires c κs = counts (to-judged (c .before .before .before .before))
 
 returns-3 : tie.Need-returns-3
 returns-3 c =
     let p = c .before .before in
     let x = judged p in
     let a = start x .args in
-    rewrites-stopped (file x) (is-bytes x) _ (holds x) (a .order) _ (names (to-asked p)) _ (need p) (now (a .out)) (p .before .before .in-the-way .ensures _ _ (reads x))
+    rewrites-stopped (file x) (is-bytes x) _ (holds x) (a .order) _ (names (to-asked p)) _ (need p) (now (a .out)) (sought p .in-the-way .ensures _ _ _ (reads x))
     (p .permit .result) (p .permit .ensures) (ap meaning (c .enum-told4 .given .1))
 
 file-anew-requires : tie.Need-file-anew-requires
@@ -113,7 +116,7 @@ returns-4 c =
     let p = e .before .before in
     let x = judged p in
     let a = start x .args in
-    rewrites-room (file x) (is-bytes x) _ (holds x) (a .order) _ (names (to-asked p)) _ (need p) (now (a .out)) (p .before .before .in-the-way .ensures _ _ (reads x))
+    rewrites-room (file x) (is-bytes x) _ (holds x) (a .order) _ (names (to-asked p)) _ (need p) (now (a .out)) (sought p .in-the-way .ensures _ _ _ (reads x))
     (p .permit .result) _ (p .permit .ensures) (ap meaning (e .enum-told3 .given .1)) (w .file-anew .ensures _ _ (reads x) (omega (arith, need p, room e)))
 
 pub rewrite-spec : {M : Type 1} → statement M

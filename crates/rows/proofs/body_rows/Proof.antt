@@ -41,7 +41,7 @@ returns : tie.Need-returns Inv-loop μ-loop
 returns c =
     let w = top c .loop .inv in
     let v = unrecorded (c .before .enum-told .given .1) (c .before .before .before .record-at .ensures) in
-    record { reaches = omega arith; wrote = λ held h x e n g. listed-short (w .inside) (w .listed held h x e n g) v (c .if1 .taken) }
+    record { reaches = omega arith; wrote = λ label held h x e n g. listed-short (w .inside) (w .listed label held h x e n g) v (c .if1 .taken) }
 
 returns-2 : tie.Need-returns-2 Inv-loop μ-loop
 returns-2 c =
@@ -49,7 +49,7 @@ returns-2 c =
     let w = y .before .before .before .loop .inv in
     let v = unrecorded (y .enum-told .given .1) (y .before .before .record-at .ensures) in
     let u = c .before .put .ensures in
-    record { reaches = omega (arith, u .next); wrote = λ held h x e n g. listed-all (w .inside) (w .listed held h x e n g) v u }
+    record { reaches = omega (arith, u .next); wrote = λ label held h x e n g. listed-all (w .inside) (w .listed label held h x e n g) v u }
 
 record-rows-requires : tie.Need-record-rows-requires Inv-loop μ-loop
 record-rows-requires c κs =
@@ -72,7 +72,7 @@ loop-again c =
     let y = stepped c in
     let w = y .before .before .before .loop .inv in
     let v = recorded (y .there .given .1) (y .before .before .record-at .ensures) in
-    record { inside = v .inside; reaches = c .before .record-rows .ensures .reaches; same = search needs; listed = λ held h x e n g. listed-more (w .inside) (w .listed held h x e n g) v (c .before .record-rows .ensures .wrote) }
+    record { inside = v .inside; reaches = c .before .record-rows .ensures .reaches; same = search needs; listed = λ label held h x e n g. listed-more (w .inside) (w .listed label held h x e n g) v (c .before .record-rows .ensures .wrote) }
 
 pub body-rows-spec : {M : Type 1} → statement M
 body-rows-spec =

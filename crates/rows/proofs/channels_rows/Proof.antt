@@ -1,4 +1,4 @@
--- `rows::channels_rows` meets its contract: a 120 that is not as long as its channels ask for lists none.
+-- `rows::channels_rows` meets its contract: a record that is not as long as its subs ask for lists none.
 -- Assumes nothing.
 use native.Mathlib.Omega.{arith}
 use borrow.Author.Needs.{needs}
@@ -13,9 +13,10 @@ returns-2 c = record { reaches = omega arith; wrote = λ e. absurd (c .if2 .take
 
 returns-3 : tie.Need-returns-3
 returns-3 c =
-    let x = c .before .before .before in
+    let y = c .before .before in
+    let x = y .before .before in
     let r = c .before .series-rows .ensures in
-    record { reaches = omega (arith, r .reaches, x .if2 .left); wrote = λ e. rw (← x .before .number4 .ensures .0) (r .wrote) }
+    record { reaches = omega (arith, r .reaches, x .if2 .left); wrote = λ e. rw (← x .before .number4 .ensures .0, ← y .sub-code .ensures) (r .wrote) }
 
 pub channels-rows-spec : {M : Type 1} → statement M
 channels-rows-spec =
@@ -32,6 +33,7 @@ channels-rows-spec =
     returns-2
     (λ c. search needs)
     (λ c. search needs)
+    (λ c κs. search needs)
     (λ c κs. search needs)
     (λ c. search needs)
     returns-3)

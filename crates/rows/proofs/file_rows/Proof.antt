@@ -9,6 +9,7 @@ use lib.IntN.{ℤ}
 use lib.ListN.{length}
 use Rattle.words.specs.declared.Order.{Order}
 use Rattle.rules.specs.Rules.{Placed}
+use Rattle.rules.specs.declared.Label.{Label}
 use Rattle.children.specs.Recordings.{ReadAs}
 use Rattle.children.specs.Children.{said}
 use Rattle.children.proofs.Recordings.{Sofar, sofar-start, sofar-end}
@@ -23,7 +24,7 @@ record Going (o : Order) (file : List ℕ) (count : ℕ) (out₀ : List ℤ) (wr
   inside : at ≤ length file
   reaches : k ≤ at
   same : length out ≡ length out₀
-  listed : (ps : List Placed) (e : ℕ) → ReadAs o file count ps e → Sofar o file count ps at i (Listed write out₀ out k)
+  listed : (label : Label) (ps : List Placed) (e : ℕ) → ReadAs o label file count ps e → Sofar o label file count ps at i (Listed write out₀ out k)
 
 abbrev Inv-loop : tie.InvT-loop
 Inv-loop o file count out₀ write at₀ k₀ i₀ out at k i = Going o file count out₀ write out at k i
@@ -32,7 +33,7 @@ abbrev μ-loop : tie.MeasureT-loop
 μ-loop o file count out₀ write at₀ k₀ i₀ out at k i = count - i
 
 loop-holds : tie.Need-loop-holds Inv-loop μ-loop
-loop-holds c = record { few = omega arith; inside = omega arith; reaches = omega arith; same = refl; listed = λ ps e g. sofar-start g (wrote-nothing _ _ 0) }
+loop-holds c = record { few = omega arith; inside = omega arith; reaches = omega arith; same = refl; listed = λ label ps e g. sofar-start g (wrote-nothing _ _ 0) }
 
 loop-again : tie.Need-loop-again Inv-loop μ-loop
 loop-again c =
@@ -44,7 +45,7 @@ loop-again c =
       inside = r .ensures .inside;
       reaches = r .ensures .reaches;
       same = r .kept .1 .1 .1 .0 ∙ inv .same;
-      listed = λ ps e g. listed-next (inv .listed ps e g) (x .loop-test .taken) (inv .inside) (r .ensures .wrote);
+      listed = λ label ps e g. listed-next (inv .listed label ps e g) (x .loop-test .taken) (inv .inside) (r .ensures .wrote);
     }
 
 same-length : tie.Need-same-length Inv-loop μ-loop
@@ -54,7 +55,7 @@ returns : tie.Need-returns Inv-loop μ-loop
 unfolding said
 returns c =
     let inv = c .before .loop .inv in
-    record { reaches = omega (arith, inv .inside, inv .reaches); wrote = λ ps e g. sofar-end (inv .listed ps e g) (c .loop-test .left) }
+    record { reaches = omega (arith, inv .inside, inv .reaches); wrote = λ label ps e g. sofar-end (inv .listed label ps e g) (c .loop-test .left) }
 
 pub file-rows-spec : {M : Type 1} → statement M
 file-rows-spec =

@@ -20,7 +20,7 @@ returns : tie.Need-returns
 returns c =
     let z = start c in
     let v = unrecorded (c .enum-told .given .1) (c .before .before .record-at .ensures) in
-    record { on = omega arith; inside = z .pre .inside; reaches = z .pre .low; wrote = λ held i x e g. recording-none v held i g }
+    record { on = omega arith; inside = z .pre .inside; reaches = z .pre .low; wrote = λ label held i x e g. recording-none v label held i g }
 
 sub-put : tie.Need-sub-put
 sub-put c =

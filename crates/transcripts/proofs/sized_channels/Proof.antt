@@ -1,4 +1,4 @@
--- `transcripts::sized_channels` meets its contract: a 120 that the walk accepts has the length that its count asks for.
+-- `transcripts::sized_channels` meets its contract: a record with subs that the walk accepts has the length that its count asks for.
 -- Assumes nothing.
 use mathlib.Core.Path.{sym}
 use native.Mathlib.Omega.{arith}
@@ -11,7 +11,7 @@ use Rattle.transcripts.proofs.sized_channels.Tie as tie
 returns : tie.Need-returns
 returns c =
     let a = c .before .before .before .args in
-    λ d b l e g. absurd (omega (arith, c .if1 .taken, channels-counted (a .w .from) b (now (a .s)) d _ g))
+    λ d k b l e g. absurd (omega (arith, c .if1 .taken, channels-counted (a .w .from) b (now (a .s)) d _ g))
 
 -- what was known at the start, and behind `number4`
 abbrev at-number4 : tie.After-slice-known2 → tie.After-number4
@@ -23,10 +23,10 @@ start c = c .before .before .before .before
 returns-2 : tie.Need-returns-2
 returns-2 c =
     let a = start (c .before) .args in
-    λ d b l e g. absurd (c .if2 .taken (omega (arith, c .before .number4 .ensures .0, channels-counted (a .w .from) b (now (a .s)) d _ g)))
+    λ d k b l e g. absurd (c .if2 .taken (omega (arith, c .before .number4 .ensures .0, channels-counted (a .w .from) b (now (a .s)) d _ g)))
 
 returns-3 : tie.Need-returns-3
-returns-3 c = λ d b l e g. c .before .before .channels-body .ensures b _ d (sym (at-number4 c .number4 .ensures .0))
+returns-3 c = λ d k b l e g. c .before .before .channels-body .ensures b _ d k (sym (at-number4 c .number4 .ensures .0))
 
 pub sized-channels-spec : {M : Type 1} → statement M
 sized-channels-spec =

@@ -13,11 +13,11 @@ use Rattle.turn.proofs.turn.Statement.{statement}
 use Rattle.turn.proofs.turn.Tie as tie
 
 -- what was known at the start, of a file that is accepted and of one that is refused, and behind the answer of the judge, the search and the leave to write
-abbrev at-first-maker : tie.After-file-turned-arg → tie.After-first-maker
-at-first-maker c = c .before .before .before .before
+abbrev at-enum-told2 : tie.After-file-turned-arg → tie.After-enum-told2
+at-enum-told2 c = c .before .before .before
 
-abbrev at-enum-told2 : tie.After-slice-known2 → tie.After-enum-told2
-at-enum-told2 c = c .before .before .before .before
+abbrev at-first-maker : tie.After-file-turned-arg → tie.After-first-maker
+at-first-maker c = at-enum-told2 c .before .before .before
 
 abbrev at-judged : tie.After-enum-told3 → tie.After-judged
 at-judged c = c .before .before .before .before .before
@@ -45,23 +45,24 @@ returns-2 c =
     let z = start x in
     let j = accepted (x .judged .given .1) (x .before .before .judge .ensures) in
     let p = c .before .before .permit in
-    turns-stopped (now (z .args .file)) _ j (now (z .args .out)) (c .before .before .before .first-maker .ensures _ _ (went (now (z .args .file)) _ j)) (p .result) (p .ensures) (ap meaning (c .enum-told3 .given .1))
+    turns-stopped (now (z .args .file)) _ j (now (z .args .out)) (c .before .before .before .first-maker .ensures _ _ _ (went (now (z .args .file)) _ j)) (p .result) (p .ensures) (ap meaning (c .enum-told3 .given .1))
 
 file-turned-requires : tie.Need-file-turned-requires
 file-turned-requires c κs =
     let x = at-first-maker c .before .before in
     let z = start x in
     let j = accepted (x .judged .given .1) (x .before .before .judge .ensures) in
-    let p = c .before .before .before .permit in
-    record { headed = record { header = accepted-long _ _ j; short = search needs }; room = permit-room (found (at-first-maker c .first-maker .result)) (length (now (z .args .file))) (length (now (z .args .out))) (sym (ap meaning (c .before .enum-told2 .given .1)) ∙ p .ensures) .1 }
+    let p = at-enum-told2 c .before .before .permit in
+    record { headed = record { header = accepted-long _ _ j; short = search needs }; room = permit-room (found (at-first-maker c .first-maker .result)) (length (now (z .args .file))) (length (now (z .args .out))) (sym (ap meaning (at-enum-told2 c .enum-told2 .given .1)) ∙ p .ensures) .1 }
 
 returns-3 : tie.Need-returns-3
 returns-3 c =
     let x = at-first-maker (c .before .before .before) .before .before in
     let z = start x in
     let j = accepted (x .judged .given .1) (x .before .before .judge .ensures) in
-    let p = at-enum-told2 c .before .before .permit in
-    turns-room (now (z .args .file)) _ j (now (z .args .out)) (at-first-maker (c .before .before .before) .first-maker .ensures _ _ (went (now (z .args .file)) _ j)) (p .result) _ (p .ensures) (ap meaning (at-enum-told2 c .enum-told2 .given .1))
+    let v = at-enum-told2 (c .before .before .before) in
+    let p = v .before .before .permit in
+    turns-room (now (z .args .file)) _ j (now (z .args .out)) (at-first-maker (c .before .before .before) .first-maker .ensures _ _ _ (went (now (z .args .file)) _ j)) (p .result) _ (p .ensures) (ap meaning (v .enum-told2 .given .1))
     (c .before .before .file-turned .ensures _ _ _ (opens (now (z .args .file)) _ j) (went (now (z .args .file)) _ j))
 
 pub turn-spec : {M : Type 1} → statement M

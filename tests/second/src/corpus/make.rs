@@ -3,21 +3,25 @@
 
 use crate::ask::answer;
 use crate::bytes::Order;
+use crate::corpus::shown::shown;
 use crate::generate::{self, questions, Question, HEADER};
 use crate::judge::judge;
 use crate::lines::answer_line;
 use crate::listing::{self, listing};
 use crate::random::Random;
 use crate::refusal;
-use std::collections::BTreeMap;
+use std::collections::{BTreeMap, BTreeSet};
 use std::fs;
 use std::io;
 use std::path::Path;
 
+/// So many files are drawn, to choose from.
+const DRAWN: u64 = 20_000;
+
 /// Files are at most so long, but for the first that `listing` does not read.
 const MOST_BYTES: usize = 2000;
 
-/// At most a third of the files is accepted, and a fifteenth refused with each number, so that the rare ones are there.
+/// Of those that show nothing new at most a third of the count is accepted, and a fifteenth refused with each number.
 const ACCEPTED_SHARE: u64 = 3;
 const REFUSED_SHARE: u64 = 15;
 
@@ -52,27 +56,35 @@ fn question_line(name: &str, op: &str, args: &[u64]) -> String {
     format!("{name} {op}{args}\n")
 }
 
-/// The first files of the seed that are small enough, and of whose verdict there are not too many; each with its index.
-fn chosen(seed: u64, count: u64) -> Vec<(u64, Vec<u8>)> {
-    let mut files = Vec::new();
-    let mut taken: BTreeMap<Option<u8>, u64> = BTreeMap::new();
+/// The files of the seed that are small enough and show what none before them does; then the first of the others, of
+/// whose verdict there are not too many. Each with its index.
+fn chosen(seed: u64, count: u64) -> BTreeMap<u64, Vec<u8>> {
+    let (mut files, mut others) = (BTreeMap::new(), Vec::new());
+    let mut all_shown = BTreeSet::new();
     let mut long = false;
-    for index in 0.. {
-        if files.len() as u64 == count {
-            break;
-        }
+    for index in 0..DRAWN {
         let file = generate::file(seed, index).bytes;
         if file.len() > listing::MOST_BYTES && !long {
             long = true;
-        } else if file.len() > MOST_BYTES {
-            continue;
+            files.insert(index, file);
+        } else if file.len() <= MOST_BYTES {
+            let before = all_shown.len();
+            all_shown.extend(shown(&file));
+            if all_shown.len() > before {
+                files.insert(index, file);
+            } else {
+                others.push((index, file));
+            }
         }
+    }
+    let mut taken: BTreeMap<Option<u8>, u64> = BTreeMap::new();
+    for (index, file) in others {
         let verdict = judge(&file).err().map(|refusal| refusal.number);
         let share = verdict.map_or(ACCEPTED_SHARE, |_| REFUSED_SHARE);
         let times = taken.entry(verdict).or_default();
-        if *times < count.div_ceil(share) {
+        if *times < count.div_ceil(share) && (files.len() as u64) < count {
             *times += 1;
-            files.push((index, file));
+            files.insert(index, file);
         }
     }
     files

@@ -1,9 +1,9 @@
 //! The comparison with a corpus: every NAME.out, and every question line. `make` makes one.
 
 pub mod make;
+pub mod shown;
 
 use crate::ask::answer_to;
-use crate::header::Form;
 use crate::lines::Desk;
 use crate::listing::listing;
 use std::fs;
@@ -11,11 +11,9 @@ use std::io;
 use std::path::{Path, PathBuf};
 
 /// The names of a corpus' question lines; `count` and `view` may stand apart,
-/// and so may those of request 3, `header`.
-const QUESTIONS: &[&str] = &["questions", "questions-old", "questions-3"];
-
-/// The lines of request 1, `montage_count` and `montage`.
-const MONTAGE_QUESTIONS: &str = "questions-1";
+/// and so may those of request 3, `header`, and of request 1, `montage_count` and
+/// `montage`.
+const QUESTIONS: &[&str] = &["questions", "questions-old", "questions-3", "questions-1"];
 
 #[derive(Clone, Debug, Default, PartialEq, Eq)]
 pub struct Comparison {
@@ -32,9 +30,6 @@ pub fn compare(folder: &Path) -> io::Result<Comparison> {
     }
     for name in QUESTIONS {
         compare_questions(folder, name, &mut comparison)?;
-    }
-    if Form::Electrodes.is_read() {
-        compare_questions(folder, MONTAGE_QUESTIONS, &mut comparison)?;
     }
     Ok(comparison)
 }

@@ -129,13 +129,9 @@ pub fn draw_any(random: &mut Random) -> FilePlan {
     draw_shaped(random, &shape)
 }
 
-/// A valid file of this shape, in any form that is read.
+/// A valid file of this shape, in either form.
 pub fn draw_shaped(random: &mut Random, shape: &Shape) -> FilePlan {
-    let form = match Form::READ {
-        // Nothing is left to chance.
-        [only] => *only,
-        read => random.pick(read),
-    };
+    let form = random.pick(&Form::ALL);
     draw_formed(random, shape, form)
 }
 

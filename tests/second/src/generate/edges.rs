@@ -1,7 +1,6 @@
 //! The values on both sides of each rule's edges.
 
 use super::sheet::{Field, Place, Sheet};
-use crate::header::Form;
 use crate::random::Random;
 use crate::record::{self, Extent, Kind};
 
@@ -60,16 +59,14 @@ fn size(random: &mut Random, sheet: &Sheet, place: &Place) -> i32 {
 
 /// Other records' codes, codes left out, and the least maker's code.
 fn code(random: &mut Random, kind: Kind, now: i32) -> i32 {
-    const CODES: [i32; 22] = [
-        0, 10, 100, 120, 125, 130, 140, 145, 200, 1, 99, 101, 110, 121, 131, 141, 146, 150, 155,
-        160, 165, 201,
+    const CODES: [i32; 26] = [
+        0, 10, 100, 120, 125, 130, 140, 145, 200, 320, 325, 350, 355, 1, 99, 101, 110, 121, 131,
+        141, 146, 150, 155, 160, 165, 201,
     ];
-    const ELECTRODE_FORM: [i32; 4] = [320, 325, 350, 355];
     const MAKERS: [i32; 6] = [1023, 1024, 1025, 4096, 65_536, i32::MAX];
     match random.below(4) {
         0 => random.pick(&MAKERS),
         1 if kind != Kind::Maker => now.wrapping_add(random.pick(&[-1, 1, 256])),
-        _ if Form::Electrodes.is_read() => random.pick(&[&CODES[..], &ELECTRODE_FORM].concat()),
         _ => random.pick(&CODES),
     }
 }
@@ -140,10 +137,7 @@ fn edges(field: Field, now: i32) -> Vec<i32> {
             i32::MIN,
         ],
         Field::Flags(_) => &[-2, -1, 0, 1, 2, 3],
-        Field::Type(_) if Form::Electrodes.is_read() => {
-            &[-1, 0, 17, 18, 19, 20, 21, 100, 101, 101, 102]
-        }
-        Field::Type(_) => &[-1, 0, 17, 18, 19, 20, 21],
+        Field::Type(_) => &[-1, 0, 17, 18, 19, 20, 21, 100, 101, 101, 102],
         Field::Format(_) => &[-1, 0, 1, 2, 3, 4, 5],
         Field::Rate(_) => &[
             -1,

@@ -7,7 +7,7 @@ mod plan;
 mod questions;
 mod sheet;
 
-pub use damage::NO_IDENTIFIERS;
+pub use damage::{NO_FORMS, NO_IDENTIFIERS};
 pub use questions::{questions, Question, HEADER};
 pub use sheet::{Field, Sheet};
 

@@ -1,6 +1,5 @@
 //! Questions drawn for a file: each argument at the bounds of its range and far outside, the others inside it.
 
-use crate::header::Form;
 use crate::judge::judge;
 use crate::model::Recording;
 use crate::random::Random;
@@ -77,7 +76,7 @@ fn ranges(
     let samples = (0, samples.map_or(1, |slot| slot.count));
     let recordings = (1, recordings);
     let sampled = (channel as u64 + 1, 1);
-    let mut all = vec![
+    vec![
         ("facts", vec![recordings]),
         ("channel", vec![recordings, channels]),
         ("patient_item", vec![recordings, many(|r| r.patient.len())]),
@@ -86,12 +85,9 @@ fn ranges(
         ("count", vec![recordings, frames, channels]),
         ("view", vec![recordings, frames, channels]),
         ("sample", vec![recordings, frames, sampled, samples]),
-    ];
-    if Form::Electrodes.is_read() {
-        all.push(("montage_count", vec![recordings]));
-        all.push(("montage", vec![recordings, many(|r| r.montage.len())]));
-    }
-    all
+        ("montage_count", vec![recordings]),
+        ("montage", vec![recordings, many(|r| r.montage.len())]),
+    ]
 }
 
 /// One question with each argument in turn at its bounds, then with some inside and some of any size.

@@ -14,10 +14,10 @@ abbrev else1 : tie.After-slice-known3 → tie.Else1
 else1 c = c .before .before .before .before
 
 returns : tie.Need-returns
-returns c = λ b. c .before .before .copy-run .ensures ∙ reserve-same _ b _ (then1 c .if1 .taken)
+returns c = λ b. c .before .before .copy-run .ensures ∙ reserve-same (then1 c .before .before .before .args .w) b _ (then1 c .if1 .taken)
 
 returns-2 : tie.Need-returns-2
-returns-2 c = λ b. c .before .before .clear-run .ensures ∙ reserve-cleared _ b _ _ (else1 c .before .before .before .pre) (else1 c .if1 .left)
+returns-2 c = let z = else1 c .before .before .before in λ b. c .before .before .clear-run .ensures ∙ reserve-cleared (z .args .w) b _ _ (z .pre) (else1 c .if1 .left)
 
 pub reserved-spec : {M : Type 1} → statement M
 reserved-spec =

@@ -22,14 +22,14 @@ to-described y = y .before .before
 -- the descriptions that passed
 described : (x : tie.After-described) →
     let a = from-described x .args in
-    DescriptionsOf (a .o) (a .at + 16) (now (a .s)) (a .before) (DescriptionsJudged.On (x .described .given .0 .0))
+    DescriptionsOf (a .o) (a .label) (a .at + 16) (now (a .s)) (a .before) (DescriptionsJudged.On (x .described .given .0 .0))
 described x = rw (x .described .given .1) at (x .before .before .judge-descriptions .ensures)
 
 returns : tie.Need-returns
 returns c =
     let x : tie.After-judge-descriptions = c .before .before .before in
     let a = start x .args in
-    simp (c .of-descriptions .ensures, c .before .enum-told .given .1) (again-stops (a .o) (now (a .s)) (a .at) (a .before) (rw (c .before .enum-told .given .1) at (x .judge-descriptions .ensures)))
+    simp (c .of-descriptions .ensures, c .before .enum-told .given .1) (again-stops (a .o) (a .label) (now (a .s)) (a .at) (a .before) (rw (c .before .enum-told .given .1) at (x .judge-descriptions .ensures)))
 
 add-place : tie.Need-add-place
 add-place c = let x = to-described c in omega (arith, described x .bounds .fits, from-described x .pre)
@@ -41,14 +41,14 @@ returns-2 : tie.Need-returns-2
 returns-2 c =
     let x = to-described (c .before) in
     let a = from-described x .args in
-    again-short (a .o) (now (a .s)) (a .at) (a .before) (described x) (c .if1 .taken)
+    again-short (a .o) (a .label) (now (a .s)) (a .at) (a .before) (described x) (c .if1 .taken)
 
 returns-3 : tie.Need-returns-3
 returns-3 c =
     let m : tie.After-number4 = c .before .before in
     let x = to-described (m .before .before) in
     let a = from-described x .args in
-    rw (c .places-for .ensures) (again-holds (a .o) (now (a .s)) (a .at) (a .before) (described x) (m .number4 .ensures .0) (c .before .number42 .ensures .0))
+    rw (c .places-for .ensures) (again-holds (a .o) (a .label) (now (a .s)) (a .at) (a .before) (described x) (m .number4 .ensures .0) (c .before .number42 .ensures .0))
 
 pub body-again-spec : {M : Type 1} → statement M
 body-again-spec =

@@ -25,7 +25,7 @@ to-channels z = z .before .before .before
 -- the descriptions that passed
 described : (x : tie.After-described) →
     let a = from-described x .args in
-    DescriptionsOf (a .o) (a .at + 16) (now (a .s)) (a .before) (DescriptionsJudged.On (x .described .given .0 .0))
+    DescriptionsOf (a .o) (a .label) (a .at + 16) (now (a .s)) (a .before) (DescriptionsJudged.On (x .described .given .0 .0))
 described x = rw (x .described .given .1) at (x .before .before .judge-descriptions .ensures)
 
 returns : tie.Need-returns
@@ -33,20 +33,20 @@ returns c =
     let x : tie.After-judge-descriptions = c .before .before .before in
     let a = start x .args in
     simp (c .of-descriptions .ensures, c .before .enum-told .given .1)
-    (stops-descriptions (a .o) (now (a .file)) (now (a .s)) (a .at) (a .before) (start x .pre) (rw (c .before .enum-told .given .1) at (x .judge-descriptions .ensures)))
+    (stops-descriptions (a .o) (a .label) (now (a .file)) (now (a .s)) (a .at) (a .before) (start x .pre) (rw (c .before .enum-told .given .1) at (x .judge-descriptions .ensures)))
 
 channels-of-requires : tie.Need-channels-of-requires
 channels-of-requires c κs =
     let z = from-described (c .before) in
     let a = z .args in
-    channels-asked (a .o) (now (a .file)) (now (a .s)) (a .at) (a .before) (z .pre) (described (c .before))
+    channels-asked (a .o) (a .label) (now (a .file)) (now (a .s)) (a .at) (a .before) (z .pre) (described (c .before))
 
 signals-requires : tie.Need-signals-requires
 signals-requires c κs =
     let y : tie.After-channels-of = c .before .before in
     let z = from-described (to-described y) in
     let a = z .args in
-    signals-asked (a .o) (now (a .file)) (now (a .s)) (a .at) (a .before) (z .pre) (described (to-described y)) (y .channels-of .ensures)
+    signals-asked (a .o) (a .label) (now (a .file)) (now (a .s)) (a .at) (a .before) (z .pre) (described (to-described y)) (y .channels-of .ensures)
 
 returns-2 : tie.Need-returns-2
 returns-2 c =
@@ -55,7 +55,7 @@ returns-2 c =
     let z = from-described (to-described y) in
     let a = z .args in
     simp (c .of-frames .ensures, c .before .enum-told2 .given .1)
-    (stops-signals (a .o) (now (a .file)) (now (a .s)) (a .at) (a .before) (z .pre) (described (to-described y)) (y .channels-of .ensures) (rw (c .before .enum-told2 .given .1) at (w .signals .ensures)))
+    (stops-signals (a .o) (a .label) (now (a .file)) (now (a .s)) (a .at) (a .before) (z .pre) (described (to-described y)) (y .channels-of .ensures) (rw (c .before .enum-told2 .given .1) at (w .signals .ensures)))
 
 places-for-requires : tie.Need-places-for-requires
 places-for-requires c κs =
@@ -71,7 +71,7 @@ returns-3 c =
     let z = from-described (to-described y) in
     let a = z .args in
     rw (c .places-for .ensures)
-    (holds (a .o) (now (a .file)) (now (a .s)) (a .at) (a .before) (z .pre) (described (to-described y)) (y .channels-of .ensures) (f .framed .given .0 .1 .0) (rw (f .framed .given .1) at (w .signals .ensures)))
+    (holds (a .o) (a .label) (now (a .file)) (now (a .s)) (a .at) (a .before) (z .pre) (described (to-described y)) (y .channels-of .ensures) (f .framed .given .0 .1 .0) (rw (f .framed .given .1) at (w .signals .ensures)))
 
 pub recording-body-spec : {M : Type 1} → statement M
 recording-body-spec =

@@ -7,8 +7,10 @@ use lib.ListN.{length}
 use Rattle.walk.proofs.Seen.{walks}
 use Rattle.rules.specs.Rules.{channelBody}
 use Rattle.rules.proofs.Room.{stays-channelBody}
+use Rattle.rules.specs.declared.Kind.{Kind}
 use Rattle.rules.specs.declared.Kind.the-variants as Kind
-use Rattle.records.specs.Says.{tested, Reaches}
+use Rattle.records.specs.Says.{tested, groupOf, subCode, OpenAt, Reaches}
+use Rattle.records.proofs.Groups.{told-group}
 use Rattle.records.proofs.Bodies.{fixed-opened, body-long, body-asked, body-held, ended-advances}
 use borrow.Author.Needs.{needs}
 use Rattle.records.proofs.channels.channel_at.Statement.{statement}
@@ -18,12 +20,31 @@ use Rattle.records.proofs.channels.channel_at.Tie as tie
 abbrev opening : tie.After-stops-at → tie.After-opened
 opening c = c .before .before .before .before
 
+abbrev begun : tie.After-sub-code → tie.Start
+begun x = x .before .before .before
+
 abbrev start : tie.After-opened → tie.Start
-start x = x .before .before .before .before
+start x = begun (x .before .before .before)
+
+-- it is opened by the code of the group's subs
+coded : (x : tie.After-sub-code) → x .sub-code .result ≡ groupOf (begun x .args .g) .sub .code
+coded x = x .sub-code .ensures ∙ (ap subCode (x .before .group-code .ensures) ∙ sym (told-group (begun x .args .g) .code))
+
+abbrev kind : tie.Start → Kind
+kind z = Kind.Channel (groupOf (z .args .g) .sub .code) (z .args .i)
+
+opens : (x : tie.After-open) → let z = begun (x .before) in OpenAt (z .args .o) (z .args .base) (now (z .args .s)) (z .args .p) (kind z) (x .open .result)
+opens x = rw (coded (x .before)) at (x .open .ensures)
 
 -- the record that was opened: where it stands, and where it stops
-reached : (x : tie.After-opened) → Reaches (start x .args .p) (Kind.Channel (start x .args .i)) (length (now (start x .args .s))) (x .opened .given .0 .0) (x .opened .given .0 .1 .0)
-reached x = rw (x .opened .given .1) at (x .before .before .open .ensures .stands)
+reached : (x : tie.After-opened) → Reaches (start x .args .p) (kind (start x)) (length (now (start x .args .s))) (x .opened .given .0 .0) (x .opened .given .0 .1 .0)
+reached x = rw (x .opened .given .1) at (opens (x .before .before) .stands)
+
+group-code-requires : tie.Need-group-code-requires
+group-code-requires c κs = search needs
+
+sub-code-requires : tie.Need-sub-code-requires
+sub-code-requires c κs = search needs
 
 open-requires : tie.Need-open-requires
 open-requires c κs = search needs
@@ -38,7 +59,7 @@ of-open-requires : tie.Need-of-open-requires
 of-open-requires c κs = search needs
 
 returns : tie.Need-returns
-returns c = record { seen = simp (fixed-opened, walks, c .of-open .ensures, c .before .enum-told .given .1, c .before .before .before .open .ensures .seen); stands = tt }
+returns c = record { seen = simp (fixed-opened, walks, c .of-open .ensures, c .before .enum-told .given .1, opens (c .before .before .before) .seen); stands = tt }
 
 add-body : tie.Need-add-body
 add-body c = search needs
@@ -75,12 +96,13 @@ returns-2 c =
     let b = z .args .base in
     let p = z .args .p in
     let q = t .opened .given .0 .1 .0 in
+    let k = groupOf (z .args .g) .sub in
     let a = c .before .channel-body .result in
     let e : q ≡ p + 256 = omega (arith, v .end, v .spans) in
     let m = ap (λ (y : ℕ). tested a (b + p + y)) (sym (body-long p q 256 s e (omega arith) (v .inside))) in
     rw (c .stops-at .ensures) (record {
-      seen = simp (fixed-opened, walks, v .at, t .opened .given .1, t .before .before .open .ensures .seen)
-          (body-held o b p q 256 s e (omega arith) (v .inside) (λ _. channelBody) (λ x. stays-channelBody x (x + 240) (omega arith)) a (c .before .channel-body .ensures ∙ m));
+      seen = simp (fixed-opened, walks, v .at, t .opened .given .1, opens (t .before .before) .seen)
+          (body-held o b p q 256 s e (omega arith) (v .inside) (λ _. channelBody k) (λ x. stays-channelBody k x (x + 240) (omega arith)) a (c .before .channel-body .ensures ∙ m));
       stands = ended-advances p 256 (length s) q a e (v .inside);
     })
 
@@ -88,6 +110,8 @@ pub channel-at-spec : {M : Type 1} → statement M
 channel-at-spec =
     tie.close
     (tie.spec
+    group-code-requires
+    sub-code-requires
     open-requires
     enum-known-opened
     enum-told

@@ -9,7 +9,7 @@ use Rattle.rules.specs.Rules.{channelsBody}
 use Rattle.rules.proofs.Room.{stays-channelsBody}
 use Rattle.rules.specs.declared.Kind.the-variants as Kind
 use Rattle.records.specs.declared.Step.the-variants as Step
-use Rattle.records.specs.Says.{Admits}
+use Rattle.records.specs.Says.{groupOf, Admits}
 use Rattle.records.proofs.Steps.{channels-split}
 use Rattle.records.proofs.Bodies.{body-asked, body-held, ended-beyond}
 use borrow.Author.Needs.{needs}
@@ -21,11 +21,14 @@ abbrev admission : tie.After-stops-at → tie.After-room
 admission c = c .before .before .before .before
 
 abbrev start : tie.After-room → tie.Start
-start x = x .before .before .before .before
+start x = x .before .before .before .before .before
 
 -- the record that was admitted: where it stops
-reached : (x : tie.After-room) → Admits (start x .args .h) Kind.Channels (length (now (start x .args .s))) (Step.On (x .room .given .0 .0))
+reached : (x : tie.After-room) → Admits (start x .args .h) (Kind.Channels (x .before .before .before .group-code .result)) (length (now (start x .args .s))) (Step.On (x .room .given .0 .0))
 reached x = rw (x .room .given .1) at (x .before .before .admit .ensures .stands)
+
+group-code-requires : tie.Need-group-code-requires
+group-code-requires c κs = search needs
 
 admit-requires : tie.Need-admit-requires
 admit-requires c κs = search needs
@@ -37,7 +40,7 @@ enum-told : tie.Need-enum-told
 enum-told c = search needs
 
 returns : tie.Need-returns
-returns c = record { seen = (λ x e. simp (channels-split, walks, c .enum-told .given .1, c .before .before .admit .ensures .seen)); stands = simp (c .enum-told .given .1) tt }
+returns c = record { seen = simp (channels-split, walks, c .enum-told .given .1, c .before .before .admit .ensures .seen); stands = simp (c .enum-told .given .1) tt }
 
 add-body : tie.Need-add-body
 add-body c = search needs
@@ -75,10 +78,11 @@ returns-2 c =
     let h = z .args .h in
     let n = R.lengthOf (h .size) (h .multiplier) in
     let q = t .room .given .0 .0 in
+    let g = groupOf (z .args .g) in
     let a = c .before .channels-body .result in
     rw (c .stops-at .ensures) (record {
-      seen = (λ x e. simp (channels-split, walks, t .room .given .1, t .before .before .admit .ensures .seen)
-          (body-held o b (h .at) q n s (v .0) (omega arith) (v .1) (channelsBody x) (λ y. stays-channelsBody x n y (v .2)) a (c .before .channels-body .ensures x e)));
+      seen = simp (channels-split, walks, t .room .given .1, t .before .before .admit .ensures .seen)
+          (body-held o b (h .at) q n s (v .0) (omega arith) (v .1) (channelsBody g) (λ y. stays-channelsBody g n y (v .2)) a (c .before .channels-body .ensures));
       stands = ended-beyond (h .at + 32) (length s) q a (omega arith) (v .1);
     })
 
@@ -86,6 +90,7 @@ pub channels-at-spec : {M : Type 1} → statement M
 channels-at-spec =
     tie.close
     (tie.spec
+    group-code-requires
     admit-requires
     enum-known-room
     enum-told

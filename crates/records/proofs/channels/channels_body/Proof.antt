@@ -1,24 +1,22 @@
 -- `records::channels::channels_body` meets its contract: one case for each test, and the channels. Assumes nothing.
 use denote.Ref.{now}
 use lib.ListN.{length}
-use Prim.Native.Nat.{_+_, _-_}
-use mathlib.Core.Path.{_≡_}
-use Prim.Native.Nat.{ℕ}
-use mathlib.Core.Path.{ap, _∙_}
+use Prim.Native.Nat.{ℕ, _+_, _-_}
+use mathlib.Core.Path.{_≡_, ap, _∙_}
 use Rattle.walk.specs.See.{goes}
-use Rattle.walk.proofs.Seen.{places, walks, tests}
+use Rattle.walk.proofs.Seen.{places, walks}
 use Rattle.rules.specs.Rules.{channelsBody}
 use native.Mathlib.Omega.{arith}
-use borrow.Author.Tests.{not-true, not-false, eq-eqb}
+use borrow.Author.Tests.{not-true, not-false, eq-eqb, ne-eqb}
 use borrow.Author.Needs.{needs}
 use Rattle.records.proofs.channels.channels_body.Statement.{statement}
 use Rattle.records.proofs.channels.channels_body.Tie as tie
 
--- what was known where the length is that of the channels, where their count holds, and at the start
+-- what was known where the length is that of the channels, where their count is in range, and at the start
 abbrev long : tie.After-channels-from → tie.Else3
 long f = f .before .before .before
 
-abbrev counted : tie.Else3 → tie.Else1
+abbrev counted : tie.Else2 → tie.Else1
 counted y = y .before .before
 
 abbrev start : tie.Else1 → tie.Start
@@ -35,14 +33,17 @@ add-t10 c = search needs
 
 returns : tie.Need-returns
 unfolding channelsBody
-returns c = λ b e. simp (walks, tests, e, not-true (c .before .between .result) (c .if1 .taken), ← c .before .between .ensures, ← c .before .before .field .ensures .0)
+returns c = simp (walks, not-true (c .before .between .result) (c .if1 .taken), ← c .before .between .ensures, ← c .before .before .field .ensures .0)
+
+counts-ok-requires : tie.Need-counts-ok-requires
+counts-ok-requires c κs = search needs
 
 add-t12 : tie.Need-add-t12
 add-t12 c = search needs
 
 returns-2 : tie.Need-returns-2
 unfolding channelsBody
-returns-2 c = λ b e. simp (walks, tests, e, c .if2 .taken, not-false (c .before .before .between .result) (c .before .if1 .left), ← c .before .before .between .ensures, ← c .before .before .before .field .ensures .0)
+returns-2 c = let x : tie.Else1 = c .before .before in simp (walks, not-true (c .before .counts-ok .result) (c .if2 .taken), ← c .before .counts-ok .ensures, not-false (x .before .between .result) (x .if1 .left), ← x .before .between .ensures, ← x .before .before .field .ensures .0)
 
 add-if3 : tie.Need-add-if3
 add-if3 c = search needs
@@ -62,8 +63,9 @@ add-t18 c = search needs
 returns-3 : tie.Need-returns-3
 unfolding channelsBody
 returns-3 c =
-    let x : tie.Else1 = c .before .before in
-    λ b e. simp (walks, tests, e, c .if3 .taken, eq-eqb _ _ (c .before .if2 .left), not-false (x .before .between .result) (x .if1 .left), ← x .before .between .ensures, ← x .before .before .field .ensures .0)
+    let y : tie.Else2 = c .before in
+    let x = counted y in
+    simp (walks, ne-eqb _ _ (c .if3 .taken), not-false (y .before .counts-ok .result) (y .if2 .left), ← y .before .counts-ok .ensures, not-false (x .before .between .result) (x .if1 .left), ← x .before .between .ensures, ← x .before .before .field .ensures .0)
 
 field-requires-2 : tie.Need-field-requires-2
 field-requires-2 c κs = search needs
@@ -74,9 +76,10 @@ add-t21 c = search needs
 returns-4 : tie.Need-returns-4
 unfolding channelsBody
 returns-4 c =
-    let y : tie.Else3 = c .before .before in
+    let l : tie.Else3 = c .before .before in
+    let y = l .before in
     let x = counted y in
-    λ b e. simp (walks, tests, e, c .if4 .taken, ← c .before .field2 .ensures .0, eq-eqb _ _ (y .if3 .left), eq-eqb _ _ (y .before .if2 .left), not-false (x .before .between .result) (x .if1 .left), ← x .before .between .ensures, ← x .before .before .field .ensures .0)
+    simp (walks, ne-eqb _ _ (c .if4 .taken), ← c .before .field2 .ensures .0, eq-eqb _ _ (l .if3 .left), not-false (y .before .counts-ok .result) (y .if2 .left), ← y .before .counts-ok .ensures, not-false (x .before .between .result) (x .if1 .left), ← x .before .between .ensures, ← x .before .before .field .ensures .0)
 
 add-channels-from : tie.Need-add-channels-from
 add-channels-from c = search needs
@@ -97,20 +100,24 @@ returns-5 : tie.Need-returns-5
 unfolding channelsBody
 returns-5 c =
     let f : tie.After-channels-from = c .before .before .before in
-    let y = long f in
+    let l = long f in
+    let y = l .before in
     let x = counted y in
     let z = start x in
-    λ b e. let r : 16 + length (now (z .args .s)) - 32 ≡ length (now (z .args .s)) - 16 = omega arith in simp (walks, tests, r, e, c .before .enum-told2 .given .1, c .of-step .ensures, eq-eqb _ _ (f .before .if4 .left), ← f .before .before .field2 .ensures .0, eq-eqb _ _ (y .if3 .left), eq-eqb _ _ (y .before .if2 .left), not-false (x .before .between .result) (x .if1 .left), ← x .before .between .ensures, ← x .before .before .field .ensures .0) (simp places at (rw (c .before .enum-told2 .given .1) at (f .channels-from .ensures .seen)))
+    let r : 16 + length (now (z .args .s)) - 32 ≡ length (now (z .args .s)) - 16 = omega arith in
+    simp (walks, r, c .before .enum-told2 .given .1, c .of-step .ensures, eq-eqb _ _ (f .before .if4 .left), ← f .before .before .field2 .ensures .0, eq-eqb _ _ (l .if3 .left), not-false (y .before .counts-ok .result) (y .if2 .left), ← y .before .counts-ok .ensures, not-false (x .before .between .result) (x .if1 .left), ← x .before .between .ensures, ← x .before .before .field .ensures .0) (simp places at (rw (c .before .enum-told2 .given .1) at (f .channels-from .ensures .seen)))
 
 returns-6 : tie.Need-returns-6
 unfolding channelsBody
 returns-6 c =
     let f : tie.After-channels-from = c .before .before in
-    let y = long f in
+    let l = long f in
+    let y = l .before in
     let x = counted y in
     let z = start x in
     let v = rw (c .enum-told .given .1) at (f .channels-from .ensures .stands) in
-    λ b e. let r : 16 + length (now (z .args .s)) - 32 ≡ length (now (z .args .s)) - 16 = omega arith in simp (walks, tests, r, e, eq-eqb _ _ (f .before .if4 .left), ← f .before .before .field2 .ensures .0, eq-eqb _ _ (y .if3 .left), eq-eqb _ _ (y .before .if2 .left), not-false (x .before .between .result) (x .if1 .left), ← x .before .between .ensures, ← x .before .before .field .ensures .0) (simp places at (rw (c .enum-told .given .1) at (f .channels-from .ensures .seen)) ∙ ap (λ (x : ℕ). goes tt x) (omega arith))
+    let r : 16 + length (now (z .args .s)) - 32 ≡ length (now (z .args .s)) - 16 = omega arith in
+    simp (walks, r, eq-eqb _ _ (f .before .if4 .left), ← f .before .before .field2 .ensures .0, eq-eqb _ _ (l .if3 .left), not-false (y .before .counts-ok .result) (y .if2 .left), ← y .before .counts-ok .ensures, not-false (x .before .between .result) (x .if1 .left), ← x .before .between .ensures, ← x .before .before .field .ensures .0) (simp places at (rw (c .enum-told .given .1) at (f .channels-from .ensures .seen)) ∙ ap (λ (x : ℕ). goes tt x) (omega arith))
 
 pub channels-body-spec : {M : Type 1} → statement M
 channels-body-spec =
@@ -120,6 +127,7 @@ channels-body-spec =
     between-requires
     add-t10
     returns
+    counts-ok-requires
     add-t12
     returns-2
     add-if3

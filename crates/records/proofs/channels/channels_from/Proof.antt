@@ -1,6 +1,7 @@
 -- `records::channels::channels_from` meets its contract: the channels up to i are passed. Assumes nothing.
 use Rattle.walk.specs.See.{see, ends}
 use Rattle.rules.specs.Rules.{channel, series}
+use Rattle.records.specs.Says.{groupOf}
 use Rattle.records.proofs.Steps.{series-stop, series-go, series-none}
 use borrow.Author.Needs.{needs}
 use native.Mathlib.Nat.{sub-zero}
@@ -12,10 +13,10 @@ use Rattle.records.proofs.channels.channels_from.Statement.{statement}
 use Rattle.records.proofs.channels.channels_from.Tie as tie
 
 abbrev Inv-loop : tie.InvT-loop
-Inv-loop o s base from count p₀ i₀ p i = (i ≤ count) × (p ≡ from + 256 * i) × (p ≤ length s) × (ends (see o base s (base + from) (series count 1 256 (length s - from) channel)) ≡ ends (see o base s (base + p) (series (count - i) (i + 1) 256 (length s - p) channel)))
+Inv-loop o g s base from count p₀ i₀ p i = (i ≤ count) × (p ≡ from + 256 * i) × (p ≤ length s) × (ends (see o base s (base + from) (series count 1 256 (length s - from) (channel (groupOf g .sub)))) ≡ ends (see o base s (base + p) (series (count - i) (i + 1) 256 (length s - p) (channel (groupOf g .sub)))))
 
 abbrev μ-loop : tie.MeasureT-loop
-μ-loop o s base from count p₀ i₀ p i = count - i
+μ-loop o g s base from count p₀ i₀ p i = count - i
 
 loop-holds : tie.Need-loop-holds Inv-loop μ-loop
 loop-holds c = (search needs, search needs, search needs, simp sub-zero)

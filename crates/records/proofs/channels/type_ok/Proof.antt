@@ -1,16 +1,45 @@
--- `records::channels::type_ok` meets its contract: the types are 0 to 18 and 20. Assumes nothing.
-use Rattle.walk.proofs.Seen.{tests}
-use Rattle.rules.specs.Rules.{isType}
+-- `records::channels::type_ok` meets its contract: one case for each group. Assumes nothing.
+use borrow.Author.Needs.{needs}
 use Rattle.records.proofs.channels.type_ok.Statement.{statement}
 use Rattle.records.proofs.channels.type_ok.Tie as tie
 
+enum-told : tie.Need-enum-told
+enum-told c = search needs
+
+is-type-requires : tie.Need-is-type-requires
+is-type-requires c κs = search needs
+
+enum-told-2 : tie.Need-enum-told-2
+enum-told-2 c = search needs
+
+is-type-requires-2 : tie.Need-is-type-requires-2
+is-type-requires-2 c κs = search needs
+
 returns : tie.Need-returns
-unfolding isType
-returns c = simp (tests, c .if1 .taken)
+returns c = simp (c .before .before .enum-told2 .given .1, ← c .before .is-type2 .ensures, c .if1 .taken)
+
+enum-told-3 : tie.Need-enum-told-3
+enum-told-3 c = search needs
 
 returns-2 : tie.Need-returns-2
-unfolding isType
-returns-2 c = simp (tests, c .if1 .left)
+returns-2 c = simp (c .before .enum-told .given .1) (c .is-type .ensures)
+
+returns-3 : tie.Need-returns-3
+returns-3 c = simp (c .before .before .enum-told2 .given .1, ← c .before .is-type2 .ensures, c .if1 .left)
+
+returns-4 : tie.Need-returns-4
+returns-4 c = search needs
 
 pub type-ok-spec : {M : Type 1} → statement M
-type-ok-spec = tie.close (tie.spec returns returns-2)
+type-ok-spec =
+    tie.close
+    (tie.spec
+    enum-told
+    is-type-requires
+    enum-told-2
+    is-type-requires-2
+    returns
+    enum-told-3
+    returns-2
+    returns-3
+    returns-4)

@@ -23,24 +23,24 @@ use Rattle.rewrite.proofs.recordings.file_anew.Tie as tie
 record Going (w : Way) (file : List ℕ) (count : ℕ) (out₀ out : List ℕ) (p k : ℕ) (before : Before) (i : ℕ) : Type 0 where
   fits : k ≤ length out₀
   same : length out ≡ length out₀
-  along : Along (w .from) file count p i before (λ done _. AfterHeader out₀ out k (render (w .to) (eventsOf 1 done)))
+  along : Along (w .from) (w .label) file count p i before (λ done _. AfterHeader out₀ out k (render (w .to) (eventsOf (w .label) 1 done)))
 
 abbrev Inv-loop : tie.InvT-loop
-Inv-loop o file count out₀ w p₀ k₀ before₀ i₀ out p k before i = Going w file count out₀ out p k before i
+Inv-loop o file count out₀ label w p₀ k₀ before₀ i₀ out p k before i = Going w file count out₀ out p k before i
 
 abbrev μ-loop : tie.MeasureT-loop
-μ-loop o file count out₀ w p₀ k₀ before₀ i₀ out p k before i = count - i
+μ-loop o file count out₀ label w p₀ k₀ before₀ i₀ out p k before i = count - i
 
 -- the start, from behind the header
 abbrev start : tie.After-out Inv-loop μ-loop → tie.Start Inv-loop μ-loop
-start c = c .before .before .before .before .before
+start c = c .before .before .before .before .before .before
 
 slice-aggregate-header : tie.Need-slice-aggregate-header Inv-loop μ-loop
-slice-aggregate-header c = sym (length-take-le 32 (c .before .before .before .args .out .now) (omega arith))
+slice-aggregate-header c = sym (length-take-le 32 (c .before .before .before .before .args .out .now) (omega arith))
 
 header-requires : tie.Need-header-requires Inv-loop μ-loop
 header-requires c κs =
-    let z = c .before .before .before in
+    let z = c .before .before .before .before in
     record { script = z .pre .script; few = omega (arith, z .pre .counts .few); room = length-take-le 32 (z .args .out .now) (omega arith) }
 
 loop-holds : tie.Need-loop-holds Inv-loop μ-loop
@@ -83,7 +83,7 @@ returns-2 : tie.Need-returns-2 Inv-loop μ-loop
 returns-2 c =
     let x = c .before .before .before in
     let z = start x in
-    λ ps e g room. whole-file (along-end (c .before .loop .inv .along) (c .loop-test .left) ps e g) (now (z .args .out)) _ _ (z .pre .header) (x .before .header .ensures) (x .out .given .1) refl (omega (arith, room, length-render (z .args .into) (eventsOf 1 ps)))
+    λ ps e g room. whole-file (along-end (c .before .loop .inv .along) (c .loop-test .left) ps e g) (now (z .args .out)) _ _ (z .pre .header) (x .before .header .ensures) (x .out .given .1) refl (omega (arith, room, length-render (z .args .into) (eventsOf (z .args .heading .label) 1 ps)))
 
 pub file-anew-spec : {M : Type 1} → statement M
 file-anew-spec =

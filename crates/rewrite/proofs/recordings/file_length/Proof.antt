@@ -8,6 +8,7 @@ use borrow.Author.Needs.{needs}
 use Rattle.words.specs.declared.Order.{Order}
 use Rattle.walk.specs.Walk.{size}
 use Rattle.rules.specs.Canonical as C
+use Rattle.rules.specs.declared.Label.{Label}
 use Rattle.descriptions.specs.declared.Before.{Before}
 use Rattle.children.proofs.Again.{Along, along-start, along-stop, along-fits, along-next, along-end}
 use Rattle.rewrite.specs.RecordingsAnew.{lengthAnew}
@@ -15,15 +16,15 @@ use Rattle.rewrite.proofs.Files.{length-most, counted-next}
 use Rattle.rewrite.proofs.recordings.file_length.Statement.{statement}
 use Rattle.rewrite.proofs.recordings.file_length.Tie as tie
 
-record Going (o : Order) (file : List ℕ) (count p sum : ℕ) (before : Before) (i : ℕ) : Type 0 where
+record Going (o : Order) (label : Label) (file : List ℕ) (count p sum : ℕ) (before : Before) (i : ℕ) : Type 0 where
   most : sum ≤ 32 + 549755813888 * i
-  along : Along o file count p i before (λ done _. sum ≡ lengthAnew done)
+  along : Along o label file count p i before (λ done _. sum ≡ lengthAnew label done)
 
 abbrev Inv-loop : tie.InvT-loop
-Inv-loop o file count p₀ sum₀ before₀ i₀ p sum before i = Going o file count p sum before i
+Inv-loop o label file count p₀ sum₀ before₀ i₀ p sum before i = Going o label file count p sum before i
 
 abbrev μ-loop : tie.MeasureT-loop
-μ-loop o file count p₀ sum₀ before₀ i₀ p sum before i = count - i
+μ-loop o label file count p₀ sum₀ before₀ i₀ p sum before i = count - i
 
 loop-holds : tie.Need-loop-holds Inv-loop μ-loop
 unfolding size C.recordingEvents

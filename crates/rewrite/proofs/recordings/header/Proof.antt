@@ -13,18 +13,18 @@ use Rattle.rewrite.proofs.recordings.header.Tie as tie
 
 -- from place to place: each piece is written behind the one before it
 abbrev start : tie.After-name → tie.Start
-start c = c .before .before .before
+start c = c .before .before .before .before
 
 abbrev to-name : tie.After-copy-run → tie.After-name
 to-name c = c .before .before .before .before .before
 
-abbrev to-version : tie.After-copy-run2 → tie.After-copy-run
-to-version c = c .before .before .before .before .before
+abbrev to-version : tie.After-form-digits → tie.After-copy-run
+to-version c = c .before .before .before .before
 
-abbrev to-form : tie.After-digits → tie.After-copy-run2
+abbrev to-form : tie.After-digits → tie.After-form-digits
 to-form c = c .before .before .before .before .before
 
-abbrev to-digits : tie.After-copy-run3 → tie.After-digits
+abbrev to-digits : tie.After-copy-run2 → tie.After-digits
 to-digits c = c .before .before .before .before .before
 
 -- what was known behind the form
@@ -32,10 +32,10 @@ abbrev far : tie.After-d4 → tie.After-d3
 far c = c .before .before .before .before .before
 
 slice-aggregate-name : tie.Need-slice-aggregate-name
-slice-aggregate-name c = sym (length-take-le 8 (c .before .before .args .d .now) (omega arith))
+slice-aggregate-name c = sym (length-take-le 8 (c .before .before .before .args .d .now) (omega arith))
 
 name-requires : tie.Need-name-requires
-name-requires c κs = length-take-le 8 (c .before .before .args .d .now) (omega arith)
+name-requires c κs = length-take-le 8 (c .before .before .before .args .d .now) (omega arith)
 
 slice-write-d-2 : tie.Need-slice-write-d-2
 slice-write-d-2 c = simp length-set (omega arith)
@@ -43,14 +43,14 @@ slice-write-d-2 c = simp length-set (omega arith)
 part-digits-end : tie.Need-part-digits-end
 part-digits-end c = simp length-set (omega arith)
 
-sub-copy-run-3 : tie.Need-sub-copy-run-3
-sub-copy-run-3 c = omega (arith, simp length-set at (c .before .before .d4 .given .1), far (c .before .before))
+sub-copy-run-2 : tie.Need-sub-copy-run-2
+sub-copy-run-2 c = omega (arith, simp length-set at (c .before .before .d4 .given .1), far (c .before .before))
 
-part-copy-run-start-3 : tie.Need-part-copy-run-start-3
-part-copy-run-start-3 c = omega (arith, simp length-set at (c .before .before .d4 .given .1), far (c .before .before))
+part-copy-run-start-2 : tie.Need-part-copy-run-start-2
+part-copy-run-start-2 c = omega (arith, simp length-set at (c .before .before .d4 .given .1), far (c .before .before))
 
-copy-run-requires-3 : tie.Need-copy-run-requires-3
-copy-run-requires-3 c κs = omega (arith, simp length-set at (c .before .before .before .d4 .given .1), far (c .before .before .before))
+copy-run-requires-2 : tie.Need-copy-run-requires-2
+copy-run-requires-2 c κs = omega (arith, simp length-set at (c .before .before .before .d4 .given .1), far (c .before .before .before))
 
 -- what was known of the buffer `d4`
 abbrev at-d4 : tie.After-slice-known6 → tie.After-d4
@@ -60,7 +60,7 @@ same-length : tie.Need-same-length
 same-length c = omega (arith, simp length-set at (at-d4 c .d4 .given .1), far (at-d4 c))
 
 returns : tie.Need-returns
-unfolding R.version R.form
+unfolding R.version
 returns c =
     let w = c .before .before in
     let y = to-digits w in
@@ -71,10 +71,10 @@ returns c =
     header-written (a .to) (headingOf (a .heading)) (a .count) _ (a .d .now) _ _ _ _ _ (start first .pre .room)
     (first .name .ensures)
     (version .copy-run .ensures)
-    (form .copy-run2 .ensures)
+    (form .form-digits .ensures)
     (y .before .before .letter .ensures)
     (y .digits .ensures)
-    (w .copy-run3 .ensures)
+    (w .copy-run2 .ensures)
 
 pub header-spec : {M : Type 1} → statement M
 header-spec =
@@ -91,7 +91,6 @@ header-spec =
     (λ c. search needs)
     (λ c. search needs)
     (λ c. search needs)
-    (λ c. search needs)
     (λ c κs. search needs)
     (λ c κs. search needs)
     (λ c. search needs)
@@ -102,9 +101,9 @@ header-spec =
     part-digits-end
     (λ c κs. search needs)
     (λ c. search needs)
-    sub-copy-run-3
-    part-copy-run-start-3
+    sub-copy-run-2
+    part-copy-run-start-2
     (λ c. search needs)
-    copy-run-requires-3
+    copy-run-requires-2
     same-length
     returns)

@@ -38,7 +38,7 @@ returns c =
     let y = c .before .before in
     let z = y .before .before .before in
     let t = rw (c .enum-told .given .1) at (y .measure-at .ensures .told) in
-    record { inside = z .pre .target; wrote = λ clear held x v. absurd (t held (z .args .i) x v) }
+    record { inside = z .pre .target; wrote = λ clear held x v. absurd (t (z .args .w .label) held (z .args .i) x v) }
 
 returns-2 : tie.Need-returns-2
 returns-2 c =
@@ -48,7 +48,7 @@ returns-2 c =
     let a = z .args in
     record {
       inside = z .pre .target;
-      wrote = λ clear held x v room. absurd (omega (arith, c .if1 .taken, room, recording-length (a .w .to) (a .i) (x .recording) (measure m .whole) (known m .told held (a .i) x v .whole)));
+      wrote = λ clear held x v room. absurd (omega (arith, c .if1 .taken, room, recording-length (a .w .to) (a .w .label) (a .i) (x .recording) (measure m .whole) (known m .told (a .w .label) held (a .i) x v .whole)));
     }
 
 add-from : tie.Need-add-from

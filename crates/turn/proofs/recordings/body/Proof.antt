@@ -19,8 +19,8 @@ use Rattle.turn.proofs.recordings.body.Tie as tie
 abbrev Inv-loop : tie.InvT-loop
 Inv-loop w file cs s base out₀ k o p₀ next₀ out p next =
     (p ≤ length s) × (next ≤ length out) × (length out ≡ length out₀) ×
-    ((held : Option Held) (h : Head) (x : Placed) (e : ℕ) → span h ≡ 16 + length s → ChannelsStand (w .from) file cs (x .recording .channels) → see (w .from) base s base (recordingBody held h) ≡ goes x e →
-    SentUpTo w base s (knownOf x) out₀ out k next p (copy w base s base (recordingBody held h)))
+    ((held : Option Held) (h : Head) (x : Placed) (e : ℕ) → span h ≡ 16 + length s → ChannelsStand (w .from) file cs (x .recording .channels) → see (w .from) base s base (recordingBody (w .label) held h) ≡ goes x e →
+    SentUpTo w base s (knownOf x) out₀ out k next p (copy w base s base (recordingBody (w .label) held h)))
 
 abbrev μ-loop : tie.MeasureT-loop
 μ-loop w file cs s base out₀ k o p₀ next₀ out p next = length s - p

@@ -20,13 +20,13 @@ use Rattle.turn.proofs.recordings.file_turned.Tie as tie
 record Going (w : Way) (file : List ℕ) (count : ℕ) (out₀ out : List ℕ) (p : ℕ) (before : Before) (i : ℕ) : Type 0 where
   room : length file ≤ length out₀
   same : length out ≡ length out₀
-  along : Along (w .from) file count p i before (λ _ l. AfterHeader out₀ out p (sentOf w l))
+  along : Along (w .from) (w .label) file count p i before (λ _ l. AfterHeader out₀ out p (sentOf w l))
 
 abbrev Inv-loop : tie.InvT-loop
-Inv-loop o file count out₀ w p₀ before₀ i₀ out p before i = Going w file count out₀ out p before i
+Inv-loop o label file count out₀ w p₀ before₀ i₀ out p before i = Going w file count out₀ out p before i
 
 abbrev μ-loop : tie.MeasureT-loop
-μ-loop o file count out₀ w p₀ before₀ i₀ out p before i = count - i
+μ-loop o label file count out₀ w p₀ before₀ i₀ out p before i = count - i
 
 -- the start and the other order, from behind the header
 abbrev start : tie.After-out Inv-loop μ-loop → tie.Start Inv-loop μ-loop
@@ -37,7 +37,7 @@ at-other c = c .before .before .before .before
 
 -- the way from order to order
 abbrev way : tie.After-out Inv-loop μ-loop → Way
-way c = record { from = start c .args .o; to = at-other c .other .result; keep = true }
+way c = record { from = start c .args .o; label = start c .args .label; to = at-other c .other .result; keep = true }
 
 -- what was known at the start, and behind `recording-again`
 abbrev near-start : tie.After-header-arg Inv-loop μ-loop → tie.Start Inv-loop μ-loop

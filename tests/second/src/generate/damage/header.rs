@@ -3,7 +3,7 @@
 use super::{small_plan, valid};
 use crate::generate::draw;
 use crate::generate::sheet::{write, Sheet};
-use crate::header::{self, Form};
+use crate::header;
 use crate::random::Random;
 
 /// Nearly one of the two spellings: part of each, other letters, another place.
@@ -25,6 +25,10 @@ pub const NO_IDENTIFIERS: [&[u8; header::IDENTIFIER_LENGTH]; 16] = [
     b"JSSR-PS\0",
     b"PSG-JSSR",
 ];
+
+/// Nearly one of the two forms.
+pub const NO_FORMS: [&[u8; header::FORM_LENGTH]; 7] =
+    [b"02", b"02", b"10", b"11", b"1 ", b" 1", b"0 "];
 
 pub fn wrong_header(random: &mut Random) -> Sheet {
     const FIELDS: usize = 7;
@@ -69,7 +73,7 @@ fn spoil_header(random: &mut Random, bytes: &mut [u8], field: usize) {
     match field {
         0 => spoil_text(random, bytes, header::IDENTIFIER_AT, &NO_IDENTIFIERS),
         1 => spoil_text(random, bytes, header::VERSION_AT, &[b"000200"]),
-        2 => spoil_text(random, bytes, header::FORM_AT, no_forms()),
+        2 => spoil_text(random, bytes, header::FORM_AT, &NO_FORMS),
         3 => bytes[header::ORDER_AT] = random.pick(b"lbLB X\0M"),
         4 => bytes[header::SCRIPT_AT] = random.pick(b"sjeuSJEU AT\0"),
         5 => spoil_digits(random, bytes),
@@ -77,15 +81,6 @@ fn spoil_header(random: &mut Random, bytes: &mut [u8], field: usize) {
             let spaces = header::LENGTH - header::SPACES_AT;
             bytes[header::SPACES_AT + random.below(spaces)] = random.pick(b"\0!0\n\x1fX");
         }
-    }
-}
-
-/// Forms that are not read; the electrode form as long as it is not.
-fn no_forms() -> &'static [&'static [u8; header::FORM_LENGTH]] {
-    if Form::Electrodes.is_read() {
-        &[b"02", b"02", b"10", b"11", b"1 ", b" 1", b"0 "]
-    } else {
-        &[b"01"]
     }
 }
 

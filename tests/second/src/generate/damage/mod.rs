@@ -10,12 +10,11 @@ mod noise;
 mod padding;
 mod parts;
 
-pub use header::NO_IDENTIFIERS;
+pub use header::{NO_FORMS, NO_IDENTIFIERS};
 
 use super::draw::{self, Shape, SMALL};
 use super::plan::{FilePlan, RecordingPlan};
 use super::sheet::{write, Sheet};
-use crate::header::Form;
 use crate::judge::judge;
 use crate::random::Random;
 
@@ -51,10 +50,6 @@ const DAMAGES: &[(usize, Damage)] = &[
     (1, noise::order_mistaken),
     (1, noise::garbage),
     (1, length::about_the_listing_limit),
-];
-
-/// Those of the electrode form.
-const ELECTRODE_DAMAGES: &[(usize, Damage)] = &[
     (12, electrodes::wrong_montage_field),
     (12, electrodes::wrong_lead),
     (8, electrodes::montage_disagrees),
@@ -67,11 +62,7 @@ const TWICE_PERCENT: usize = 25;
 
 /// A file with one of the damages, or two.
 pub fn draw_damaged(random: &mut Random) -> Sheet {
-    let damage = if Form::Electrodes.is_read() {
-        random.pick_weighted(&[DAMAGES, ELECTRODE_DAMAGES].concat())
-    } else {
-        random.pick_weighted(DAMAGES)
-    };
+    let damage = random.pick_weighted(DAMAGES);
     let mut sheet = damage(random);
     if random.chance(TWICE_PERCENT) {
         // Which of the two is met first depends on the order of the tests.
