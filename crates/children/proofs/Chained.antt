@@ -20,7 +20,7 @@ use Rattle.rules.specs.Rules.{Head, Basic, Group, channelsGroup, montageGroup, 
 use Rattle.rules.specs.declared.Label.{Label}
 use Rattle.rules.proofs.Cases.{by-form}
 use Rattle.rules.proofs.Room.{Rests, stays-head, stays-admit, stays-basicBody, stays-basic, stays-channelsRest, stays-montageRest, stays-itemsRest, stays-framesRest, stays-delimiter}
-use Rattle.records.specs.Says.{isGroup, Told}
+use Rattle.records.specs.Says.{isGroup, CodeTells}
 use Rattle.records.proofs.Groups.{told-channels, told-montage}
 use Rattle.records.proofs.Opened.{require-went}
 use Rattle.children.specs.Children.{Said, said, _then_, Known, knownOf, basicRest, makerRest, Reads, Heads, heading, Inner, is100, isSubs, is130, is200, is140, isMaker, Links, more, last, Chain, Closed}
@@ -274,7 +274,7 @@ module _ (o : Order) (b : ℕ) (s : List ℕ) (kn : Known) where
   montage-reads label cs p room h l = by-form (λ x. Reads o b s p (montage x cs room h) l → Reads o b s p (channels (montageGroup (length cs)) room h) l) (λ r. stops-goes (r .is)) (λ r. r) label
 
   -- a record that holds subs is no 140
-  subs-other : (g : Group) → Told g → g .code ≡ 140 → ⊥
+  subs-other : (g : Group) → CodeTells g → g .code ≡ 140 → ⊥
   unfolding isGroup
   subs-other g t e = false-true (sym (ap isGroup e) ∙ t .group)
 

@@ -12,7 +12,7 @@ use Rattle.walk.specs.Tell.{tell}
 use Rattle.walk.specs.Trace.{trace}
 use Rattle.rules.specs.declared.Head as At
 use Rattle.rules.specs.Rules.{Head, Basic, Group, Channel, Placed, head, basicRule, makerRule, anyRule, admitBy, span, basicBody, channels, items, patientCode, eventCode, frames, makerCode, delimiter, padding}
-use Rattle.records.specs.Says.{headOf, Told}
+use Rattle.records.specs.Says.{headOf, CodeTells}
 use Rattle.children.specs.declared.Direct.{Direct}
 use Rattle.children.specs.declared.Direct.the-variants as Direct
 
@@ -65,7 +65,7 @@ module _ (o : Order) (b : ℕ) (s : List ℕ) (p : ℕ) where
   -- a record that may stand in a recording, by its code
   pub data Inner (k : Known) (h : Head) (l : Said) : Type 0 where
     is100 : h .code ≡ 100 → Reads (basicRest (length s - p) h) l → Inner k h l
-    isSubs : (g : Group) → Told g → h .code ≡ g .code → Reads (channels g (length s - p) h) l → Inner k h l
+    isSubs : (g : Group) → CodeTells g → h .code ≡ g .code → Reads (channels g (length s - p) h) l → Inner k h l
     is130 : h .code ≡ 130 → Reads (items patientCode (length s - p) h) l → Inner k h l
     is200 : h .code ≡ 200 → Reads (items eventCode (length s - p) h) l → Inner k h l
     is140 : h .code ≡ 140 → Reads (frames (k .basic) (k .own) (k .channels) (k .back) (length s - p) h) l → Inner k h l

@@ -19,22 +19,14 @@ use Rattle.walk.specs.See.{Verdict, gate, see, stops, goes}
 use Rattle.walk.specs.Walk.{pick, swap, laid, Letter, _>>=_, _>>_}
 use Rattle.walk.proofs.Apart.{zero-one}
 use Rattle.walk.proofs.Laid.{laid-text}
-use Rattle.rules.specs.Rules.{between, sameBytes, isOneOf, oneOf, isSpelling, spellingOf, version, isForm, formOf, allSpaces, isDigit, decimal, countOf, countFits, countIs, isScript, FileHeader, fileHeader, orderOf}
+use Rattle.rules.specs.Rules.{between, sameBytes, oneOf, isSpelling, spellingOf, version, isForm, formOf, allSpaces, isDigit, decimal, countOf, countFits, countIs, isScript, FileHeader, fileHeader, orderOf}
 use Rattle.header.specs.Letters.{lettered}
 use Rattle.header.specs.Opened.{names}
 use Rattle.header.specs.declared.Lettered.{Lettered}
 use Rattle.header.specs.declared.Lettered.the-variants as Lettered
 
--- bytes that name one of two things, by the answers of the comparisons with their texts
+-- which of two things bytes name, by the answer of the comparison with the text of the first
 module _ {A : Type 0} (text : A → List ℕ) (a b : A) (bs : List ℕ) (x : Bool) (is : x ≡ sameBytes bs (text a)) where
-  pub is-first : x ≡ true → true ≡ isOneOf text a b bs
-  unfolding isOneOf
-  is-first e = simp (← is, e)
-
-  pub is-second : x ≡ false → (y : Bool) → y ≡ sameBytes bs (text b) → y ≡ isOneOf text a b bs
-  unfolding isOneOf
-  is-second e y f = simp (← is, e, ← f)
-
   pub names-first : x ≡ true → a ≡ oneOf text a b bs
   unfolding oneOf
   names-first e = simp (← is, e)

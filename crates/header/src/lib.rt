@@ -1,4 +1,5 @@
 // The file header: 32 bytes, all ASCII.
+ghost use mathlib.Core.Bool.{_||_};
 ghost use mathlib.Core.Path.{_≡_};
 ghost use Prim.Native.Nat.{_≤_};
 ghost use lib.ListN.{length, drop};
@@ -48,16 +49,17 @@ pub fn order_of(letter: u32) -> Lettered
     Lettered::Nothing
 }
 
-// Whether bytes are a spelling of the format's name, and which.
-fn is_spelling(name: &[u8]) -> bool
-    ensures { λ r. ⌜ r ≡ R.isSpelling (now (name .entry)) ⌝ }
+// Whether bytes are one of two texts.
+fn is_one_of(bytes: &[u8], first: &[u8], second: &[u8]) -> bool
+    ensures { λ r. ⌜ r ≡ (R.sameBytes (now (bytes .entry)) (now (first .entry)) || R.sameBytes (now (bytes .entry)) (now (second .entry))) ⌝ }
 {
-    if same(name, b"JSSR-SPG") {
+    if same(bytes, first) {
         return true;
     }
-    same(name, b"JSSR-PSG")
+    same(bytes, second)
 }
 
+// Which spelling a name is that is one of the two.
 fn spelling_of(name: &[u8]) -> Spelling
     ensures { λ r. ⌜ r ≡ R.spellingOf (now (name .entry)) ⌝ }
 {
@@ -117,16 +119,7 @@ fn count_of(s: &[u8]) -> u32
     value
 }
 
-// Whether bytes are the digits of a form, and of which.
-fn is_form(digits: &[u8]) -> bool
-    ensures { λ r. ⌜ r ≡ R.isForm (now (digits .entry)) ⌝ }
-{
-    if same(digits, b"00") {
-        return true;
-    }
-    same(digits, b"01")
-}
-
+// Which form digits name that are those of one of the two.
 fn form_of(digits: &[u8]) -> Form
     ensures { λ r. ⌜ r ≡ R.formOf (now (digits .entry)) ⌝ }
 {
@@ -144,14 +137,14 @@ pub fn file_header(s: &[u8]) -> Opened
         return Opened::Stop(Refusal(1, 0));
     }
     let name = &s[FileHeader::IDENTIFIER..FileHeader::VERSION];
-    if !is_spelling(name) {
+    if !is_one_of(name, b"JSSR-SPG", b"JSSR-PSG") {
         return Opened::Stop(Refusal(2, FileHeader::IDENTIFIER));
     }
     if !same(&s[FileHeader::VERSION..FileHeader::FORM], b"000300") {
         return Opened::Stop(Refusal(3, FileHeader::VERSION));
     }
     let digits = &s[FileHeader::FORM..FileHeader::ORDER];
-    if !is_form(digits) {
+    if !is_one_of(digits, b"00", b"01") {
         return Opened::Stop(Refusal(4, FileHeader::FORM));
     }
     let letter = order_of(byte(s, FileHeader::ORDER));

@@ -1,8 +1,8 @@
 -- The events that a walk accepted over the bytes, with every byte that is not judged zero, are those that the canonical form writes of what it gave.
 -- Assumes nothing.
 use mathlib.Core.Path.{_≡_, refl, _∙_}
-use mathlib.Core.List.{List, [], _++_, append-assoc}
-use mathlib.Core.Option.{Option, some}
+use mathlib.Core.List.{List, _++_, append-assoc}
+use mathlib.Core.Option.{Option}
 use Prim.Native.Nat.{ℕ, _+_, _-_, _≤_, _<_}
 use native.Mathlib.Omega.{arith}
 use lib.ListN.{length, drop}
@@ -15,13 +15,13 @@ use Rattle.walk.specs.See.{goes, see, Stays}
 use Rattle.walk.specs.Trace.{trace}
 use Rattle.walk.proofs.Apart.{stops-goes}
 use Rattle.walk.proofs.Laws.{read-of}
-use Rattle.walk.proofs.Seen.{seen, stays-bind}
+use Rattle.walk.proofs.Seen.{seen}
 use Rattle.walk.proofs.Tracing.{traces}
 use Rattle.walk.proofs.Went.{goes-same}
 use Rattle.rules.specs.Canonical.{numerals, recordOf, framesHead, framesWritten, makerEvents, delimiterEvents, content}
-use Rattle.rules.specs.Rules.{channelsGroup, channels, montage, items, patientCode, eventCode, Frame, Maker, Next, next, Held, heldChannels, heldPatient, Descriptions, descriptions}
+use Rattle.rules.specs.Rules.{Frame, Maker, Next, next, Held, Descriptions, descriptions}
 use Rattle.rules.specs.declared.Label.{Label}
-use Rattle.rules.proofs.Room.{Behind, stays-basic, stays-next, stays-part, stays-channelsRest, stays-montageRest, stays-itemsRest}
+use Rattle.rules.proofs.Room.{stays-next, stays-descriptions}
 use Rattle.rules.proofs.Written.{tablesEvents, tables-written, next-written}
 use Rattle.measures.proofs.Canonic.{bare}
 
@@ -36,23 +36,10 @@ trace-plays {A} o b s L fit bytes w at Q {a} {e} g h k = go (run o at (drop (at 
         let v = rw i at (seen o b s L fit w at Q g h) ∙ k in
         rw (← traces o b s L fit w at Q g h i, ← goes-same v .0) (read-of w o at (drop (at - b) s) (bytes-drop (at - b) s bytes) i .plays)
 
--- the tables of a recording of n bytes stay in it
-pub stays-tables : (label : Label) (held : Option Held) (n at : ℕ) → Stays (at + (n - 16)) at (descriptions label held n) (λ t e. Behind (at + (n - 16)) n (t .montage .next) e)
-unfolding descriptions
-stays-tables label held n at =
-    let L : ℕ = at + (n - 16) in
-    stays-bind _ _ _ _ _ _ (stays-basic at (n - 16))
-    (λ b e₁ q₁. stays-bind _ _ _ _ _ _ (stays-next n (n - 144) n L e₁ (omega (arith, q₁)) (omega (arith, q₁)) (omega (arith, q₁)))
-    (λ r e₂ q₂. stays-bind _ _ _ _ _ _ (stays-part n _ _ (stays-channelsRest (channelsGroup label (b .channels))) (heldChannels held) r L e₂ q₂)
-    (λ c e₃ q₃. stays-bind _ _ _ _ _ _ (stays-part n 130 (items patientCode) (stays-itemsRest patientCode) (heldPatient held) (c .next) L e₃ q₃)
-    (λ p e₄ q₄. stays-bind _ _ _ _ _ _ (stays-part n 200 (items eventCode) (stays-itemsRest eventCode) (some []) (p .next) L e₄ q₄)
-    (λ e e₅ q₅. stays-bind _ _ _ _ _ _ (stays-part n 350 (montage label (c .value)) (stays-montageRest label (c .value)) (some []) (e .next) L e₅ q₅)
-    (λ m e₆ q₆. q₆))))))
-
 module _ (o : Order) (b : ℕ) (s : List ℕ) (bytes : Bytes s) where
   pub tables-bare : (label : Label) (held : Option Held) (n : ℕ) {t : Descriptions} {e : ℕ} → n ≤ length s + 16 → see o b s b (descriptions label held n) ≡ goes t e →
       bare o b s b (descriptions label held n) ≡ tablesEvents label t ++ numerals (t .montage .next .head)
-  tables-bare label held n l g = tables-written label held n (trace-plays o b s (b + (n - 16)) (omega arith) bytes (descriptions label held n) b _ (omega arith) (stays-tables label held n b) g)
+  tables-bare label held n l g = tables-written label held n (trace-plays o b s (b + (n - 16)) (omega arith) bytes (descriptions label held n) b _ (omega arith) (stays-descriptions label held n b) g)
 
   -- makers' records and the head of another, with room up to the end of the part
   pub next-bare : (fuel at : ℕ) {n : Next} {e : ℕ} → b ≤ at → at ≤ b + length s → b + length s < at + fuel → see o b s at (next fuel (b + length s - at)) ≡ goes n e →

@@ -23,7 +23,7 @@ use Rattle.walk.proofs.Went.{gate-went, goes-same, by-onward, by-went, by-then}
 use Rattle.rules.specs.Rules.{Head, head, span, padOk, padding, basic, channels, Frame, Frames, frames, Maker, Next, next, Held, Placed, contentLimit, delimiter, recordingBody, recording, Descriptions, descriptions, signals}
 use Rattle.rules.specs.declared.Label.{Label}
 use Rattle.rules.specs.Canonical.{recordOf, framesBytes, framesHead, framesWritten, makerEvents, delimiterHead, delimiterEvents, content, most, sizeFor, multiplierFor}
-use Rattle.rules.proofs.Room.{Behind, stays-next, stays-framesRest}
+use Rattle.rules.proofs.Room.{Behind, stays-next, stays-descriptions, stays-framesRest}
 use Rattle.rules.proofs.Renew.{FramesOk, frames-ok, frames-size, next-ok}
 use Rattle.rules.proofs.Sized.{sized}
 use Rattle.rules.proofs.Written.{tablesEvents}
@@ -31,7 +31,7 @@ use Rattle.records.proofs.Opened.{require-went}
 use Rattle.children.proofs.Chained.{tables-leads}
 use Rattle.children.proofs.Recordings.{Within}
 use Rattle.measures.specs.Measures.{mostServed}
-use Rattle.measures.proofs.Chained.{trace-plays, stays-tables, tables-bare, content-tables}
+use Rattle.measures.proofs.Chained.{trace-plays, tables-bare, content-tables}
 
 -- a walk that went on over bytes: what holds of its answer, and that it accepts the events that it read
 record Heard {A : Type 0} (w : Walk A) (Q : A → ℕ → Type 0) (a : A) (e : ℕ) : Type 0 where
@@ -59,14 +59,14 @@ unfolding size
 tables-told o label b s bytes held n {t} {m} l g =
     let fit : b + (n - 16) ≤ b + length s = omega arith in
     let r = tables-bare o b s bytes label held n (omega arith) g in
-    let e = size-trace o b s (b + (n - 16)) fit (descriptions label held n) b _ (omega arith) (stays-tables label held n b) g in
+    let e = size-trace o b s (b + (n - 16)) fit (descriptions label held n) b _ (omega arith) (stays-descriptions label held n b) g in
     let z = sym (size-cleared (trace o b s b (descriptions label held n))) ∙ (ap size r ∙ size-append (tablesEvents label t) _) in
     let d = tables-leads o b s (record { basic = t .basic; own = t .channels .own; channels = t .channels .value; back = 0 }) label held n l g in
     record {
       held = held;
       went = g;
       long = omega (arith, e, z);
-      behind = stays-goes o b s (b + (n - 16)) fit (descriptions label held n) b _ (omega arith) (stays-tables label held n b) g;
+      behind = stays-goes o b s (b + (n - 16)) fit (descriptions label held n) b _ (omega arith) (stays-descriptions label held n b) g;
       heads = moved o b s head (b + d .to) (m - 16) (length s - d .to) (t .montage .next .room) (b + (d .to + 16)) m (omega (arith, d .end)) (sym (d .stands .room)) (sym (d .end)) (d .stands .heads);
     }
 

@@ -7,17 +7,17 @@ use Rattle.rules.proofs.Cases.{by-form}
 use Rattle.rules.specs.declared.Label.{Label}
 use Rattle.rules.specs.declared.Group.{Group}
 use Rattle.rules.specs.declared.Group.the-variants as Group
-use Rattle.records.specs.Says.{groupOf, isGroup, subCode, shapeOf, Told}
+use Rattle.records.specs.Says.{groupOf, isGroup, subCode, shapeOf, CodeTells}
 
-pub told-group : (g : Group) → Told (groupOf g)
+pub told-group : (g : Group) → CodeTells (groupOf g)
 unfolding isGroup subCode shapeOf
 told-group (Group.Channels n) = record { group = refl; code = refl; shape = record { calibrated = refl; wired = refl } }
 told-group (Group.Electrodes n) = record { group = refl; code = refl; shape = record { calibrated = refl; wired = refl } }
 told-group (Group.Montage n) = record { group = refl; code = refl; shape = record { calibrated = refl; wired = refl } }
 
-pub told-channels : (label : Label) (n : ℕ) → Told (R.channelsGroup label n)
+pub told-channels : (label : Label) (n : ℕ) → CodeTells (R.channelsGroup label n)
 unfolding R.channelsGroup
-told-channels label n = by-form (λ l. Told (R.channelsGroup l n)) (told-group (Group.Channels n)) (told-group (Group.Electrodes n)) label
+told-channels label n = by-form (λ l. CodeTells (R.channelsGroup l n)) (told-group (Group.Channels n)) (told-group (Group.Electrodes n)) label
 
-pub told-montage : (n : ℕ) → Told (R.montageGroup n)
+pub told-montage : (n : ℕ) → CodeTells (R.montageGroup n)
 told-montage n = told-group (Group.Montage n)

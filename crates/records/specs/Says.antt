@@ -78,7 +78,7 @@ pub record HasShape (u : R.Sub) (k : Shape) : Type 0 where
   pub wired : u .wired ≡ k .wired
 
 -- a group of which its code tells this
-pub record Told (g : R.Group) : Type 0 where
+pub record CodeTells (g : R.Group) : Type 0 where
   pub group : isGroup (g .code) ≡ true
   pub code : g .sub .code ≡ subCode (g .code)
   pub shape : HasShape (g .sub) (shapeOf (g .code))

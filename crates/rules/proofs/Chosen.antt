@@ -13,7 +13,7 @@ use lib.ListN.{length, replicate}
 use Rattle.walk.specs.Plays.{Plays}
 use Rattle.walk.specs.Walk.{Padding, Event, numeral, piece, row, size, cleared, give, _>>=_, _>>_}
 use Rattle.walk.proofs.Laws.{by-parts, by-check, taken, plays-gave, traced, size-append, size-cleared, zeros-length}
-use Rattle.rules.specs.Canonical.{blanks, zeroes, numerals, rowOf, plainHead, recordOf, basicFields, channelsHead, channelsWritten, itemsHead, itemsWritten, sampleEvents, frameSize, frameEvents, framesHead, framesWritten, makerEvents, optional, delimiterHead, delimiterEvents, ownGroup, overGroup, content}
+use Rattle.rules.specs.Canonical.{blanks, zeroes, numerals, rowOf, plainHead, recordOf, basicFields, channelsHead, channelsWritten, itemsHead, itemsWritten, sampleEvents, frameSize, frameEvents, framesHead, framesWritten, makerEvents, optional, delimiterHead, delimiterEvents, channelsGroupOf, montageGroupOf, content}
 use Rattle.rules.specs.Rules.{padding, zeros, series, limit, Head, head, span, admit, Basic, Label, Channel, sampleBytes, samples, Frame, frame, frameBody, Frames, frames, framesBody, next, Recording, Held, countBack, delimiter, Placed, descriptions, signals, recordingBody, recording}
 use Rattle.rules.proofs.Asked.{recording-found}
 use Rattle.rules.proofs.Places.{frames-found}
@@ -115,10 +115,10 @@ delimiter-chosen h p =
 pub front : Label → Recording → List Event
 front label r =
     recordOf (plainHead 128 100 0) (basicFields (r .basic)) ++ (makerEvents (r .makers₁) ++
-    (optional (r .ownChannels) (recordOf (channelsHead (ownGroup label r) (r .channels)) (channelsWritten (ownGroup label r) (r .channels)) ++ makerEvents (r .makers₂)) ++
+    (optional (r .ownChannels) (recordOf (channelsHead (channelsGroupOf label r) (r .channels)) (channelsWritten (channelsGroupOf label r) (r .channels)) ++ makerEvents (r .makers₂)) ++
     (optional (r .ownPatient) (recordOf (itemsHead 130 (r .patient)) (itemsWritten (r .patient)) ++ makerEvents (r .makers₃)) ++
     (optional (r .ownEvents) (recordOf (itemsHead 200 (r .events)) (itemsWritten (r .events)) ++ makerEvents (r .makers₄)) ++
-    optional (r .ownMontage) (recordOf (channelsHead (overGroup r) (r .montage)) (channelsWritten (overGroup r) (r .montage)) ++ makerEvents (r .makers₅))))))
+    optional (r .ownMontage) (recordOf (channelsHead (montageGroupOf r) (r .montage)) (channelsWritten (montageGroupOf r) (r .montage)) ++ makerEvents (r .makers₅))))))
 
 -- with these heads, this frame length, the frames' events and so much padding behind the delimiter
 abbrev pub shaped : Label → Recording → Head → Head → ℕ → List Event → ℕ → List Event

@@ -14,7 +14,7 @@ use Rattle.walk.specs.Plays.{Plays, gives, checks, lists}
 use Rattle.walk.specs.Walk.{Event, row, size, Walk, give, refuse, _>>=_, _>>_}
 use Rattle.walk.proofs.Apart.{false-true}
 use Rattle.walk.proofs.Laws.{plays-bind, plays-split, plays-give, traced, size-append, by-split, by-check, by-read, plays-gave}
-use Rattle.rules.specs.Canonical.{zeroes, numerals, rowOf, plainHead, recordOf, basicFields, channelsHead, channelsWritten, itemsHead, itemsWritten, frameSize, framesBytes, framesHead, framesWritten, makerEvents, optional, delimiterHead, delimiterEvents, ownGroup, overGroup, content}
+use Rattle.rules.specs.Canonical.{zeroes, numerals, rowOf, plainHead, recordOf, basicFields, channelsHead, channelsWritten, itemsHead, itemsWritten, frameSize, framesBytes, framesHead, framesWritten, makerEvents, optional, delimiterHead, delimiterEvents, channelsGroupOf, montageGroupOf, content}
 use Rattle.rules.specs.Rules.{between, padding, padded, makerCode, zeros, Label, Head, head, lengthOf, span, admit, padOk, basicBody, basic, Group, channelsGroup, montageGroup, Channel, channels, Item, items, patientCode, eventCode, frames, Maker, Held as Inherited, Next, next, Part, part, Recording, heldChannels, heldPatient, contentLimit, delimiter, Layout, Placed, recording, montage, frame, signals}
 use Rattle.rules.specs.declared.Form.the-variants as Form
 use Rattle.rules.proofs.Cases.{by-form}
@@ -103,7 +103,7 @@ montage-channels label cs ms = by-form (λ l. MontageOk l cs ms → ChannelsOk (
 pub record RecordingOk (label : Label) (held : Option Inherited) (r : Recording) : Type 0 where
   pub basic : Plays (basicFields (r .basic)) basicBody (r .basic)
   pub makers₁ : All MakerOk (r .makers₁)
-  pub channels : PartOk (ChannelsOk (ownGroup label r)) (heldChannels held) (r .ownChannels) (r .channels) (r .makers₂)
+  pub channels : PartOk (ChannelsOk (channelsGroupOf label r)) (heldChannels held) (r .ownChannels) (r .channels) (r .makers₂)
   pub patient : PartOk (ItemsOk patientCode) (heldPatient held) (r .ownPatient) (r .patient) (r .makers₃)
   pub events : PartOk (ItemsOk eventCode) (some []) (r .ownEvents) (r .events) (r .makers₄)
   pub montage : PartOk (MontageOk label (r .channels)) (some []) (r .ownMontage) (r .montage) (r .makers₅)
@@ -113,7 +113,7 @@ pub record RecordingOk (label : Label) (held : Option Inherited) (r : Recording)
 
 -- the lengths of the parts
 partC : Label → Recording → ℕ
-partC label r = size (optional (r .ownChannels) (channelsRecord (ownGroup label r) (r .channels) ++ makerEvents (r .makers₂)))
+partC label r = size (optional (r .ownChannels) (channelsRecord (channelsGroupOf label r) (r .channels) ++ makerEvents (r .makers₂)))
 
 partP : Recording → ℕ
 partP r = size (optional (r .ownPatient) (itemsRecord 130 (r .patient) ++ makerEvents (r .makers₃)))
@@ -122,7 +122,7 @@ partE : Recording → ℕ
 partE r = size (optional (r .ownEvents) (itemsRecord 200 (r .events) ++ makerEvents (r .makers₄)))
 
 partM : Recording → ℕ
-partM r = size (optional (r .ownMontage) (channelsRecord (overGroup r) (r .montage) ++ makerEvents (r .makers₅)))
+partM r = size (optional (r .ownMontage) (channelsRecord (montageGroupOf r) (r .montage) ++ makerEvents (r .makers₅)))
 
 spanF : Recording → ℕ
 spanF r = span (framesHead (r .seconds) (r .channels) (r .frames))
@@ -139,10 +139,10 @@ content-size label r b f =
       record-size,
       basic-size b,
       size-append (makerEvents (r .makers₁)),
-      size-append (optional (r .ownChannels) (recordOf (channelsHead (ownGroup label r) (r .channels)) (channelsWritten (ownGroup label r) (r .channels)) ++ makerEvents (r .makers₂))),
+      size-append (optional (r .ownChannels) (recordOf (channelsHead (channelsGroupOf label r) (r .channels)) (channelsWritten (channelsGroupOf label r) (r .channels)) ++ makerEvents (r .makers₂))),
       size-append (optional (r .ownPatient) (recordOf (itemsHead 130 (r .patient)) (itemsWritten (r .patient)) ++ makerEvents (r .makers₃))),
       size-append (optional (r .ownEvents) (recordOf (itemsHead 200 (r .events)) (itemsWritten (r .events)) ++ makerEvents (r .makers₄))),
-      size-append (optional (r .ownMontage) (recordOf (channelsHead (overGroup r) (r .montage)) (channelsWritten (overGroup r) (r .montage)) ++ makerEvents (r .makers₅))),
+      size-append (optional (r .ownMontage) (recordOf (channelsHead (montageGroupOf r) (r .montage)) (channelsWritten (montageGroupOf r) (r .montage)) ++ makerEvents (r .makers₅))),
       size-append (recordOf (framesHead (r .seconds) (r .channels) (r .frames)) (framesWritten (r .seconds) (r .channels) (r .frames))),
       frames-size (r .basic) (r .ownChannels) (r .channels) (r .seconds) (r .frames) f,
       size-append (makerEvents (r .makers₆)),
@@ -228,7 +228,7 @@ module _ (r : Recording) where
   h140 = framesHead (r .seconds) (r .channels) (r .frames)
 
   h350 : Head
-  h350 = pick (r .ownMontage) (channelsHead (overGroup r) (r .montage)) h140
+  h350 = pick (r .ownMontage) (channelsHead (montageGroupOf r) (r .montage)) h140
 
   h200 : Head
   h200 = pick (r .ownEvents) (itemsHead 200 (r .events)) h350
@@ -243,17 +243,17 @@ module _ (r : Recording) where
   eventsE = optional (r .ownEvents) ((rowOf (itemsHead 200 (r .events)) ∷ itemsWritten (r .events)) ++ (makerEvents (r .makers₄) ++ numerals h350))
 
   eventsM : List Event
-  eventsM = optional (r .ownMontage) ((rowOf (channelsHead (overGroup r) (r .montage)) ∷ channelsWritten (overGroup r) (r .montage)) ++ (makerEvents (r .makers₅) ++ numerals h140))
+  eventsM = optional (r .ownMontage) ((rowOf (channelsHead (montageGroupOf r) (r .montage)) ∷ channelsWritten (montageGroupOf r) (r .montage)) ++ (makerEvents (r .makers₅) ++ numerals h140))
 
   eventsF : List Event
   eventsF = rowOf h140 ∷ framesWritten (r .seconds) (r .channels) (r .frames)
 
 module _ (label : Label) (r : Recording) where
   h120 : Head
-  h120 = pick (r .ownChannels) (channelsHead (ownGroup label r) (r .channels)) (h130 r)
+  h120 = pick (r .ownChannels) (channelsHead (channelsGroupOf label r) (r .channels)) (h130 r)
 
   eventsC : List Event
-  eventsC = optional (r .ownChannels) ((rowOf (channelsHead (ownGroup label r) (r .channels)) ∷ channelsWritten (ownGroup label r) (r .channels)) ++ (makerEvents (r .makers₂) ++ numerals (h130 r)))
+  eventsC = optional (r .ownChannels) ((rowOf (channelsHead (channelsGroupOf label r) (r .channels)) ∷ channelsWritten (channelsGroupOf label r) (r .channels)) ++ (makerEvents (r .makers₂) ++ numerals (h130 r)))
 
   arranged : (z : List Event) → content label r ++ z ≡
       recordOf (plainHead 128 100 0) (basicFields (r .basic)) ++ ((makerEvents (r .makers₁) ++ numerals h120) ++ (eventsC ++ (eventsP r ++ (eventsE r ++ (eventsM r ++ (eventsF r ++
@@ -262,18 +262,18 @@ module _ (label : Label) (r : Recording) where
   arranged z =
       let b : List Event = recordOf (plainHead 128 100 0) (basicFields (r .basic)) in
       let m : List Event = makerEvents (r .makers₁) in
-      let c : List Event = optional (r .ownChannels) (recordOf (channelsHead (ownGroup label r) (r .channels)) (channelsWritten (ownGroup label r) (r .channels)) ++ makerEvents (r .makers₂)) in
+      let c : List Event = optional (r .ownChannels) (recordOf (channelsHead (channelsGroupOf label r) (r .channels)) (channelsWritten (channelsGroupOf label r) (r .channels)) ++ makerEvents (r .makers₂)) in
       let p : List Event = optional (r .ownPatient) (recordOf (itemsHead 130 (r .patient)) (itemsWritten (r .patient)) ++ makerEvents (r .makers₃)) in
       let e : List Event = optional (r .ownEvents) (recordOf (itemsHead 200 (r .events)) (itemsWritten (r .events)) ++ makerEvents (r .makers₄)) in
-      let o : List Event = optional (r .ownMontage) (recordOf (channelsHead (overGroup r) (r .montage)) (channelsWritten (overGroup r) (r .montage)) ++ makerEvents (r .makers₅)) in
+      let o : List Event = optional (r .ownMontage) (recordOf (channelsHead (montageGroupOf r) (r .montage)) (channelsWritten (montageGroupOf r) (r .montage)) ++ makerEvents (r .makers₅)) in
       let f : List Event = recordOf (h140 r) (framesWritten (r .seconds) (r .channels) (r .frames)) in
       let y : List Event = (makerEvents (r .makers₆) ++ numerals delimiterHead) ++ (row 16 16 0 0 ∷ z) in
       assoc b m c p e o f (makerEvents (r .makers₆)) delimiterEvents z ∙
       ap (λ (x : List Event). b ++ (m ++ (c ++ (p ++ (e ++ (o ++ (f ++ x))))))) (sym (append-assoc (makerEvents (r .makers₆)) (numerals delimiterHead) (row 16 16 0 0 ∷ z))) ∙
-      ap (λ (x : List Event). b ++ (m ++ (c ++ (p ++ (e ++ x))))) (shift (r .ownMontage) (channelsHead (overGroup r) (r .montage)) (h140 r) (channelsWritten (overGroup r) (r .montage)) (makerEvents (r .makers₅)) (eventsF r ++ y)) ∙
+      ap (λ (x : List Event). b ++ (m ++ (c ++ (p ++ (e ++ x))))) (shift (r .ownMontage) (channelsHead (montageGroupOf r) (r .montage)) (h140 r) (channelsWritten (montageGroupOf r) (r .montage)) (makerEvents (r .makers₅)) (eventsF r ++ y)) ∙
       ap (λ (x : List Event). b ++ (m ++ (c ++ (p ++ x)))) (shift (r .ownEvents) (itemsHead 200 (r .events)) (h350 r) (itemsWritten (r .events)) (makerEvents (r .makers₄)) (eventsM r ++ (eventsF r ++ y))) ∙
       ap (λ (x : List Event). b ++ (m ++ (c ++ x))) (shift (r .ownPatient) (itemsHead 130 (r .patient)) (h200 r) (itemsWritten (r .patient)) (makerEvents (r .makers₃)) (eventsE r ++ (eventsM r ++ (eventsF r ++ y)))) ∙
-      ap (λ (x : List Event). b ++ (m ++ x)) (shift (r .ownChannels) (channelsHead (ownGroup label r) (r .channels)) (h130 r) (channelsWritten (ownGroup label r) (r .channels)) (makerEvents (r .makers₂)) (eventsP r ++ (eventsE r ++ (eventsM r ++ (eventsF r ++ y))))) ∙
+      ap (λ (x : List Event). b ++ (m ++ x)) (shift (r .ownChannels) (channelsHead (channelsGroupOf label r) (r .channels)) (h130 r) (channelsWritten (channelsGroupOf label r) (r .channels)) (makerEvents (r .makers₂)) (eventsP r ++ (eventsE r ++ (eventsM r ++ (eventsF r ++ y))))) ∙
       ap (λ (x : List Event). b ++ x) (sym (append-assoc m (numerals h120) (eventsC ++ (eventsP r ++ (eventsE r ++ (eventsM r ++ (eventsF r ++ y)))))))
 
 pick-is : (Q : Head → Type 0) (own : Bool) (h k : Head) → (own ≡ true → Q h) → Q k → Q (pick own h k)
@@ -369,12 +369,12 @@ module _ (label : Label) (held : Option Inherited) (r : Recording) (k : Recordin
       let n = few-channels g cs o in
       record { ok = record { size = omega arith; code = c; serial = omega arith; multiplier = omega arith }; code = m }
 
-  montage-own : r .ownMontage ≡ true → ChannelsOk (overGroup r) (r .montage)
+  montage-own : r .ownMontage ≡ true → ChannelsOk (montageGroupOf r) (r .montage)
   montage-own e = montage-channels label (r .channels) (r .montage) (part-own (MontageOk label (r .channels)) (some []) (r .ownMontage) (r .montage) (r .makers₅) e (k .montage))
 
   plain350 : Plain (h350 r)
   unfolding h350 between padding padded makerCode
-  plain350 = pick-is Plain (r .ownMontage) (channelsHead (overGroup r) (r .montage)) (h140 r) (λ e. plain-channels (overGroup r) (r .montage) (montage-own e) (omega arith) refl) plain140
+  plain350 = pick-is Plain (r .ownMontage) (channelsHead (montageGroupOf r) (r .montage)) (h140 r) (λ e. plain-channels (montageGroupOf r) (r .montage) (montage-own e) (omega arith) refl) plain140
 
   plain200 : Plain (h200 r)
   unfolding h200 between padding padded makerCode
@@ -384,13 +384,13 @@ module _ (label : Label) (held : Option Inherited) (r : Recording) (k : Recordin
   unfolding h130 between padding padded makerCode
   plain130 = pick-is Plain (r .ownPatient) (itemsHead 130 (r .patient)) (h200 r) (λ e. plain-items patientCode 130 (r .patient) (part-own (ItemsOk patientCode) (heldPatient held) (r .ownPatient) (r .patient) (r .makers₃) e (k .patient)) (omega arith) refl) plain200
 
-  own : Apart (ownGroup label r)
+  own : Apart (channelsGroupOf label r)
   own = channels-apart label (r .basic .channels)
 
   plain120 : Plain (h120 label r)
   unfolding h120
-  plain120 = pick-is Plain (r .ownChannels) (channelsHead (ownGroup label r) (r .channels)) (h130 r)
-      (λ e. plain-channels (ownGroup label r) (r .channels) (part-own (ChannelsOk (ownGroup label r)) (heldChannels held) (r .ownChannels) (r .channels) (r .makers₂) e (k .channels)) (own .code) (own .maker)) plain130
+  plain120 = pick-is Plain (r .ownChannels) (channelsHead (channelsGroupOf label r) (r .channels)) (h130 r)
+      (λ e. plain-channels (channelsGroupOf label r) (r .channels) (part-own (ChannelsOk (channelsGroupOf label r)) (heldChannels held) (r .ownChannels) (r .channels) (r .makers₂) e (k .channels)) (own .code) (own .maker)) plain130
 
   other140 : (c : ℕ) → eqb 140 c ≡ false → eqb (h140 r .code) c ≡ false
   unfolding h140
@@ -398,7 +398,7 @@ module _ (label : Label) (held : Option Inherited) (r : Recording) (k : Recordin
 
   other350 : (c : ℕ) → eqb 140 c ≡ false → eqb 350 c ≡ false → eqb (h350 r .code) c ≡ false
   unfolding h350
-  other350 c e m = pick-is (λ x. eqb (x .code) c ≡ false) (r .ownMontage) (channelsHead (overGroup r) (r .montage)) (h140 r) (λ _. m) (other140 c e)
+  other350 c e m = pick-is (λ x. eqb (x .code) c ≡ false) (r .ownMontage) (channelsHead (montageGroupOf r) (r .montage)) (h140 r) (λ _. m) (other140 c e)
 
   other200 : (c : ℕ) → eqb 140 c ≡ false → eqb 350 c ≡ false → eqb 200 c ≡ false → eqb (h200 r .code) c ≡ false
   unfolding h200
@@ -441,11 +441,11 @@ module _ (label : Label) (held : Option Inherited) (r : Recording) (k : Recordin
   lessM = omega (arith, lessE)
 
   -- the parts
-  plays-c : Plays (eventsC label r) (part (span h) (ownGroup label r .code) (channels (ownGroup label r)) (heldChannels held) (record { makers = r .makers₁; head = h120 label r; room = roomC }))
+  plays-c : Plays (eventsC label r) (part (span h) (channelsGroupOf label r .code) (channels (channelsGroupOf label r)) (heldChannels held) (record { makers = r .makers₁; head = h120 label r; room = roomC }))
       (record { own = r .ownChannels; value = r .channels; next = record { makers = r .makers₂; head = h130 r; room = roomP } })
   unfolding eventsC h120 roomC partC channelsRecord lengthOf
   plays-c =
-      let g : Group = ownGroup label r in
+      let g : Group = channelsGroupOf label r in
       part-plays (ChannelsOk g) (channelsRecord g) (g .code) (channels g) (r .ownChannels) (heldChannels held) (r .channels) (r .makers₂) (r .makers₁) (channelsHead g (r .channels)) (h130 r)
       (channelsWritten g (r .channels)) (span h) roomP (k .channels) refl (eq-eqb (g .code) (g .code) refl) (other130 (g .code) (own .frames) (own .montage) (own .events) (own .patient)) (plain130 .ok) (plain130 .code)
       (channels-plays g (own .sub) (r .channels)) (channels-size g (r .channels)) largeP (omega (arith, rooms))
@@ -468,7 +468,7 @@ module _ (label : Label) (held : Option Inherited) (r : Recording) (k : Recordin
       (record { own = r .ownMontage; value = r .montage; next = record { makers = r .makers₅; head = h140 r; room = roomF } })
   unfolding eventsM h350 roomM partM channelsRecord lengthOf
   plays-m =
-      let g : Group = overGroup r in
+      let g : Group = montageGroupOf r in
       part-plays (MontageOk label (r .channels)) (channelsRecord g) 350 (montage label (r .channels)) (r .ownMontage) (some []) (r .montage) (r .makers₅) (r .makers₄) (channelsHead g (r .montage)) (h140 r)
       (channelsWritten g (r .montage)) (span h) roomF (k .montage) refl refl (other140 350 refl) (plain140 .ok) (plain140 .code)
       (montage-plays label (r .channels) (r .montage)) (λ o. channels-size g (r .montage) (montage-channels label (r .channels) (r .montage) o)) largeF lessM

@@ -8,7 +8,7 @@ use lib.ListN.{length}
 use Rattle.walk.specs.Walk.{Event, numeral, size, cleared}
 use Rattle.walk.proofs.Tracing.{cleared-append}
 use Rattle.rules.specs.Rules.{Head, span, Basic, Label, Sub, Group, Channel, Item, Frame, Maker, Recording, width}
-use Rattle.rules.specs.Canonical.{zeroes, recordOf, basicFields, fieldEvent, channelFields, channelEvents, channelsHead, channelsWritten, itemEvents, itemsWritten, sampleEvents, frameWritten, frameEvents, framesWritten, makerEvents, optional, delimiterEvents, ownGroup, overGroup, content, recordingHead, recordingEvents, headerEvents, anew, canonical}
+use Rattle.rules.specs.Canonical.{zeroes, recordOf, basicFields, fieldEvent, channelFields, channelEvents, channelsHead, channelsWritten, itemEvents, itemsWritten, sampleEvents, frameWritten, frameEvents, framesWritten, makerEvents, optional, delimiterEvents, channelsGroupOf, montageGroupOf, content, recordingHead, recordingEvents, headerEvents, anew, canonical}
 use Rattle.rules.specs.Reading.{Reading}
 use Rattle.rules.specs.Words.{wordsOf}
 use Rattle.rules.proofs.Cases.{by-shape}
@@ -83,10 +83,10 @@ unfolding cleared content itemsWritten framesWritten delimiterEvents
 of-content label r =
     both (recordOf _ (basicFields (r .basic))) _ (of-record _ (basicFields (r .basic)) (of-basic (r .basic)))
     (both (makerEvents (r .makers₁)) _ (of-makers (r .makers₁))
-    (both (optional (r .ownChannels) _) _ (of-group (r .ownChannels) (ownGroup label r) (r .channels) (r .makers₂))
+    (both (optional (r .ownChannels) _) _ (of-group (r .ownChannels) (channelsGroupOf label r) (r .channels) (r .makers₂))
     (both (optional (r .ownPatient) _) _ (of-optional (r .ownPatient) _ (both (recordOf _ (itemsWritten (r .patient))) _ (of-record _ (itemsWritten (r .patient)) (rw (of-items (r .patient)))) (of-makers (r .makers₃))))
     (both (optional (r .ownEvents) _) _ (of-optional (r .ownEvents) _ (both (recordOf _ (itemsWritten (r .events))) _ (of-record _ (itemsWritten (r .events)) (rw (of-items (r .events)))) (of-makers (r .makers₄))))
-    (both (optional (r .ownMontage) _) _ (of-group (r .ownMontage) (overGroup r) (r .montage) (r .makers₅))
+    (both (optional (r .ownMontage) _) _ (of-group (r .ownMontage) (montageGroupOf r) (r .montage) (r .makers₅))
     (both (recordOf _ (framesWritten (r .seconds) (r .channels) (r .frames))) _ (of-record _ (framesWritten (r .seconds) (r .channels) (r .frames)) (rw (both (frameEvents (r .seconds) (r .channels) 1 (r .frames)) _ (of-frames (r .seconds) (r .channels) 1 (r .frames)) refl)))
     (both (makerEvents (r .makers₆)) delimiterEvents (of-makers (r .makers₆)) refl)))))))
 

@@ -13,9 +13,8 @@ use lib.ListN.{length}
 use Rattle.walk.specs.See.{Stays}
 use Rattle.walk.specs.Walk.{Walk, give, _>>=_, _>>_, pick, text, refuse}
 use Rattle.walk.proofs.Seen.{stays-bind, stays-then, stays-weaken, and-left, and-right, stays-require}
-use Rattle.rules.specs.Rules.{itemsBody, channelsBody, frameBody, Head, head, limit, admit, span, coded, exactly, fixed, Basic, basicBody, Label, Sub, Group, channelsGroup, montageGroup, anything, fieldIf, channelBody, channel, item, itemSize, itemBytes, itemList, series, zeros, padding, Channel, width, samplesIn, sampleBytes, numberList, samples, frame, Next, channels, montage, frames, framesBody, items, next, padOk, makerCode, between, delimiter, part, recording, Held, Part, basic, heldChannels, patientCode, heldPatient, eventCode, file, fileHeader, recordings, recordingBody, signals}
+use Rattle.rules.specs.Rules.{itemsBody, channelsBody, frameBody, Head, head, limit, admit, span, coded, exactly, fixed, Basic, basicBody, Label, Sub, Group, channelsGroup, montageGroup, anything, fieldIf, channelBody, channel, item, itemSize, itemBytes, itemList, series, zeros, padding, Channel, width, samplesIn, sampleBytes, numberList, samples, frame, Next, channels, montage, frames, framesBody, items, next, padOk, makerCode, between, delimiter, part, recording, Held, Part, basic, heldChannels, patientCode, heldPatient, eventCode, file, fileHeader, recordings, descriptions, recordingBody, signals}
 use Rattle.rules.proofs.Cases.{by-form}
-use Rattle.rules.proofs.Steps.{body-steps}
 
 pub stays-head : (at room : ℕ) → Stays (at + room) at (head room) (λ h e. (e ≡ at + 16) × (16 ≤ room))
 unfolding head _>>=_ _>>_
@@ -273,26 +272,32 @@ pub stays-delimiter : (h : Head) (L at : ℕ) → Stays L at (delimiter h) (λ _
 unfolding delimiter _>>=_ _>>_
 stays-delimiter h L at = λ _ _ _ _. refl
 
+-- the tables of a recording of n bytes stay in it, and end behind the head of its 140
+pub stays-descriptions : (label : Label) (held : Option Held) (n at : ℕ) → Stays (at + (n - 16)) at (descriptions label held n) (λ t e. Behind (at + (n - 16)) n (t .montage .next) e)
+unfolding descriptions
+stays-descriptions label held n at =
+    let L : ℕ = at + (n - 16) in
+    stays-bind _ _ _ _ _ _ (stays-basic at (n - 16))
+    (λ b e₁ q₁. stays-bind _ _ _ _ _ _ (stays-next n (n - 144) n L e₁ (omega (arith, q₁)) (omega (arith, q₁)) (omega (arith, q₁)))
+    (λ r e₂ q₂. stays-bind _ _ _ _ _ _ (stays-part n _ _ (stays-channelsRest (channelsGroup label (b .channels))) (heldChannels held) r L e₂ q₂)
+    (λ c e₃ q₃. stays-bind _ _ _ _ _ _ (stays-part n 130 (items patientCode) (stays-itemsRest patientCode) (heldPatient held) (c .next) L e₃ q₃)
+    (λ p e₄ q₄. stays-bind _ _ _ _ _ _ (stays-part n 200 (items eventCode) (stays-itemsRest eventCode) (some []) (p .next) L e₄ q₄)
+    (λ e e₅ q₅. stays-bind _ _ _ _ _ _ (stays-part n 350 (montage label (c .value)) (stays-montageRest label (c .value)) (some []) (e .next) L e₅ q₅)
+    (λ m e₆ q₆. q₆))))))
+
 pub stays-recordingBody : (label : Label) (held : Option Held) (h : Head) (at : ℕ) → 16 ≤ span h → Stays (at + (span h - 16)) at (recordingBody label held h) (λ x e. (x .layout .bytes ≡ span h) × (e ≡ at + (span h - 16)))
-unfolding signals
+unfolding recordingBody signals
 stays-recordingBody label held h at s =
-    rw body-steps (
     let L : ℕ = at + (span h - 16) in
-    stays-bind _ _ _ _ _ _ (stays-basic at (span h - 16))
-    (λ b e₁ q₁. stays-bind _ _ _ _ _ _ (stays-next (span h) (span h - 144) (span h) L e₁ (omega (arith, q₁)) (omega (arith, q₁)) (omega (arith, q₁)))
-    (λ n e₂ q₂. let g : Group = channelsGroup label (b .channels) in
-    stays-bind _ _ _ _ _ _ (stays-part (span h) (g .code) (channels g) (stays-channelsRest g) (heldChannels held) n L e₂ q₂)
-    (λ c e₃ q₃. stays-bind _ _ _ _ _ _ (stays-part (span h) 130 (items patientCode) (stays-itemsRest patientCode) (heldPatient held) (c .next) L e₃ q₃)
-    (λ p e₄ q₄. stays-bind _ _ _ _ _ _ (stays-part (span h) 200 (items eventCode) (stays-itemsRest eventCode) (some []) (p .next) L e₄ q₄)
-    (λ e e₅ q₅. stays-bind _ _ _ _ _ _ (stays-part (span h) 350 (montage label (c .value)) (stays-montageRest label (c .value)) (some []) (e .next) L e₅ q₅)
-    (λ m e₆ q₆. stays-require _ 9 12 _ _ _ _ refl
-    (λ _. stays-bind _ _ _ _ _ _ (stays-framesRest b (c .own) (c .value) _ (m .next .room) (m .next .head) L e₆ (q₆ .2))
-    (λ f e₇ q₇. stays-bind _ _ _ _ _ _ (stays-next (span h) (m .next .room - span (m .next .head)) (span h) L e₇ (omega (arith, q₆ .1)) (omega (arith, q₆ .1)) (q₇ .2))
-    (λ d e₈ q₈. stays-then _ _ _ _ _ _ (stays-delimiter (d .head) L e₈)
-    (λ _ e₉ q₉. stays-require _ 14 _ _ _ _ _ refl
+    stays-bind _ _ _ _ _ _ (stays-descriptions label held (span h) at)
+    (λ t e₁ q₁. stays-require _ 9 12 _ _ _ _ refl
+    (λ _. stays-bind _ _ _ _ _ _ (stays-framesRest (t .basic) (t .channels .own) (t .channels .value) _ (t .montage .next .room) (t .montage .next .head) L e₁ (q₁ .2))
+    (λ f e₂ q₂. stays-bind _ _ _ _ _ _ (stays-next (span h) (t .montage .next .room - span (t .montage .next .head)) (span h) L e₂ (omega (arith, q₁ .1)) (omega (arith, q₁ .1)) (q₂ .2))
+    (λ d e₃ q₃. stays-then _ _ _ _ _ _ (stays-delimiter (d .head) L e₃)
+    (λ _ e₄ q₄. stays-require _ 14 _ _ _ _ _ refl
     (λ _. stays-require _ 10 0 _ _ _ _ refl
-    (λ _. stays-then _ _ _ _ _ _ (stays-padding L e₉ (d .room - 16) (omega (arith, q₈ .0, q₈ .2, q₉)))
-    (λ _ x r. (refl, omega (arith, q₈ .0, q₈ .2, q₉, r))))))))))))))))
+    (λ _. stays-then _ _ _ _ _ _ (stays-padding L e₄ (d .room - 16) (omega (arith, q₃ .0, q₃ .2, q₄)))
+    (λ _ x r. (refl, omega (arith, q₃ .0, q₃ .2, q₄, r))))))))))
 
 pub stays-recording : (label : Label) (held : Option Held) (i at room : ℕ) → Stays (at + room) at (recording label held room i) (λ x e. (e ≡ at + x .layout .bytes) × (x .layout .bytes ≤ room))
 unfolding recording

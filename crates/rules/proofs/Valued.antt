@@ -13,7 +13,7 @@ use Rattle.walk.specs.Plays.{Plays}
 use Rattle.walk.specs.Walk.{Event, _>>=_, _>>_, size}
 use Rattle.walk.proofs.Apart.{none-some}
 use Rattle.walk.proofs.Laws.{traced, skipped, by-split, by-check, by-number, by-read, plays-gave}
-use Rattle.rules.specs.Canonical.{ownGroup, overGroup, content}
+use Rattle.rules.specs.Canonical.{channelsGroupOf, montageGroupOf, content}
 use Rattle.rules.specs.Reading.{valueOf, basicReading, channelReading, itemReading, samplesReading, frameReading, makerReading, recordingReading, readingOf}
 use Rattle.rules.specs.Words.{wordOf, basicWords, channelWords, itemWords, samplesWords, frameWords, makerWords, recordingWords, wordsOf}
 use Rattle.rules.specs.Rules.{Label, Basic, basicBody, Sub, Group, anything, fieldIf, Channel, channelBody, Item, width, Frame, Maker, Recording, Held, heldChannels, heldPatient, Contents, between, patientCode, eventCode, head, basic, channel, channels, all, frames, recordings}
@@ -157,7 +157,7 @@ part-makers Q held false a ms k = rw (k .1) tt
 module _ (label : Label) (held : Option Held) (g : Good held) (r : Recording) (k : RecordingOk label held r) where
   known : Good (some (record { channels = r .channels; patient = r .patient }))
   known = (
-    part-all (All Small) (ChannelsOk (ownGroup label r)) (all-small (ownGroup label r)) (heldChannels held) (r .ownChannels) (r .channels) (r .makers₂) (k .channels) (good-channels held g),
+    part-all (All Small) (ChannelsOk (channelsGroupOf label r)) (all-small (channelsGroupOf label r)) (heldChannels held) (r .ownChannels) (r .channels) (r .makers₂) (k .channels) (good-channels held g),
     part-all (All (ItemOk patientCode)) (ItemsOk patientCode) (λ l c. c .each) (heldPatient held) (r .ownPatient) (r .patient) (r .makers₃) (k .patient) (good-patient held g),
   )
 
@@ -173,7 +173,7 @@ module _ (label : Label) (held : Option Held) (g : Good held) (r : Recording) (k
   events-known = part-all (All (ItemOk eventCode)) (ItemsOk eventCode) (λ l c. c .each) (some []) (r .ownEvents) (r .events) (r .makers₄) (k .events) (good-none (ItemOk eventCode))
 
   montage-known : All Small (r .montage)
-  montage-known = part-all (All Small) (MontageOk label (r .channels)) (λ l m. all-small (overGroup r) l (montage-channels label (r .channels) l m)) (some []) (r .ownMontage) (r .montage) (r .makers₅) (k .montage) (good-none Small)
+  montage-known = part-all (All Small) (MontageOk label (r .channels)) (λ l m. all-small (montageGroupOf r) l (montage-channels label (r .channels) l m)) (some []) (r .ownMontage) (r .montage) (r .makers₅) (k .montage) (good-none Small)
 
   seconds-small : r .seconds < 256 ^ 4
   unfolding between
@@ -193,7 +193,7 @@ module _ (label : Label) (held : Option Held) (g : Good held) (r : Recording) (k
     seconds = unsigned-signed 4 (r .seconds) seconds-small i;
     frames = frames-back i;
     makers₁ = makers-back (r .makers₁) (k .makers₁) i;
-    makers₂ = makers-back (r .makers₂) (part-makers (ChannelsOk (ownGroup label r)) (heldChannels held) (r .ownChannels) (r .channels) (r .makers₂) (k .channels)) i;
+    makers₂ = makers-back (r .makers₂) (part-makers (ChannelsOk (channelsGroupOf label r)) (heldChannels held) (r .ownChannels) (r .channels) (r .makers₂) (k .channels)) i;
     makers₃ = makers-back (r .makers₃) (part-makers (ItemsOk patientCode) (heldPatient held) (r .ownPatient) (r .patient) (r .makers₃) (k .patient)) i;
     makers₄ = makers-back (r .makers₄) (part-makers (ItemsOk eventCode) (some []) (r .ownEvents) (r .events) (r .makers₄) (k .events)) i;
     makers₅ = makers-back (r .makers₅) (part-makers (MontageOk label (r .channels)) (some []) (r .ownMontage) (r .montage) (r .makers₅) (k .montage)) i;

@@ -139,20 +139,20 @@ unfoldable pub delimiterEvents : List Event
 delimiterEvents = numerals delimiterHead ++ (row 16 16 0 0 ∷ [])
 
 -- its 120 or 320, and its 350
-abbrev pub ownGroup : Label → Recording → Group
-ownGroup label r = channelsGroup label (r .basic .channels)
+abbrev pub channelsGroupOf : Label → Recording → Group
+channelsGroupOf label r = channelsGroup label (r .basic .channels)
 
-abbrev pub overGroup : Recording → Group
-overGroup r = montageGroup (length (r .channels))
+abbrev pub montageGroupOf : Recording → Group
+montageGroupOf r = montageGroup (length (r .channels))
 
 unfoldable pub content : Label → Recording → List Event
 content label r =
     recordOf (plainHead 128 100 0) (basicFields (r .basic)) ++ (makerEvents (r .makers₁) ++
     (optional (r .ownChannels)
-    (recordOf (channelsHead (ownGroup label r) (r .channels)) (channelsWritten (ownGroup label r) (r .channels)) ++ makerEvents (r .makers₂)) ++
+    (recordOf (channelsHead (channelsGroupOf label r) (r .channels)) (channelsWritten (channelsGroupOf label r) (r .channels)) ++ makerEvents (r .makers₂)) ++
     (optional (r .ownPatient) (recordOf (itemsHead 130 (r .patient)) (itemsWritten (r .patient)) ++ makerEvents (r .makers₃)) ++
     (optional (r .ownEvents) (recordOf (itemsHead 200 (r .events)) (itemsWritten (r .events)) ++ makerEvents (r .makers₄)) ++
-    (optional (r .ownMontage) (recordOf (channelsHead (overGroup r) (r .montage)) (channelsWritten (overGroup r) (r .montage)) ++ makerEvents (r .makers₅)) ++
+    (optional (r .ownMontage) (recordOf (channelsHead (montageGroupOf r) (r .montage)) (channelsWritten (montageGroupOf r) (r .montage)) ++ makerEvents (r .makers₅)) ++
     (recordOf (framesHead (r .seconds) (r .channels) (r .frames)) (framesWritten (r .seconds) (r .channels) (r .frames)) ++
     (makerEvents (r .makers₆) ++ delimiterEvents)))))))
 

@@ -8,7 +8,7 @@ use borrow.Author.Needs.{needs}
 use denote.Ref.{now}
 use lib.ListN.{getD}
 use Rattle.words.specs.Numbers.{bytesAt}
-use Rattle.rules.specs.Rules.{version}
+use Rattle.rules.specs.Rules.{isOneOf, spelled, formed, version}
 use Rattle.records.proofs.Facts.{between-in}
 use Rattle.header.specs.Letters.{lettered}
 use Rattle.header.specs.Opened.{names}
@@ -18,14 +18,14 @@ use Rattle.header.proofs.file_header.Statement.{statement}
 use Rattle.header.proofs.file_header.Tie as tie
 
 -- the place behind a test, from behind the next one
-abbrev at-length : tie.After-is-spelling → tie.Else1
-at-length c = c .before .before
+abbrev at-length : tie.After-is-one-of → tie.Else1
+at-length c = c .before .before .before .before
 
 abbrev at-spelling : tie.After-same → tie.Else2
 at-spelling c = c .before .before .before
 
-abbrev at-version : tie.After-is-form → tie.Else3
-at-version c = c .before .before
+abbrev at-version : tie.After-is-one-of2 → tie.Else3
+at-version c = c .before .before .before .before
 
 abbrev at-form : tie.After-order-of → tie.Else4
 at-form c = c .before .before
@@ -70,16 +70,16 @@ past-length : (c : tie.Else1) → walk (file-length c) ≡ fromSpelling (file-le
 past-length c = passing _ _ _ _ (header-open (file-length c)) (le-leb 32 _ (c .if1 .left))
 
 past-spelling : (c : tie.Else2) → walk (file-spelling c) ≡ fromVersion (file-spelling c)
-unfolding bytesAt
-past-spelling c = passing _ _ _ _ (past-length (at-length (c .before))) (sym (c .before .is-spelling .ensures) ∙ not-false (c .before .is-spelling .result) (c .if2 .left))
+unfolding bytesAt isOneOf spelled
+past-spelling c = passing _ _ _ _ (past-length (at-length (c .before))) (sym (c .before .is-one-of .ensures) ∙ not-false (c .before .is-one-of .result) (c .if2 .left))
 
 past-version : (c : tie.Else3) → walk (file-version c) ≡ fromForm (file-version c)
 unfolding bytesAt version
 past-version c = passing _ _ _ _ (past-spelling (at-spelling (c .before))) (sym (c .before .same .ensures) ∙ not-false (c .before .same .result) (c .if3 .left))
 
 past-form : (c : tie.Else4) → walk (file-form c) ≡ fromLetter (file-form c)
-unfolding bytesAt
-past-form c = passing _ _ _ _ (past-version (at-version (c .before))) (sym (c .before .is-form .ensures) ∙ not-false (c .before .is-form .result) (c .if4 .left))
+unfolding bytesAt isOneOf formed
+past-form c = passing _ _ _ _ (past-version (at-version (c .before))) (sym (c .before .is-one-of2 .ensures) ∙ not-false (c .before .is-one-of2 .result) (c .if4 .left))
 
 past-letter : (c : tie.After-letter) → walk (file-letter c) ≡ fromScript (file-letter c)
 past-letter c = passing _ _ _ _ (past-form (at-form (c .before .before))) (ap names (letter-is (c .before .before) (c .letter .given .1)))
@@ -95,16 +95,16 @@ returns : tie.Need-returns
 returns c = record { walk = stopping _ _ _ _ (header-open _) (lt-leb 32 _ (c .if1 .taken)); named = tt }
 
 returns-2 : tie.Need-returns-2
-unfolding bytesAt
-returns-2 c = record { walk = stopping _ _ _ _ (past-length (at-length (c .before))) (sym (c .before .is-spelling .ensures) ∙ not-true (c .before .is-spelling .result) (c .if2 .taken)); named = tt }
+unfolding bytesAt isOneOf spelled
+returns-2 c = record { walk = stopping _ _ _ _ (past-length (at-length (c .before))) (sym (c .before .is-one-of .ensures) ∙ not-true (c .before .is-one-of .result) (c .if2 .taken)); named = tt }
 
 returns-3 : tie.Need-returns-3
 unfolding bytesAt version
 returns-3 c = record { walk = stopping _ _ _ _ (past-spelling (at-spelling (c .before))) (sym (c .before .same .ensures) ∙ not-true (c .before .same .result) (c .if3 .taken)); named = tt }
 
 returns-4 : tie.Need-returns-4
-unfolding bytesAt
-returns-4 c = record { walk = stopping _ _ _ _ (past-version (at-version (c .before))) (sym (c .before .is-form .ensures) ∙ not-true (c .before .is-form .result) (c .if4 .taken)); named = tt }
+unfolding bytesAt isOneOf formed
+returns-4 c = record { walk = stopping _ _ _ _ (past-version (at-version (c .before))) (sym (c .before .is-one-of2 .ensures) ∙ not-true (c .before .is-one-of2 .result) (c .if4 .taken)); named = tt }
 
 returns-5 : tie.Need-returns-5
 returns-5 c = record { walk = stopping _ _ _ _ (past-form (at-form (c .before .before))) (ap names (letter-is (c .before .before) (c .enum-told .given .1))); named = tt }
@@ -148,6 +148,8 @@ file-header-spec =
     (λ c. search needs)
     (λ c. search needs)
     (λ c. search needs)
+    (λ c. search needs)
+    (λ c. search needs)
     (λ c κs. search needs)
     returns-2
     (λ c. search needs)
@@ -156,6 +158,8 @@ file-header-spec =
     (λ c. search needs)
     (λ c κs. search needs)
     returns-3
+    (λ c. search needs)
+    (λ c. search needs)
     (λ c. search needs)
     (λ c. search needs)
     (λ c. search needs)
