@@ -146,6 +146,10 @@ struct psg_counted psg_turn(const uint8_t *file, size_t length, uint8_t *out, si
    letter; 18 where a maker's record stands in the way and the order is not the file's. */
 struct psg_counted psg_rewrite(const uint8_t *file, size_t length, uint8_t order, uint8_t *out, size_t room);
 
+/* Room that is enough for psg_rewrite of this file, in either order: so many bytes, by the file's length and K alone. With
+   it psg_rewrite never answers 17. Only the file can be refused. */
+struct psg_counted psg_rewrite_room(const uint8_t *file, size_t length);
+
 /* What the file header says. Only the file can be refused. */
 struct psg_heading psg_header(const uint8_t *file, size_t length);
 

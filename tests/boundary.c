@@ -119,6 +119,11 @@ static void writing(const uint8_t *file, size_t n) {
     EXPECT(rewrite.refusal == 0 && rewrite.count == n && back[16] == 'B');
     struct psg_counted letter = psg_rewrite(file, n, 'l', back, sizeof back);
     EXPECT(letter.refusal == 19 && letter.position == 0 && letter.count == 0);
+    struct psg_counted reserved = psg_rewrite_room(file, n);
+    EXPECT(reserved.refusal == 0 && reserved.count == n + 254);
+    EXPECT(psg_rewrite(file, n, 'L', back, reserved.count).refusal == 0);
+    reserved = psg_rewrite_room(file, n - 1);
+    EXPECT(reserved.refusal == 10 && reserved.position == 32 && reserved.count == 0);
     /* A length of 0 goes with any pointer that is not null. */
     table = psg_table(file, n, rows, 0);
     EXPECT(table.refusal == 17 && table.position == 32 && table.count == 0);

@@ -166,6 +166,7 @@ macro_rules! questions {
 }
 
 questions! {
+    psg_rewrite_room, rewrite_room() -> Counted;
     psg_header, header() -> Heading;
     psg_facts, facts(recording) -> Facts;
     psg_channel, channel(recording, channel) -> Channel;

@@ -255,6 +255,12 @@ pub fn rewritten(file: &[u8], order: Order) -> Result<Vec<u8>, Refusal> {
     Ok(out)
 }
 
+/// Room for the canonical file in either byte order: its length is at most this, so [`rewrite`] never refuses a buffer
+/// of so many bytes with 17. It is the file's length and 254 bytes for each recording.
+pub fn rewrite_room(file: &[u8]) -> Result<usize, Refusal> {
+    Ok(calls::rewrite_room(file).answer()?.count as usize)
+}
+
 /// What refusal 17 of a call with an empty buffer asks for.
 fn needed(asked: Result<usize, Refusal>) -> Result<usize, Refusal> {
     match asked {

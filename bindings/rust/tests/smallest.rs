@@ -380,3 +380,15 @@ fn rewriting_gives_the_canonical_file_in_either_order() {
     assert_eq!(psg::rewrite(&file, Order::Little, &mut out), Ok(562));
     assert_eq!(out[562..], [7; 8]);
 }
+
+#[test]
+fn the_room_for_a_rewrite_is_known_before_it() {
+    let file = smallest();
+    let room = psg::rewrite_room(&file).unwrap();
+    assert_eq!(room, 562 + 254);
+    for order in [Order::Little, Order::Big] {
+        assert_eq!(psg::rewrite(&file, order, &mut vec![0; room]), Ok(562));
+    }
+    let refused = psg::rewrite_room(&file[..561]).unwrap_err();
+    assert_eq!((refused.number, refused.position), (10, 32));
+}

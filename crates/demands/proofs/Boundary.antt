@@ -67,6 +67,7 @@ use Rattle.turn.specs.Turn as Turn
 use Rattle.turn.specs.Turn.{Turns}
 use Rattle.rewrite.specs.Rewrite as Rewrite
 use Rattle.rewrite.specs.Rewrite.{rewrittenIn, Rewrites}
+use Rattle.room.specs.Room.{roomOf}
 use Rattle.answers.specs.Flat.{countedRows, countedBytes, flatHeading, flatFacts, flatChannel, flatItem, flatClock, flatCount, flatSample, flatMontage}
 use Rattle.answers.specs.declared.Channel.{Channel}
 use Rattle.answers.specs.declared.Clock.{Clock}
@@ -77,9 +78,9 @@ use Rattle.answers.specs.declared.Heading.{Heading}
 use Rattle.answers.specs.declared.Item.{Item}
 use Rattle.answers.specs.declared.Montage.{Montage}
 use Rattle.answers.specs.declared.Sample.{Sample}
-use Rattle.psg.specs.Calls.{JudgeAnswers, TableAnswers, TurnAnswers, RewriteAnswers}
+use Rattle.psg.specs.Calls.{JudgeAnswers, TableAnswers, TurnAnswers, RewriteAnswers, RoomAnswers}
 use Rattle.demands.specs.Demands.{ofFile, ofTable, ofTurn, ofRewrite, ofQuestion, refusalOf, Refuses, Answered, KeepsRest, listedRows, wroteC, stoppedC, headerC, refusedC, flatJudged, TakenApart, Boundary, Accepted, headerJudged, JudgesByRules}
-use Rattle.demands.proofs.Refusing.{of-file, header-refused, table-refuses, table-keeps, turn-refuses, turn-keeps, rewrite-refuses, rewrite-keeps, Proper, proper-facts, proper-channel, proper-item, proper-clock, proper-count, proper-sample, proper-montage-count, proper-montage}
+use Rattle.demands.proofs.Refusing.{of-file, header-refused, room-refused, table-refuses, table-keeps, turn-refuses, turn-keeps, rewrite-refuses, rewrite-keeps, Proper, proper-facts, proper-channel, proper-item, proper-clock, proper-count, proper-sample, proper-montage-count, proper-montage}
 use Rattle.demands.proofs.Viewing.{part-told}
 
 -- An answer and its numbers
@@ -321,6 +322,7 @@ module _ (s : List ℕ) (b : Bytes s) where
     turn-keeps = λ out out′ a x. let y = turn-apart out out′ a x in kept (turn-keeps s b out out′ (y .told) (y .met)) (ends-written (y .told) (y .same));
     rewrite = rewrite-apart;
     rewrite-keeps = λ order out out′ a x. let y = rewrite-apart order out out′ a x in kept (rewrite-keeps s order out out′ (y .told) (y .met)) (ends-written (y .told) (y .same));
+    room = λ a x. by-meaning written s (either-bytes (roomOf s)) (λ c e. e) x (λ n p h. rw h) (λ n p e. of-file s ofFile 0 (λ n h. h) (refusalOf n p) (room-refused s (refusalOf n p) (sym e)));
     header = λ a x. by-meaning header s (either (headerOf s)) (λ c e. e) x (λ n p h. rw h) (λ n p e. of-file s ofFile 0 (λ n h. h) (refusalOf n p) (header-refused s (refusalOf n p) (sym e)));
     facts = λ i a x. by-meaning facts s (either (factsOf s i)) (λ c e. e) x (λ n p h. rw h) (asked (proper-facts s i));
     channel = λ i j a x. by-meaning channel s (either (channelOf s i j)) (λ c e. e) x (λ n p h. rw h) (asked (proper-channel s i j));

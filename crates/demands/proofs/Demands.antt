@@ -5,6 +5,7 @@ use mathlib.Core.Bool.{true}
 use mathlib.Core.List.{List}
 use mathlib.Core.Option.{none}
 use Prim.Native.Nat.{ℕ, _+_, _*_, _≤_}
+use native.Mathlib.Omega.{arith}
 use borrow.Author.Tests.{le-leb}
 use denote.Ref.{RefT}
 use lib.IntN.{ℤ}
@@ -58,12 +59,14 @@ use Rattle.turn.proofs.Demands.{turn-unique, turn-answers, turn-accepted, turn-
 use Rattle.rewrite.specs.Rewrite.{barrier, Rewrites}
 use Rattle.rewrite.proofs.Answers.{rewrites-refused}
 use Rattle.rewrite.proofs.Demands.{rewrite-unique, rewrite-answers, rewrite-accepted, rewrite-both}
+use Rattle.room.proofs.Enough.{room-unique, rewrite-enough, room-told, reserved}
+use Rattle.room.proofs.Growth.{no-longer}
 use Rattle.answers.specs.Flat.{countedRows, countedBytes, flatHeading}
 use Rattle.answers.specs.declared.Counted.{Counted}
 use Rattle.psg.specs.Calls.{TableAnswers}
-use Rattle.demands.specs.Demands.{ofFile, Demand-1, Accepted, HandsUp, TableHolds, Tells, WrittenAnew, Demand-2, headerRead, inOther, SameEnd, SameNumbers, BoundarySame, Same, Demand-3}
+use Rattle.demands.specs.Demands.{ofFile, refusalOf, Demand-1, Accepted, HandsUp, TableHolds, Tells, WrittenAnew, SufficesC, Reserved, Demand-2, headerRead, inOther, SameEnd, SameNumbers, BoundarySame, Same, Demand-3}
 use Rattle.demands.proofs.Agreeing.{agree-first, numbered-image}
-use Rattle.demands.proofs.Refusing.{of-file, header-refused, table-refuses, table-keeps, turn-refuses, turn-keeps, rewrite-refuses, rewrite-keeps, question, proper-facts, proper-channel, proper-item, proper-clock, proper-count, proper-sample, proper-montage-count, proper-montage}
+use Rattle.demands.proofs.Refusing.{of-file, header-refused, room-refused, table-refuses, table-keeps, turn-refuses, turn-keeps, rewrite-refuses, rewrite-keeps, question, proper-facts, proper-channel, proper-item, proper-clock, proper-count, proper-sample, proper-montage-count, proper-montage}
 use Rattle.demands.proofs.Samples.{recording-picked, view-words}
 use Rattle.demands.proofs.Telling.{channel-words, header-told, facts-told, channel-agrees, clock-told, count-told, sample-told, montage-count-told, montage-agrees}
 use Rattle.demands.proofs.Viewing.{view-long, shown}
@@ -79,6 +82,7 @@ demand-1 s b = record {
   turn-keeps = turn-keeps s b;
   rewrite = λ order out out′ a x r i. rewrite-refuses s b order (length out) r (sym (ap Permit.meaning i) ∙ x .answer);
   rewrite-keeps = rewrite-keeps s;
+  room = λ a x r i. of-file s ofFile 0 (λ n h. h) r (room-refused s r (sym (ap Permit.meaning i) ∙ x));
   header = λ a x r i. of-file s ofFile 0 (λ n h. h) r (header-refused s r (sym (ap meaningH i) ∙ x));
   facts = λ i a x. question s meaningF FactsTold.Refused (λ r. refl) (proper-facts s i) a x;
   channel = λ i j a x. question s meaningD ChannelTold.Refused (λ r. refl) (proper-channel s i j) a x;
@@ -100,6 +104,7 @@ hands-up s n p h = record {
   table = λ out out′ a x. table-unique s out out′ out a _ x (lists-refused s out h) .0;
   turn = λ out out′ a x. turn-unique s out out′ out a _ x (turns-refused s out h) .0;
   rewrite = λ order out out′ a x. rewrite-unique s order out out′ out a _ x (rewrites-refused s order out h) .0;
+  room = λ a x. room-unique s a _ x (rw h);
   header = λ a x. header-unique s a _ x (rw h);
   facts = λ i a x. facts-unique s i a _ x (rw h);
   channel = λ i j a x. channel-unique s i j a _ x (rw h);
@@ -164,6 +169,25 @@ module _ (s : List ℕ) (b : Bytes s) {v : R.File} {t : List Event} (h : Accepte
         only = λ q u m d k f e o. form-unique q _ d bs k (z .0 .judged) (e ∙ sym (z .0 .same)) f form (o ∙ sym (z .1));
       }
 
+-- the room for a rewrite of an accepted file
+module _ (s : List ℕ) (b : Bytes s) {v : R.File} {t : List Event} (h : Accepted s v t) where
+  boundary-suffices : (n : ℕ) → ((to : Order) → length (rewritten to s) ≤ n) → SufficesC s n
+  boundary-suffices n k order out out′ a l x e =
+      let y = rewrite-apart s b order out out′ a x in
+      rewrite-enough s n k order out out′ (y .told) l (y .met) (refusalOf (a .refusal) (a .position)) (y .refused (omega (arith, e))) e
+
+  room-reserved : Reserved s v
+  room-reserved = record {
+    longer = reserved s b h;
+    no-longer = λ k to. no-longer s b h to k;
+    answer = room-told s b h;
+    enough = rewrite-enough s _ (reserved s b h);
+    own = λ k. rewrite-enough s _ (λ to. no-longer s b h to k);
+    boundary-answer = λ a x. x ∙ (rw h);
+    boundary-enough = boundary-suffices _ (reserved s b h);
+    boundary-own = λ k. boundary-suffices _ (λ to. no-longer s b h to k);
+  }
+
 pub demand-2 : (s : List ℕ) → Bytes s → Demand-2 s
 demand-2 s b = record {
   judges = λ a x. record {
@@ -176,6 +200,7 @@ demand-2 s b = record {
   lists = λ v t h out out′ a room x. described s h out out′ a room x;
   answers = λ v t h. tells s b h;
   rewrites = λ v t h order to names free out out′ a room x. written-anew s b h order to names free out out′ a room x a (rewrite-told s b h order to names free out out′ a room x);
+  reserved = λ v t h. room-reserved s b h;
   boundary-judges = boundary-judges s b;
   boundary-accepted = boundary-accepted s b;
   boundary-lists = λ v t h out out′ a room x.
@@ -257,6 +282,7 @@ module _ (s : List ℕ) (b : Bytes s) {v : R.File} {t : List Event} (h : Accepte
       let e : R.judge s′ ≡ R.judge s = z .0 ∙ sym h in
       record {
         table = boundary-table-same s s′ e;
+        room = λ a c x y. x ∙ (rw (e, z .1)) ∙ sym y;
         header = λ a c x y. rw (x ∙ ap flatHeading (header-told s h), y ∙ ap flatHeading (header-told s′ (z .0) ∙ turned-header (z .2)))
             (record { first = refl; second = refl; refusal = refl; position = refl; spelling = refl; version = refl; form = refl; script = refl; recordings = refl });
         facts = λ i a c x y. x ∙ (rw e) ∙ sym y;
@@ -292,6 +318,7 @@ module _ (s : List ℕ) (b : Bytes s) {v : R.File} {t : List Event} (h : Accepte
         long = y .1;
         order = y .2;
         table = table-same s s′ e;
+        room = λ a c x z. room-unique s a c x (rw (e, y .1) at z);
         header = λ a c x z. (
           headerRead (R.orderOf s) (reading v),
           header-unique s a _ x (sym (header-told s h)),

@@ -49,6 +49,7 @@ use Rattle.turn.specs.Turn as Turn
 use Rattle.turn.specs.Turn.{Turns}
 use Rattle.rewrite.specs.Rewrite as Rewrite
 use Rattle.rewrite.specs.Rewrite.{barrier, rewrittenIn, Rewrites}
+use Rattle.room.specs.Room.{roomIn, roomOf}
 use Rattle.demands.specs.Demands.{ofFile, ofTable, ofTurn, ofRewrite, ofQuestion, Refuses, Answered, KeepsRest, listedRows, refusalOf}
 use Rattle.demands.proofs.Makers.{maker-inside}
 
@@ -134,6 +135,14 @@ module _ (s : List ℕ) where
       go : (x : Outcome R.File) → refusal (r .0) (r .1) ≡ headerTold (R.orderOf s) x → x ≡ refused (r .0) (r .1)
       go (refused n p) h = cc
       go (passed v l t) h = refusal-value h
+
+  -- the room for a rewrite: the file's alone too
+  pub room-refused : (r : Refusal) → Permit.refusal (r .0) (r .1) ≡ roomOf s → R.judge s ≡ refused (r .0) (r .1)
+  room-refused r h = go (R.judge s) h
+    where
+      go : (x : Outcome R.File) → Permit.refusal (r .0) (r .1) ≡ roomIn x (length s) → x ≡ refused (r .0) (r .1)
+      go (refused n p) h = cc
+      go (passed v l t) h = bytes-refusal (sym h)
 
   -- A question: every refusal on the way to its answer is the file's, or 19
 

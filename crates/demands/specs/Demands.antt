@@ -75,6 +75,7 @@ use Rattle.permit.specs.declared.Written.{Written}
 use Rattle.permit.specs.declared.Written.the-variants as Written
 use Rattle.turn.specs.Turn.{Turns}
 use Rattle.rewrite.specs.Rewrite.{barrier, rewrittenIn, Rewrites}
+use Rattle.room.specs.Room.{RoomAnswer, ShortAnew}
 use Rattle.answers.specs.Flat.{countedRows, countedBytes, flatHeading, flatFacts, flatChannel, flatMontage, flatItem, flatClock, flatCount, flatSample}
 use Rattle.answers.specs.declared.Channel.{Channel}
 use Rattle.answers.specs.declared.Clock.{Clock}
@@ -86,7 +87,7 @@ use Rattle.answers.specs.declared.Item.{Item}
 use Rattle.answers.specs.declared.Montage.{Montage}
 use Rattle.answers.specs.declared.Sample.{Sample}
 use Rattle.answers.specs.declared.View.{View}
-use Rattle.psg.specs.Calls.{JudgeAnswers, TableAnswers, TurnAnswers, RewriteAnswers, HeaderAnswers, FactsAnswers, ChannelAnswers, MontageCountAnswers, MontageAnswers, PatientItemAnswers, EventItemAnswers, ClockAnswers, CountAnswers, SampleAnswers, ViewAnswers}
+use Rattle.psg.specs.Calls.{JudgeAnswers, TableAnswers, TurnAnswers, RewriteAnswers, RoomAnswers, HeaderAnswers, FactsAnswers, ChannelAnswers, MontageCountAnswers, MontageAnswers, PatientItemAnswers, EventItemAnswers, ClockAnswers, CountAnswers, SampleAnswers, ViewAnswers}
 use Rattle.demands.specs.Bits.{ChannelIs, MontageIs, SampleIs, SamplesAt}
 
 -- Demand 1: every call answers, with a value or with a refusal that document 01 gives for it; and a buffer keeps what the answer does not state
@@ -215,6 +216,7 @@ pub record Boundary (s : List ℕ) : Type 0 where
   pub rewrite : (order : ℕ) (out out′ : List ℕ) (a : Counted) → RewriteAnswers s order out out′ a →
       TakenApart s (Rewrites s order out out′) Written.Refused (λ b. countedBytes (Permit.meaning b)) ofRewrite (length (rewrittenIn (lettered order) s)) (a .refusal) (a .position) a
   pub rewrite-keeps : (order : ℕ) (out out′ : List ℕ) (a : Counted) → RewriteAnswers s order out out′ a → KeepsRest stoppedC wroteC 1 out out′ a
+  pub room : (a : Counted) → RoomAnswers s a → TakenApart s (RoomAnswer s) Written.Refused (λ b. countedBytes (Permit.meaning b)) ofFile 0 (a .refusal) (a .position) a
   pub header : (a : Heading) → HeaderAnswers s a → TakenApart s (HeaderAnswer s) HeaderTold.Refused (λ b. flatHeading (meaningH b)) ofFile 0 (a .refusal) (a .position) a
   pub facts : (i : ℕ) (a : Facts) → FactsAnswers s i a → TakenApart s (FactsAnswer s i) FactsTold.Refused (λ b. flatFacts (meaningF b)) ofQuestion 0 (a .refusal) (a .position) a
   pub channel : (i j : ℕ) (a : Channel) → ChannelAnswers s i j a → TakenApart s (ChannelAnswer s i j) ChannelTold.Refused (λ b. flatChannel (meaningD b)) ofQuestion 0 (a .refusal) (a .position) a
@@ -242,6 +244,8 @@ pub record Demand-1 (s : List ℕ) : Type 0 where
   -- rewrite, whatever the letter
   pub rewrite : (order : ℕ) (out out′ : List ℕ) (a : Written) → Rewrites s order out out′ a → Answered Written.Refused ofRewrite (length s) (length (rewrittenIn (lettered order) s)) a
   pub rewrite-keeps : (order : ℕ) (out out′ : List ℕ) (a : Written) → Rewrites s order out out′ a → KeepsRest Written.Refused Written.Bytes 1 out out′ a
+  -- the room for it: only the file is refused
+  pub room : (a : Written) → RoomAnswer s a → Answered Written.Refused ofFile (length s) 0 a
   -- the questions; about the header only the file is refused
   pub header : (a : HeaderTold) → HeaderAnswer s a → Answered HeaderTold.Refused ofFile (length s) 0 a
   pub facts : (i : ℕ) (a : FactsTold) → FactsAnswer s i a → Answered FactsTold.Refused ofQuestion (length s) 0 a
@@ -283,6 +287,7 @@ pub record HandsUp (s : List ℕ) (n p : ℕ) : Type 0 where
   pub table : (out out′ : List ℤ) (a : Listed) → Lists s out out′ a → a ≡ Listed.Refused (refusalOf n p)
   pub turn : (out out′ : List ℕ) (a : Written) → Turns s out out′ a → a ≡ Written.Refused (refusalOf n p)
   pub rewrite : (order : ℕ) (out out′ : List ℕ) (a : Written) → Rewrites s order out out′ a → a ≡ Written.Refused (refusalOf n p)
+  pub room : (a : Written) → RoomAnswer s a → a ≡ Written.Refused (refusalOf n p)
   pub header : (a : HeaderTold) → HeaderAnswer s a → a ≡ HeaderTold.Refused (refusalOf n p)
   pub facts : (i : ℕ) (a : FactsTold) → FactsAnswer s i a → a ≡ FactsTold.Refused (refusalOf n p)
   pub channel : (i j : ℕ) (a : ChannelTold) → ChannelAnswer s i j a → a ≡ ChannelTold.Refused (refusalOf n p)
@@ -429,6 +434,27 @@ pub record WrittenAnew {E : Type 0} (wrote : ℕ → E) (g : Reading) (to : Orde
   pub form : CanonicalForm (take count out′) file events
   pub only : (q : List ℕ) (v : R.File) (t : List Event) → Bytes q → Accepted q v t → CanonicalForm q v t → reading v ≡ g → R.orderOf q ≡ to → q ≡ take count out′
 
+-- with this room, a rewrite of the file s is not refused by 17: in Rattle, and for C
+abbrev pub Suffices : List ℕ → ℕ → Type 0
+Suffices s n = (order : ℕ) (out out′ : List ℕ) (a : Written) → n ≤ length out → Rewrites s order out out′ a → (r : Refusal) → a ≡ Written.Refused r → r .0 ≡ 17 → ⊥
+
+abbrev pub SufficesC : List ℕ → ℕ → Type 0
+SufficesC s n = (order : ℕ) (out out′ : List ℕ) (a : Counted) → n ≤ length out → RewriteAnswers s order out out′ a → a .refusal ≡ 17 → ⊥
+
+-- how much room the file s needs, of which v was read
+pub record Reserved (s : List ℕ) (v : R.File) : Type 0 where
+  -- the canonical file is at most 254 bytes a recording longer, and no longer where no recording's canonical length exceeds 2,147,483,647
+  pub longer : (to : Order) → length (rewritten to s) ≤ length s + 254 * length (v .recordings)
+  pub no-longer : ShortAnew v → (to : Order) → length (rewritten to s) ≤ length s
+  -- `room` answers the first, and with it `rewrite` does not refuse by 17; where the second holds, the file's own length will do
+  pub answer : (a : Written) → RoomAnswer s a → a ≡ Written.Bytes (length s + 254 * length (v .recordings))
+  pub enough : Suffices s (length s + 254 * length (v .recordings))
+  pub own : ShortAnew v → Suffices s (length s)
+  -- and so for C
+  pub boundary-answer : (a : Counted) → RoomAnswers s a → a ≡ wroteC (length s + 254 * length (v .recordings))
+  pub boundary-enough : SufficesC s (length s + 254 * length (v .recordings))
+  pub boundary-own : ShortAnew v → SufficesC s (length s)
+
 pub record Demand-2 (s : List ℕ) : Type 0 where
   -- accepted exactly when the rules accept, and refused by every call as they refuse
   pub judges : (a : Judged) → JudgedAs s a → JudgesByRules Judged.Accepted Judged.Refused s a
@@ -441,6 +467,8 @@ pub record Demand-2 (s : List ℕ) : Type 0 where
   -- with a letter that names an order, no maker's record in the way, and room, the file is written anew
   pub rewrites : (v : R.File) (t : List Event) → Accepted s v t → (order : ℕ) (to : Order) → lettered order ≡ Lettered.Names to → barrier (R.orderOf s) to (firstMaker (rows 0 t)) ≡ none →
       (out out′ : List ℕ) (a : Written) → length (rewritten to s) ≤ length out → Rewrites s order out out′ a → WrittenAnew Written.Bytes (reading v) to out′ a
+  -- in a buffer as long as `room` says
+  pub reserved : (v : R.File) (t : List Event) → Accepted s v t → Reserved s v
   -- what C is answered
   pub boundary-judges : (a : Header) → JudgeAnswers s a → JudgesByRules headerC refusedC s a
   pub boundary-accepted : (a : Header) → JudgeAnswers s a → a .refusal ≡ 0 → (h : FileHeader) × AcceptedAs s h × (a ≡ headerC h)
@@ -501,6 +529,7 @@ pub record SameButOrder (o : Order) (a b : Heading) : Type 0 where
 -- what C is answered of the file s and of the file s′ that `turn` wrote of it
 pub record BoundarySame (s s′ : List ℕ) : Type 0 where
   pub table : (out out₁ out₂ : List ℤ) (a b : Counted) → TableAnswers s out out₁ a → TableAnswers s′ out out₂ b → SameEnd a b out₁ out₂
+  pub room : (a b : Counted) → RoomAnswers s a → RoomAnswers s′ b → a ≡ b
   pub header : (a b : Heading) → HeaderAnswers s a → HeaderAnswers s′ b → SameButOrder (R.orderOf s) a b
   pub facts : (i : ℕ) (a b : Facts) → FactsAnswers s i a → FactsAnswers s′ i b → a ≡ b
   pub channel : (i j : ℕ) (a b : Channel) → ChannelAnswers s i j a → ChannelAnswers s′ i j b → a ≡ b
@@ -529,6 +558,8 @@ pub record Same (s : List ℕ) (g : Reading) (s′ : List ℕ) : Type 0 where
   pub order : R.orderOf s′ ≡ other (R.orderOf s)
   -- the same table: the answer, and the rows in the buffer
   pub table : (out out₁ out₂ : List ℤ) (a b : Listed) → Lists s out out₁ a → Lists s′ out out₂ b → SameEnd a b out₁ out₂
+  -- the same room for a rewrite
+  pub room : (a b : Written) → RoomAnswer s a → RoomAnswer s′ b → a ≡ b
   -- the same answer to each question; to the one about the header but for the order
   pub header : (a b : HeaderTold) → HeaderAnswer s a → HeaderAnswer s′ b → (h : Asked.Header) × (a ≡ HeaderTold.Header h) × (b ≡ HeaderTold.Header (inOther h))
   pub facts : (i : ℕ) (a b : FactsTold) → FactsAnswer s i a → FactsAnswer s′ i b → a ≡ b

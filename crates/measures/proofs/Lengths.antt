@@ -22,10 +22,10 @@ use Rattle.walk.proofs.Tracing.{size-trace}
 use Rattle.walk.proofs.Went.{gate-went, goes-same, by-onward, by-went, by-then}
 use Rattle.rules.specs.Rules.{Head, head, span, padOk, padding, basic, channels, Frame, Frames, frames, Maker, Next, next, Held, Placed, contentLimit, delimiter, recordingBody, recording, Descriptions, descriptions, signals}
 use Rattle.rules.specs.declared.Label.{Label}
-use Rattle.rules.specs.Canonical.{recordOf, framesBytes, framesHead, framesWritten, makerEvents, delimiterHead, delimiterEvents, content, most, sizeFor, multiplierFor}
+use Rattle.rules.specs.Canonical.{recordOf, framesBytes, framesHead, framesWritten, makerEvents, delimiterHead, delimiterEvents, content}
 use Rattle.rules.proofs.Room.{Behind, stays-next, stays-descriptions, stays-framesRest}
 use Rattle.rules.proofs.Renew.{FramesOk, frames-ok, frames-size, next-ok}
-use Rattle.rules.proofs.Sized.{sized}
+use Rattle.rules.proofs.Sized.{pad-under}
 use Rattle.rules.proofs.Written.{tablesEvents}
 use Rattle.records.proofs.Opened.{require-went}
 use Rattle.children.proofs.Chained.{tables-leads}
@@ -127,9 +127,6 @@ total-sum B len room at bytes pad span f k d all h₁ h₂ h₃ h₄ h₅ h₆ h
     let j : 32 + at + bytes + k ≤ contentLimit = rw i at h₇ in
     omega (arith, j, h₈, h₉)
 
-pad-short : (n : ℕ) → n ≤ 128 * most → span (record { size = sizeFor n; code = 0; serial = 0; multiplier = multiplierFor n }) < n + 128
-pad-short n h = let z = sized n in omega (arith, z .close, z .low h)
-
 -- a recording that these tables begin
 content-size : (label : Label) (t : Descriptions) (seconds : ℕ) (fs : List Frame) (ms : List Maker) → FramesOk (t .basic) (t .channels .own) (t .channels .value) seconds fs →
     size (tablesEvents label t ++ (recordOf (framesHead seconds (t .channels .value) fs) (framesWritten seconds (t .channels .value) fs) ++ (makerEvents ms ++ delimiterEvents))) ≡ size (tablesEvents label t) + span (framesHead seconds (t .channels .value) fs) + (size (makerEvents ms) + 16)
@@ -204,7 +201,7 @@ module _ (o : Order) (label : Label) (b : ℕ) (s : List ℕ) (bytes : Bytes s) 
         events = content-tables label t (f .seconds) (f .frames) (d .makers);
         long = n;
         few = f₂ .0 .total;
-        total = total-sum (span h) (length s) (last .room) at _ _ _ _ _ _ _ fills p (f₂ .1) (f₂ .2) (d₂ .left) (d₂ .enough) (leb-true _ contentLimit (l .0)) n (pad-short _ (f₂ .0 .total));
+        total = total-sum (span h) (length s) (last .room) at _ _ _ _ _ _ _ fills p (f₂ .1) (f₂ .2) (d₂ .left) (d₂ .enough) (leb-true _ contentLimit (l .0)) n (pad-under _ 128 (omega arith) (f₂ .0 .total));
       })
 
   pub accepted : (held : Option Held) {x : Placed} {e : ℕ} → see o b s b (recordingBody label held h) ≡ goes x e → Accepted o label b s x

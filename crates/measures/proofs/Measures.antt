@@ -56,7 +56,7 @@ module _ (n : ℕ) (large : Large n) where
   is-share = rw (C.sizeFor, lt-leb n C.most (large .more), is-times)
 
   pub times-low : (1 ≤ times) × (times ≤ 128)
-  times-low = (omega (arith, large .more), rw (← is-times) (sized n .low (large .served)))
+  times-low = (omega (arith, large .more), rw (← is-times) (sized n .low 128 (large .served)))
 
   is-product : R.lengthOf (C.sizeFor n) (C.multiplierFor n) ≡ C.shares n times * times
   is-product = rw (is-times, is-share) (length-times (C.shares n times) times (times-low .0))
@@ -105,7 +105,7 @@ module _ (at end last seconds size filled count : ℕ) where
       go true true p q =
           let w = sized whole in
           let l = leb-true whole mostServed q in
-          rw (measuredFor, p, q) (record { seconds = h₁; low = h₂; fits = h₃; small = h₄; frames = h₅; end = h₆; last = h₇; signals = sized frames .serves; whole = w .serves; most = omega (arith, l, w .close, w .low l) })
+          rw (measuredFor, p, q) (record { seconds = h₁; low = h₂; fits = h₃; small = h₄; frames = h₅; end = h₆; last = h₇; signals = sized frames .serves; whole = w .serves; most = omega (arith, l, w .close, w .low 128 l) })
       go true false p q = rw (measuredFor, p, q) tt
       go false y p q = rw (measuredFor, p) tt
 

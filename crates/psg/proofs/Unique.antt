@@ -6,7 +6,7 @@ use mathlib.Core.List.{List}
 use Prim.Native.Nat.{ℕ}
 use lib.IntN.{ℤ}
 use Rattle.answers.specs.Flat.{Leaves}
-use Rattle.psg.specs.Calls.{JudgeAnswers, TableAnswers, TurnAnswers, RewriteAnswers}
+use Rattle.psg.specs.Calls.{JudgeAnswers, TableAnswers, TurnAnswers, RewriteAnswers, RoomAnswers}
 use Rattle.psg.specs.Calls.{HeaderAnswers, FactsAnswers, ChannelAnswers, MontageCountAnswers, MontageAnswers, PatientItemAnswers, EventItemAnswers}
 use Rattle.psg.specs.Calls.{ClockAnswers, CountAnswers, SampleAnswers, ViewAnswers}
 use Rattle.answers.specs.declared.Channel.{Channel}
@@ -43,6 +43,9 @@ module _ (s : List ℕ) where
 
   pub psg-rewrite-unique : (c : ℕ) (out out₁ out₂ : List ℕ) (a b : Counted) → RewriteAnswers s c out out₁ a → RewriteAnswers s c out out₂ b → (a ≡ b) × (out₁ ≡ out₂)
   psg-rewrite-unique c out out₁ out₂ a b = only-leaves
+
+  pub psg-rewrite-room-unique : (a b : Counted) → RoomAnswers s a → RoomAnswers s b → a ≡ b
+  psg-rewrite-room-unique a b = only
 
   -- the questions
   pub psg-facts-unique : (i : ℕ) (a b : Facts) → FactsAnswers s i a → FactsAnswers s i b → a ≡ b

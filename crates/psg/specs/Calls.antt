@@ -10,6 +10,7 @@ use Rattle.rules.specs.Rules as R
 use Rattle.table.specs.Table as Table
 use Rattle.turn.specs.Turn as Turn
 use Rattle.rewrite.specs.Rewrite as Rewrite
+use Rattle.room.specs.Room.{roomOf}
 use Rattle.questions.specs.Questions.{headerOf, factsOf, channelOf, montageCountOf, montageOf, patientItemOf, eventItemOf, clockOf, countOf, sampleOf, viewOf}
 use Rattle.answers.specs.Flat.{Leaves, countedRows, countedBytes, flatHeader, flatHeading, flatFacts, flatChannel, flatMontage, flatItem, flatClock, flatCount, flatSample, flatView}
 use Rattle.answers.specs.declared.Channel.{Channel}
@@ -35,6 +36,10 @@ TurnAnswers s out out′ a = Leaves (countedBytes (Turn.answerOf s (length out))
 -- c is the letter of the order asked for
 abbrev pub RewriteAnswers : List ℕ → ℕ → List ℕ → List ℕ → Counted → Type 0
 RewriteAnswers s c out out′ a = Leaves (countedBytes (Rewrite.answerOf s c (length out))) (Rewrite.afterwards s c out) a out′
+
+-- so many bytes are enough for `psg_rewrite`
+abbrev pub RoomAnswers : List ℕ → Counted → Type 0
+RoomAnswers s a = a ≡ countedBytes (roomOf s)
 
 -- the questions: about the header, and about recording i
 

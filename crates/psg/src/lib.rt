@@ -1,5 +1,5 @@
 // What C and Rust link: each call takes a proved answer apart into a struct of numbers, and adds nothing.
-ghost use Rattle.psg.specs.Calls.{JudgeAnswers, TableAnswers, TurnAnswers, RewriteAnswers};
+ghost use Rattle.psg.specs.Calls.{JudgeAnswers, TableAnswers, TurnAnswers, RewriteAnswers, RoomAnswers};
 ghost use Rattle.psg.specs.Calls.{HeaderAnswers, FactsAnswers, ChannelAnswers, MontageCountAnswers, MontageAnswers};
 ghost use Rattle.psg.specs.Calls.{PatientItemAnswers, EventItemAnswers, ClockAnswers};
 ghost use Rattle.psg.specs.Calls.{CountAnswers, SampleAnswers, ViewAnswers};
@@ -56,6 +56,14 @@ pub extern "C" fn psg_rewrite(file: &[u8], order: u8, out: &mut [u8]) -> Counted
     ensures { λ a. ⌜ RewriteAnswers (now (file .entry)) order (now (out .entry)) (now (out .exit)) a ⌝ }
 {
     answers::written_of(rewrite::rewrite(file, order, out))
+}
+
+// Room that is enough for the canonical form of the file, in either order: so many bytes.
+#[no_mangle]
+pub extern "C" fn psg_rewrite_room(file: &[u8]) -> Counted
+    ensures { λ a. ⌜ RoomAnswers (now (file .entry)) a ⌝ }
+{
+    answers::written_of(room::room(file))
 }
 
 // The questions, in the order of crate `questions`.

@@ -4,7 +4,7 @@ use mathlib.Core.Path.{_≡_, refl, ap, _∙_}
 use mathlib.Core.Bool.{Bool, true, false}
 use mathlib.Core.List.{List, [], _∷_, _++_, map}
 use mathlib.Core.Option.{Option, none, some}
-use Prim.Native.Nat.{ℕ, zero, suc, _+_, _*_, _-_, _/_, _%_, _^_, _≤_, _<_, max}
+use Prim.Native.Nat.{ℕ, zero, suc, _+_, _*_, _-_, _/_, _%_, _^_, _≤_, _<_}
 use native.Mathlib.Omega.{arith}
 use lib.Dec.{leb, ltb}
 use borrow.Author.Tests.{leb-true, ltb-true, ltb-false, le-leb, lt-ltb, le-ltb, eq-eqb}
@@ -13,11 +13,11 @@ use Rattle.words.specs.Numbers.{Bytes}
 use Rattle.walk.specs.Plays.{Plays, gives, checks, reads}
 use Rattle.walk.specs.Walk.{Event, size, _>>=_, _>>_}
 use Rattle.walk.proofs.Laws.{plays-bind, plays-give, size-append, zeros-length, by-split, by-check, by-read, plays-gave}
-use Rattle.rules.specs.Canonical.{sizeFor, multiplierFor, most, zeroes, recordOf, framesBytes, content, recordingHead, recordingEvents, digits, headerEvents, anew}
-use Rattle.rules.specs.Rules.{between, padding, padded, makerCode, sameBytes, version, formed, formOf, allSpaces, decimal, countOf, countFits, countIs, isScript, spelled, spellingOf, Label, Heading, FileHeader, fileHeader, span, lengthOf, Recording, Held, contentLimit, Placed, recording, recordings, File, Contents, contents, file, channels}
+use Rattle.rules.specs.Canonical.{multiplierFor, most, zeroes, recordOf, framesBytes, content, recordingHead, recordingEvents, digits, headerEvents, anew}
+use Rattle.rules.specs.Rules.{between, padding, padded, makerCode, sameBytes, version, formed, formOf, allSpaces, decimal, countOf, countFits, countIs, isScript, spelled, spellingOf, Label, Heading, FileHeader, fileHeader, span, Recording, Held, contentLimit, Placed, recording, recordings, File, Contents, contents, file, channels}
 use Rattle.rules.proofs.Renew.{and-true, and-both, record-size}
 use Rattle.rules.proofs.Renewed.{RecordingOk, recording-ok, Anew, recording-from}
-use Rattle.rules.proofs.Sized.{sized, Sized}
+use Rattle.rules.proofs.Sized.{sized, Sized, pad-under}
 use Rattle.rules.proofs.Named.{spells, forms}
 
 -- A recording
@@ -25,14 +25,8 @@ use Rattle.rules.proofs.Named.{spells, forms}
 close-at : (T x : ℕ) → T ≤ contentLimit + x → x ≤ 128 → T ≤ 128 * most
 close-at T x h k = omega arith
 
-max-low : (m : ℕ) → m ≤ 128 → max 1 m ≤ 128
-max-low m h = omega arith
-
-pad-low : (n : ℕ) → n ≤ 128 * most → lengthOf (sizeFor n) (multiplierFor n) - n ≤ 128
-pad-low n h = omega (arith, sized n .close, max-low (multiplierFor n) (sized n .low h))
-
 pub total-low : (label : Label) (held : Option Held) (r : Recording) → RecordingOk label held r → 16 + size (content label r) ≤ 128 * most
-total-low label held r k = close-at (16 + size (content label r)) _ (k .limited) (pad-low (framesBytes (r .seconds) (r .channels) (r .frames)) (k .frames .total))
+total-low label held r k = close-at (16 + size (content label r)) _ (k .limited) (omega (arith, pad-under (framesBytes (r .seconds) (r .channels) (r .frames)) 128 (omega arith) (k .frames .total)))
 
 -- its events, written anew
 abbrev pub recordingWritten : Label → ℕ → Recording → List Event
@@ -43,7 +37,7 @@ pub recording-plays : (label : Label) (held : Option Held) (r : Recording) → R
 recording-plays label held r k i room b s =
     let T : ℕ = 16 + size (content label r) in
     let z : Sized T = sized T in
-    let l : multiplierFor T ≤ 128 = z .low (total-low label held r k) in
+    let l : multiplierFor T ≤ 128 = z .low 128 (total-low label held r k) in
     recording-from label held r k (recordingHead label i r) (span (recordingHead label i r) - T) (omega (arith, z .serves)) (z .close) i room
     (record { size = omega (arith, z .small); code = omega arith; serial = b; multiplier = omega arith }) refl
     (record { low = l; small = omega (arith, z .small); fits = le-leb 16 (span (recordingHead label i r)) (omega (arith, z .serves)); room = s; serial = eq-eqb i i refl })

@@ -103,7 +103,7 @@ sized-head : (n c i : ℕ) (h : Head) → Opens c i h → SizedAs n (h .size) (h
 sized-head n c i h k a = let z = sized-unique n a (sized-as n) in λ j. record { size = z .0 j; code = k .code j; serial = k .serial j; multiplier = z .1 j }
 
 sized-opens : (n c i : ℕ) → n ≤ 128 * most → Opens c i (sizedHead n c i)
-sized-opens n c i l = let z = sized n in record { low = z .low l; small = omega (arith, z .small); code = refl; serial = refl }
+sized-opens n c i l = let z = sized n in record { low = z .low 128 l; small = omega (arith, z .small); code = refl; serial = refl }
 
 sized-like : {n n′ s s′ m m′ : ℕ} → n ≡ n′ → s ≡ s′ → m ≡ m′ → SizedAs n s m → SizedAs n′ s′ m′
 sized-like e f g k = rw (← e, ← f, ← g) k

@@ -467,7 +467,7 @@ frames-plays b own cs t fs k back room r =
     let t₀ : t ≤ 3600 = leb-true t 3600 (and-true (leb 1 t) _ (k .seconds) .1) in
     let s₀ : l < 256 ^ 4 = omega (arith, k .small) in
     plays-bind _ (admit-plays room 128 (leb 32) (eqb 0) h
-    (record { low = z .low (k .total); small = omega (arith, z .small); fits = le-leb 32 (span h) (omega (arith, z .serves)); room = r; serial = refl }))
+    (record { low = z .low 128 (k .total); small = omega (arith, z .small); fits = le-leb 32 (span h) (omega (arith, z .serves)); room = r; serial = refl }))
     (checks (k .held) (numbers (omega arith) (checks (k .seconds) (checks (k .exact) (numbers s₀
     (checks (and-both (between l (l + 127) l) _ (and-both (leb l l) _ (le-leb l l (omega arith)) (le-leb l (l + 127) (omega arith))) (lt-ltb l limit (k .small)))
     (numbers (k .few) (checks (eq-eqb (length fs) (b .frames) (k .count))

@@ -19,7 +19,7 @@ use Rattle.rules.specs.Rules.{between, padding, padded, makerCode, zeros
 use Rattle.rules.specs.declared.Form.the-variants as Form
 use Rattle.rules.proofs.Cases.{by-form}
 use Rattle.rules.proofs.Steps.{body-steps}
-use Rattle.rules.proofs.Renew.{HeadOk, head-plays, Admitted, admit-plays, fixed-plays, basic-ok, basic-size, All, record-size, ChannelsOk, few-channels, channels-size, channels-ok, channels-plays, ItemsOk, items-ok, items-size, items-plays, padding-plays, FramesOk, frames-ok, frames-size, frames-plays, if-true, if-false, if-case, MakerOk, next-ok, next-plays, makers-count}
+use Rattle.rules.proofs.Renew.{HeadOk, head-plays, Admitted, admit-plays, admit-ok, fixed-plays, basic-ok, basic-size, All, record-size, ChannelsOk, few-channels, channels-size, channels-ok, channels-plays, ItemsOk, items-ok, items-size, items-plays, padding-plays, FramesOk, frames-ok, frames-size, frames-plays, if-true, if-false, if-case, MakerOk, next-ok, next-plays, makers-count}
 use Rattle.rules.proofs.Sized.{sized}
 
 abbrev pub pick : Bool → Head → Head → Head
@@ -100,6 +100,10 @@ pub montage-channels : (label : Label) (cs ms : List Channel) → MontageOk labe
 unfolding MontageOk
 montage-channels label cs ms = by-form (λ l. MontageOk l cs ms → ChannelsOk (montageGroup (length cs)) ms) (λ k. absurd k) (λ k. k) label
 
+-- the padding of a canonical 140
+abbrev pub framesPadding : Recording → ℕ
+framesPadding r = span (framesHead (r .seconds) (r .channels) (r .frames)) - framesBytes (r .seconds) (r .channels) (r .frames)
+
 pub record RecordingOk (label : Label) (held : Option Inherited) (r : Recording) : Type 0 where
   pub basic : Plays (basicFields (r .basic)) basicBody (r .basic)
   pub makers₁ : All MakerOk (r .makers₁)
@@ -109,7 +113,14 @@ pub record RecordingOk (label : Label) (held : Option Inherited) (r : Recording)
   pub montage : PartOk (MontageOk label (r .channels)) (some []) (r .ownMontage) (r .montage) (r .makers₅)
   pub frames : FramesOk (r .basic) (r .ownChannels) (r .channels) (r .seconds) (r .frames)
   pub makers₆ : All MakerOk (r .makers₆)
-  pub limited : 16 + size (content label r) ≤ contentLimit + (span (framesHead (r .seconds) (r .channels) (r .frames)) - framesBytes (r .seconds) (r .channels) (r .frames))
+  pub limited : 16 + size (content label r) ≤ contentLimit + framesPadding r
+
+-- a recording that was read in this room
+pub record FitsAnew (label : Label) (room : ℕ) (x : Placed) : Type 0 where
+  -- it was in the room
+  pub inside : x .layout .bytes ≤ room
+  -- its canonical content is no longer than it was itself, but for the padding of the canonical 140
+  pub less : 16 + size (content label (x .recording)) ≤ x .layout .bytes + framesPadding (x .recording)
 
 -- the lengths of the parts
 partC : Label → Recording → ℕ
@@ -148,17 +159,28 @@ content-size label r b f =
       size-append (makerEvents (r .makers₆)),
     )
 
-limited-sum : (B m₁ n C c P p E e M m sp fb pd m₆ d sp′ L all : ℕ) → m₁ + n ≡ B - 144 → C + c ≡ n → P + p ≡ c → E + e ≡ p → M + m ≡ e → fb + pd ≡ sp → sp ≤ m → m₆ + d ≡ m - sp → 16 ≤ d →
-    B - (d - 16) - pd ≤ L → all ≡ 128 + (m₁ + (C + (P + (E + (M + (sp′ + (m₆ + 16))))))) → fb ≤ sp′ → 16 + all ≤ L + (sp′ - fb)
-limited-sum B m₁ n C c P p E e M m sp fb pd m₆ d sp′ L all h₁ h₂ h₃ h₄ h₅ h₆ h₇ h₈ h₉ h₁₀ h₁₁ h₁₂ =
+-- the 140 is a part of the content, beside 144 bytes at least
+pub frames-inside : (label : Label) (held : Option Inherited) (r : Recording) → RecordingOk label held r → 144 + span (framesHead (r .seconds) (r .channels) (r .frames)) ≤ size (content label r)
+unfolding spanF
+frames-inside label held r k = omega (arith, content-size label r (k .basic) (k .frames))
+
+-- what was read of a recording of B bytes, but for the padding behind the delimiter and that of the 140, is what is written of it, but for the padding of the canonical 140
+content-sum : (B m₁ n C c P p E e M m sp fb pd m₆ d sp′ all : ℕ) → m₁ + n ≡ B - 144 → C + c ≡ n → P + p ≡ c → E + e ≡ p → M + m ≡ e → fb + pd ≡ sp → sp ≤ m → m₆ + d ≡ m - sp → 16 ≤ d →
+    all ≡ 128 + (m₁ + (C + (P + (E + (M + (sp′ + (m₆ + 16))))))) → fb ≤ sp′ → 16 + all ≡ B - (d - 16) - pd + (sp′ - fb)
+content-sum B m₁ n C c P p E e M m sp fb pd m₆ d sp′ all h₁ h₂ h₃ h₄ h₅ h₆ h₇ h₈ h₉ h₁₀ h₁₁ =
     let k₁ : m ≡ sp + (m₆ + d) = omega (arith, h₇, h₈) in
     let k₂ : B ≡ 144 + (m₁ + (C + (P + (E + (M + (sp + (m₆ + d))))))) = omega (arith, h₁, h₂, h₃, h₄, h₅, h₉, k₁) in
     let k₃ : B - (d - 16) - pd ≡ 160 + (m₁ + (C + (P + (E + (M + (fb + m₆)))))) = omega (arith, k₂, h₆, h₉) in
-    let k₄ : 160 + (m₁ + (C + (P + (E + (M + (fb + m₆)))))) ≤ L = rw k₃ at h₁₀ in
-    final m₁ C P E M fb m₆ sp′ L all k₄ h₁₁ h₁₂
+    final m₁ C P E M fb m₆ sp′ (B - (d - 16) - pd) all k₃ h₁₀ h₁₁
   where
-    final : (m₁ C P E M fb m₆ sp′ L all : ℕ) → 160 + (m₁ + (C + (P + (E + (M + (fb + m₆)))))) ≤ L → all ≡ 128 + (m₁ + (C + (P + (E + (M + (sp′ + (m₆ + 16))))))) → fb ≤ sp′ → 16 + all ≤ L + (sp′ - fb)
+    final : (m₁ C P E M fb m₆ sp′ L all : ℕ) → L ≡ 160 + (m₁ + (C + (P + (E + (M + (fb + m₆)))))) → all ≡ 128 + (m₁ + (C + (P + (E + (M + (sp′ + (m₆ + 16))))))) → fb ≤ sp′ → 16 + all ≡ L + (sp′ - fb)
     final m₁ C P E M fb m₆ sp′ L all k h g = omega arith
+
+less-twice : (a b c : ℕ) → a - b - c ≤ a
+less-twice a b c = omega arith
+
+under : (a l b p x : ℕ) → a ≡ x + p → x ≤ l → x ≤ b → (a ≤ l + p) × (a ≤ b + p)
+under a l b p x e h k = (omega arith, omega arith)
 
 channels-good : (g : Group) (room : ℕ) (h : Head) (u : List Event) (cs : List Channel) → Plays u (channels g room h) cs → ChannelsOk g cs × (size (channelsRecord g cs) ≡ span h) × (span h ≤ room)
 unfolding channelsRecord
@@ -175,11 +197,11 @@ items-good : (ok : ℕ → Bool) (code room : ℕ) (h : Head) (u : List Event) (
 unfolding itemsRecord
 items-good ok code room h u is p = let g = items-ok ok room h p in (g .0, items-size code is ∙ g .1, g .2)
 
-pub recording-ok : (label : Label) (held : Option Inherited) (room i : ℕ) {t : List Event} {x : Placed} → Plays t (recording label held room i) x → RecordingOk label held (x .recording)
+recorded : (label : Label) (held : Option Inherited) (room i : ℕ) {t : List Event} {x : Placed} → Plays t (recording label held room i) x → RecordingOk label held (x .recording) × FitsAnew label room x
 unfolding recording signals partC partP partE partM spanF _>>=_ _>>_ between padding padded makerCode
-recording-ok label held room i p =
+recorded label held room i p =
     by-split (head room) _ p λ h _ _ _ p. by-check p λ _ p.
-    by-split (admit room 128 (leb 16) (eqb i) h) _ p λ _ _ _ _ p.
+    by-split (admit room 128 (leb 16) (eqb i) h) _ p λ _ _ _ a₀ p.
     by-split (basic (span h - 16)) _ (rw body-steps at p) λ b _ _ b₀ p.
     let g : Group = channelsGroup label (b .channels) in
     by-split (next (span h) (span h - 144)) _ p λ n _ _ n₀ p.
@@ -199,18 +221,18 @@ recording-ok label held room i p =
     let m₁ = part-ok (MontageOk label (c .value)) (channelsRecord (montageGroup (length (c .value)))) 350 (montage label (c .value)) (montage-good label (c .value)) (span h) (some []) (e .next) (e₁ .enough) m₀ in
     let f₁ = frames-ok b (c .own) (c .value) (span h - m .next .room - 20) (m .next .room) (m .next .head) f₀ in
     let d₁ = next-ok (span h) (m .next .room - span (m .next .head)) d₀ in
-    rw (plays-gave p)
-    (record {
-      basic = b₁;
-      makers₁ = n₁ .each;
-      channels = c₁ .good;
-      patient = q₁ .good;
-      events = e₁ .good;
-      montage = m₁ .good;
-      frames = f₁ .0;
-      makers₆ = d₁ .each;
-      limited = limited-sum (span h) _ _ _ _ _ _ _ _ _ _ _ _ _ _ _ _ contentLimit _ (n₁ .left) (c₁ .left) (q₁ .left) (e₁ .left) (m₁ .left) (f₁ .1) (f₁ .2) (d₁ .left) (d₁ .enough) (leb-true _ contentLimit l) (content-size label _ b₁ (f₁ .0)) (sized _ .serves);
-    })
+    let w = content-sum (span h) _ _ _ _ _ _ _ _ _ _ _ _ _ _ _ _ _ (n₁ .left) (c₁ .left) (q₁ .left) (e₁ .left) (m₁ .left) (f₁ .1) (f₁ .2) (d₁ .left) (d₁ .enough) (content-size label _ b₁ (f₁ .0)) (sized _ .serves) in
+    let z = under _ contentLimit (span h) _ _ w (leb-true _ contentLimit l) (less-twice (span h) _ _) in
+    rw (plays-gave p) (
+      record { basic = b₁; makers₁ = n₁ .each; channels = c₁ .good; patient = q₁ .good; events = e₁ .good; montage = m₁ .good; frames = f₁ .0; makers₆ = d₁ .each; limited = z .0 },
+      record { inside = admit-ok room 128 (leb 16) (eqb i) h a₀ .room; less = z .1 },
+    )
+
+pub recording-ok : (label : Label) (held : Option Inherited) (room i : ℕ) {t : List Event} {x : Placed} → Plays t (recording label held room i) x → RecordingOk label held (x .recording)
+recording-ok label held room i p = recorded label held room i p .0
+
+pub recording-fits : (label : Label) (held : Option Inherited) (room i : ℕ) {t : List Event} {x : Placed} → Plays t (recording label held room i) x → FitsAnew label room x
+recording-fits label held room i p = recorded label held room i p .1
 
 -- the events of a recording in the order in which the walk has them: each head is read with what stands before it
 
@@ -359,7 +381,7 @@ module _ (label : Label) (held : Option Inherited) (r : Recording) (k : Recordin
   plain140 =
       let z = sized (framesBytes (r .seconds) (r .channels) (r .frames)) in
       let t = k .frames .total in
-      record { ok = record { size = omega (arith, z .small); code = omega arith; serial = omega arith; multiplier = omega (arith, z .low t) }; code = refl }
+      record { ok = record { size = omega (arith, z .small); code = omega arith; serial = omega arith; multiplier = omega (arith, z .low 128 t) }; code = refl }
 
   plain-items : (ok : ℕ → Bool) (code : ℕ) (is : List Item) → ItemsOk ok is → code < 1000 → makerCode code ≡ false → Plain (itemsHead code is)
   plain-items ok code is g c m = record { ok = record { size = omega (arith, g .small); code = omega arith; serial = omega arith; multiplier = omega arith }; code = m }

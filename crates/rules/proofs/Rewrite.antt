@@ -82,7 +82,7 @@ Low label r = (multiplierFor (16 + size (content label r)) ≤ 128) × (multipli
 recordings-low : (label : Label) (held : Option Held) (rs : List Recording) → RecordingsOk label held rs → All (Low label) rs
 recordings-low label held [] k = tt
 recordings-low label held (r ∷ rs) k = (
-  (sized (16 + size (content label r)) .low (total-low label held r (k .0)), sized (framesBytes (r .seconds) (r .channels) (r .frames)) .low (k .0 .frames .total)),
+  (sized (16 + size (content label r)) .low 128 (total-low label held r (k .0)), sized (framesBytes (r .seconds) (r .channels) (r .frames)) .low 128 (k .0 .frames .total)),
   recordings-low label (some (record { channels = r .channels; patient = r .patient })) rs (k .1),
 )
 

@@ -15,7 +15,7 @@ pub record Sized (n : ℕ) : Type 0 where
   pub small : sizeFor n ≤ most
   pub serves : n ≤ lengthOf (sizeFor n) (multiplierFor n)
   pub close : lengthOf (sizeFor n) (multiplierFor n) - n < max 1 (multiplierFor n)
-  pub low : n ≤ 128 * most → multiplierFor n ≤ 128
+  pub low : (k : ℕ) → n ≤ k * most → multiplierFor n ≤ k
 
 -- by a positive number, rounded up
 module _ (n m : ℕ) (h : 0 < m) where
@@ -55,7 +55,7 @@ unfolding multiplierFor sizeFor lengthOf
 fits-once n h =
     let m : multiplierFor n ≡ 0 = rw (multiplierFor, le-leb n most h) in
     let s : sizeFor n ≡ n = rw (sizeFor, le-leb n most h) in
-    record { small = rw s h; serves = rw (m, s) (omega arith); close = rw (m, s) (omega arith); low = λ _. rw m (omega arith) }
+    record { small = rw s h; serves = rw (m, s) (omega arith); close = rw (m, s) (omega arith); low = λ _ _. rw m (omega arith) }
 
 -- of more than fits
 module _ (n : ℕ) (h : most < n) where
@@ -86,7 +86,7 @@ fits-more n h =
       small = rw s (shares-le n (multiplierFor n) z most (omega arith));
       serves = omega arith;
       close = rw l (omega arith);
-      low = λ k. rw m (shares-le n most (omega arith) 128 k);
+      low = λ k l. rw m (shares-le n most (omega arith) k l);
     }
 
 pub sized : (n : ℕ) → Sized n
@@ -95,6 +95,10 @@ sized n = go (leb n most) refl
     go : (x : Bool) → leb n most ≡ x → Sized n
     go true e = fits-once n (leb-true n most e)
     go false e = fits-more n (leb-false n most e)
+
+-- a record that a multiplier of k serves has less than k bytes of padding
+pub pad-under : (n k : ℕ) → 1 ≤ k → n ≤ k * most → lengthOf (sizeFor n) (multiplierFor n) < n + k
+pad-under n k l h = omega (arith, sized n .close, sized n .low k h)
 
 -- They are what document 01 gives a record of total length n, and nothing else is
 

@@ -54,6 +54,7 @@ fn question(file: &[u8], op: &str, args: &[u64]) -> Option<Result<String, psg::R
     let args: Vec<usize> = args.iter().map(|&arg| arg as usize).collect();
     Some(match (op, &args[..]) {
         ("header", &[]) => psg::header(file).map(header),
+        ("rewrite_room", &[]) => psg::rewrite_room(file).map(|n| n.to_string()),
         ("facts", &[r]) => psg::facts(file, r).map(|f| joined(&[f.channels, f.frames, f.seconds])),
         ("channel", &[r, c]) => psg::channel(file, r, c).map(channel),
         ("montage_count", &[r]) => psg::montage_count(file, r).map(|n| n.to_string()),

@@ -61,8 +61,9 @@ fn turned_back(file: &[u8], turned: &[u8]) -> Result<(), Failed> {
     Ok(())
 }
 
-/// In both orders, from the file and from its turned copy.
+/// In both orders, from the file and from its turned copy, and within the room that is reserved.
 fn rewritten(file: &[u8], turned: &[u8]) -> Result<(), Failed> {
+    let room = psg::rewrite_room(file).map_err(|refusal| refusal.to_string())?;
     for order in [Order::Little, Order::Big] {
         let anew = psg::rewritten(file, order).map_err(|refusal| refusal.to_string())?;
         let other = psg::rewritten(turned, order).map_err(|refusal| refusal.to_string())?;
@@ -71,9 +72,10 @@ fn rewritten(file: &[u8], turned: &[u8]) -> Result<(), Failed> {
         let second = second::rewrite::rewrite(file, order.letter().into(), u64::MAX);
         let second = second.map_err(|refusal| format!("the second program: {refusal:?}"))?;
         same("of the second program", anew == second, true)?;
+        same("in its room", anew.len() <= room, true)?;
         let (size, multiplier) = file::canonical_signals(&anew);
         println!(
-            "rewritten, {order:?}: {} bytes; its 140 is {size} times {multiplier}",
+            "rewritten, {order:?}: {} bytes, with room for {room}; its 140 is {size} times {multiplier}",
             anew.len()
         );
     }

@@ -6,7 +6,7 @@ use crate::lines::{answer_line, joined, listed, written, Desk, Question};
 use crate::model::{Calibration, Item, Model, Sample, Span, Sub};
 use crate::questions;
 use crate::refusal::Refusal;
-use crate::rewrite::rewrite;
+use crate::rewrite::{rewrite, rewrite_room};
 use crate::table::table;
 use crate::turn::turn;
 
@@ -36,6 +36,7 @@ pub fn answer(file: &[u8], op: &str, args: &[u64]) -> Option<Result<String, Refu
         ("view", &[r, f, c]) => Ok(span_values(questions::view(file, r, f, c))),
         ("sample", &[r, f, c, s]) => questions::sample(file, r, f, c, s).map(sample_values),
         ("rewrite", &[order, room]) => rewrite(file, order, room).map(|out| written(&out)),
+        ("rewrite_room", &[]) => rewrite_room(file).map(|n| n.to_string()),
         ("turn", &[room]) => turn(file, room).map(|out| written(&out)),
         _ => return None,
     })

@@ -27,6 +27,15 @@ pub fn rewrite(file: &[u8], order: u64, room: u64) -> Result<Vec<u8>, Refusal> {
     Ok(writer.out)
 }
 
+/// What a rewrite is given for each recording beyond the file's length.
+const RESERVED: usize = 254;
+
+/// The bytes to reserve for a rewrite in either order, before its length is known.
+pub fn rewrite_room(file: &[u8]) -> Result<usize, Refusal> {
+    let model = judge(file)?;
+    Ok(file.len() + RESERVED * model.recordings.len())
+}
+
 fn asked_order(letter: u64) -> Result<Order, Refusal> {
     u8::try_from(letter)
         .ok()

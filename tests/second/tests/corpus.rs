@@ -78,7 +78,7 @@ fn every_question_is_answered_and_refused() {
             }
         }
     }
-    let ops = "table header facts channel montage_count patient_item event_item clock count sample rewrite turn";
+    let ops = "table header facts channel montage_count patient_item event_item clock count sample rewrite rewrite_room turn";
     for op in ops.split(' ') {
         assert!(found.contains(&format!("{op} refused")), "{op} refused");
         let spellings = Spelling::ALL.map(|spelling| format!("{op} ok {:?}", Some(spelling)));

@@ -8,7 +8,7 @@ use second::model::{Item, Model, Recording, Span, Sub};
 use second::questions::{self, sample_at};
 use second::record::{Kind, Rate, MICROSECONDS};
 use second::refusal::{Refusal, IDENTIFIER};
-use second::rewrite::rewrite;
+use second::rewrite::{rewrite, rewrite_room};
 use second::table::table;
 use second::turn::turn;
 use std::collections::{BTreeMap, BTreeSet};
@@ -116,6 +116,20 @@ fn a_rewritten_file_reads_the_same_and_is_canonical() {
                     assert_eq!(rewrite(&out, letter(order), ROOM), Ok(out));
                 }
             }
+        }
+    }
+}
+
+/// Small as they are, none of them needs a multiplier, so their own length is room enough.
+#[test]
+fn a_rewrite_fits_the_room_that_is_reserved_for_it() {
+    for sheet in valid_files() {
+        let length = sheet.bytes.len();
+        let count = judge(&sheet.bytes).expect("a valid file").recordings.len();
+        assert_eq!(rewrite_room(&sheet.bytes), Ok(length + 254 * count));
+        for order in [Order::Little, Order::Big] {
+            let refusal = rewrite(&sheet.bytes, letter(order), length as u64).err();
+            assert!(refusal.is_none_or(|refusal| refusal.number == 18));
         }
     }
 }

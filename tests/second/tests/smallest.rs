@@ -9,7 +9,7 @@ use second::listing::listing;
 use second::model::{Sample, Span};
 use second::questions;
 use second::refusal::Refusal;
-use second::rewrite::rewrite;
+use second::rewrite::{rewrite, rewrite_room};
 use second::table::table;
 use second::turn::turn;
 
@@ -107,6 +107,9 @@ fn turned_and_rewritten() {
         rewrite(&little, u64::from(b'B'), 561).err(),
         refused(17, 562)
     );
+    assert_eq!(rewrite_room(&little), Ok(562 + 254));
+    assert_eq!(rewrite_room(&big), Ok(562 + 254));
+    assert_eq!(rewrite_room(&little[..561]).err(), refused(10, 32));
     for letter in [0, u64::from(b'l'), 256 + u64::from(b'L'), u64::MAX] {
         assert_eq!(rewrite(&little, letter, 0).err(), refused(19, 0));
     }

@@ -4,7 +4,7 @@
 use crate::ask::answer;
 use crate::bytes::Order;
 use crate::corpus::shown::shown;
-use crate::generate::{self, questions, Question, HEADER};
+use crate::generate::{self, questions, Question, PLAIN};
 use crate::judge::judge;
 use crate::lines::answer_line;
 use crate::listing::{self, listing};
@@ -95,7 +95,7 @@ fn about(file: &[u8], random: &mut Random) -> Vec<Question> {
     let percent = judge(file).map_or(100, |_| KEPT_PERCENT);
     let mut all = writing(file);
     let drawn = questions(file, random);
-    let kept = |question: &Question| *question == HEADER || random.chance(percent);
+    let kept = |question: &Question| PLAIN.contains(question) || random.chance(percent);
     all.extend(drawn.into_iter().filter(kept));
     all
 }

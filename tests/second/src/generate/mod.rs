@@ -8,7 +8,7 @@ mod questions;
 mod sheet;
 
 pub use damage::{NO_FORMS, NO_IDENTIFIERS};
-pub use questions::{questions, Question, HEADER};
+pub use questions::{questions, Question, PLAIN};
 pub use sheet::{Field, Sheet};
 
 use crate::random::Random;

@@ -10,11 +10,15 @@ pub struct Question {
     pub args: Vec<u64>,
 }
 
-/// The one question without an argument.
-pub const HEADER: Question = Question {
-    op: "header",
-    args: Vec::new(),
-};
+/// The questions without an argument.
+pub const PLAIN: [Question; 2] = [plain("header"), plain("rewrite_room")];
+
+const fn plain(op: &'static str) -> Question {
+    Question {
+        op,
+        args: Vec::new(),
+    }
+}
 
 /// The first number of a range, and how many there are.
 type Range = (u64, u64);
@@ -41,7 +45,7 @@ fn any(random: &mut Random) -> u64 {
 
 /// What is asked about a file. A refused file has one recording with one of each.
 pub fn questions(file: &[u8], random: &mut Random) -> Vec<Question> {
-    let mut drawn = vec![HEADER];
+    let mut drawn = PLAIN.to_vec();
     match judge(file) {
         Err(_) => {
             for (op, ranges) in ranges(1, None, random) {
