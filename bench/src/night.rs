@@ -3,7 +3,7 @@
 //! that one file is what turning the other has to give.
 
 use second::bytes::Order;
-use second::header::{self, Form, Header, Spelling};
+use second::header::{self, Form, Header, Spelling, Version};
 use second::random::Random;
 use second::record::{channel, channels, frame, frames, items, overview, Format, Kind, HEAD};
 use second::rewrite::grouping;
@@ -68,6 +68,7 @@ impl Night {
         };
         page.bytes.extend(header::canonical(&Header {
             spelling: Spelling::Spg,
+            version: Version::V300,
             form: Form::Channels,
             order,
             script: b'E',

@@ -5,7 +5,7 @@ use agree::files::differences;
 use psg::{Clock, Facts, Refusal, Sample};
 use second::bytes::Order;
 use second::generate::questions;
-use second::header::{self, Form, Header, Spelling};
+use second::header::{self, Form, Header, Spelling, Version};
 use second::judge::judge;
 use second::random::Random;
 use second::record::{channel, channels, frame, frames, items, overview, Kind, HEAD, PERIOD_FLAG};
@@ -50,6 +50,7 @@ fn hour(order: Order) -> Vec<u8> {
     let (count, of) = (PERIODS.len() as i32, FRAMES as i32);
     page.bytes.extend(header::canonical(&Header {
         spelling: Spelling::Spg,
+        version: Version::V300,
         form: Form::Channels,
         order,
         script: b'E',

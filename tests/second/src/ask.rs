@@ -1,6 +1,5 @@
 //! Answers to the questions of a corpus, in its form.
 
-use crate::header::{decimal, VERSION};
 use crate::judge::judge;
 use crate::lines::{answer_line, joined, listed, written, Desk, Question};
 use crate::model::{Calibration, Item, Model, Sample, Span, Sub};
@@ -45,7 +44,7 @@ pub fn answer(file: &[u8], op: &str, args: &[u64]) -> Option<Result<String, Refu
 fn header_values(model: &Model) -> String {
     joined(&[
         model.spelling.number(),
-        decimal(VERSION),
+        model.version.number(),
         model.form.number(),
         usize::from(model.order.letter()),
         usize::from(model.script),

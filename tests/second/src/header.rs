@@ -1,19 +1,20 @@
 //! The file header: 32 bytes of ASCII.
 
 use crate::bytes::Order;
-use crate::record::Kind;
+use crate::record::{self, Format, Kind};
 use crate::refusal::{self, require, Refusal};
 
 pub const LENGTH: usize = 32;
 pub const IDENTIFIER_AT: usize = 0;
 pub const IDENTIFIER_LENGTH: usize = 8;
 pub const VERSION_AT: usize = 8;
-pub const VERSION: &[u8; 6] = b"000300";
+pub const VERSION_LENGTH: usize = 6;
 pub const FORM_AT: usize = 14;
 pub const FORM_LENGTH: usize = 2;
 pub const ORDER_AT: usize = 16;
 pub const SCRIPT_AT: usize = 17;
 pub const SCRIPTS: &[u8; 4] = b"SJEU";
+pub const UNICODE: u8 = b'U';
 pub const RECORDINGS_AT: usize = 18;
 pub const RECORDINGS_LENGTH: usize = 4;
 pub const MOST_RECORDINGS: usize = 64;
@@ -55,6 +56,71 @@ impl Spelling {
             Spelling::Spg => Spelling::Psg,
             Spelling::Psg => Spelling::Spg,
         }
+    }
+}
+
+/// The version of the format that a file is labelled with, oldest first, and what
+/// each allows (document 02, request 6).
+#[derive(Clone, Copy, Debug, PartialEq, Eq, PartialOrd, Ord)]
+pub enum Version {
+    V100,
+    V110,
+    V200,
+    V300,
+}
+
+impl Version {
+    pub const ALL: [Version; 4] = [Version::V100, Version::V110, Version::V200, Version::V300];
+
+    /// The versions that are read. All that depends on the feature asks here.
+    pub const READ: &'static [Version] = if cfg!(feature = "older") {
+        &Version::ALL
+    } else {
+        &[Version::V300]
+    };
+
+    pub fn from_field(field: &[u8]) -> Option<Version> {
+        let mut read = Version::READ.iter().copied();
+        read.find(|version| version.field() == field)
+    }
+
+    pub fn field(self) -> &'static [u8; VERSION_LENGTH] {
+        match self {
+            Version::V100 => b"000100",
+            Version::V110 => b"000110",
+            Version::V200 => b"000200",
+            Version::V300 => b"000300",
+        }
+    }
+
+    pub fn number(self) -> usize {
+        decimal(self.field())
+    }
+
+    pub fn has_form(self, form: Form) -> bool {
+        form == Form::Channels || self >= Version::V200
+    }
+
+    pub fn has_script(self, script: u8) -> bool {
+        SCRIPTS.contains(&script) && (script != UNICODE || self >= Version::V300)
+    }
+
+    /// Whether a multiplier may be other than 0.
+    pub fn has_multipliers(self) -> bool {
+        self >= Version::V300
+    }
+
+    pub fn has_format(self, format: Format) -> bool {
+        format == Format::Signed16 || self >= Version::V300
+    }
+
+    pub fn has_type(self, channel_type: i32) -> bool {
+        channel_type != record::NEWEST_TYPE || self >= Version::V110
+    }
+
+    /// Whether every recording has an event table of its own.
+    pub fn needs_events(self) -> bool {
+        self < Version::V200
     }
 }
 
@@ -124,10 +190,11 @@ impl Form {
     }
 }
 
-/// What may differ from file to file; the version is fixed.
+/// What may differ from file to file.
 #[derive(Clone, Copy, Debug, PartialEq, Eq)]
 pub struct Header {
     pub spelling: Spelling,
+    pub version: Version,
     pub form: Form,
     pub order: Order,
     pub script: u8,
@@ -140,19 +207,21 @@ pub fn judge(file: &[u8]) -> Result<Header, Refusal> {
     let identifier = &file[IDENTIFIER_AT..IDENTIFIER_AT + IDENTIFIER_LENGTH];
     let spelling = Spelling::from_identifier(identifier)
         .ok_or(Refusal::new(refusal::IDENTIFIER, IDENTIFIER_AT))?;
-    let version = &file[VERSION_AT..VERSION_AT + VERSION.len()];
-    require(version == VERSION, refusal::VERSION, VERSION_AT)?;
+    let version = Version::from_field(&file[VERSION_AT..VERSION_AT + VERSION_LENGTH])
+        .ok_or(Refusal::new(refusal::VERSION, VERSION_AT))?;
     let form = Form::from_field(&file[FORM_AT..FORM_AT + FORM_LENGTH])
+        .filter(|form| version.has_form(*form))
         .ok_or(Refusal::new(refusal::FORM, FORM_AT))?;
     let order = Order::from_letter(file[ORDER_AT]).ok_or(Refusal::new(refusal::ORDER, ORDER_AT))?;
     let script = file[SCRIPT_AT];
-    require(SCRIPTS.contains(&script), refusal::SCRIPT, SCRIPT_AT)?;
+    require(version.has_script(script), refusal::SCRIPT, SCRIPT_AT)?;
     let digits = &file[RECORDINGS_AT..RECORDINGS_AT + RECORDINGS_LENGTH];
     let recordings = recordings(digits).ok_or(Refusal::new(refusal::RECORDINGS, RECORDINGS_AT))?;
     let spaces = &file[SPACES_AT..LENGTH];
     require(all_spaces(spaces), refusal::SPACES, SPACES_AT)?;
     Ok(Header {
         spelling,
+        version,
         form,
         order,
         script,
@@ -160,11 +229,11 @@ pub fn judge(file: &[u8]) -> Result<Header, Refusal> {
     })
 }
 
-/// The canonical header: spelling and form are kept, no leading zeros.
+/// The canonical header: spelling, version and form are kept, no leading zeros.
 pub fn canonical(header: &Header) -> [u8; LENGTH] {
     let mut out = [b' '; LENGTH];
     out[IDENTIFIER_AT..VERSION_AT].copy_from_slice(header.spelling.identifier());
-    out[VERSION_AT..FORM_AT].copy_from_slice(VERSION);
+    out[VERSION_AT..FORM_AT].copy_from_slice(header.version.field());
     out[FORM_AT..ORDER_AT].copy_from_slice(header.form.field());
     out[ORDER_AT] = header.order.letter();
     out[SCRIPT_AT] = header.script;
@@ -244,6 +313,7 @@ mod tests {
         for (spelling, form, expected) in written {
             let header = Header {
                 spelling,
+                version: Version::V300,
                 form,
                 order: Order::Big,
                 script: b'U',
@@ -272,7 +342,7 @@ mod tests {
 
     #[test]
     fn version_and_form_as_numbers() {
-        assert_eq!(decimal(VERSION), 300);
+        assert_eq!(Version::ALL.map(Version::number), [100, 110, 200, 300]);
         assert_eq!((Form::Channels.number(), Form::Electrodes.number()), (0, 1));
     }
 
@@ -280,6 +350,7 @@ mod tests {
     fn any_other_form_is_4() {
         let header = Header {
             spelling: Spelling::Spg,
+            version: Version::V300,
             form: Form::Electrodes,
             order: Order::Little,
             script: b'E',

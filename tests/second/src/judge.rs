@@ -4,7 +4,7 @@
 //! before 14), children, padding. Samples are stepped over.
 
 use crate::bytes::Order;
-use crate::header::{self, Form};
+use crate::header::{self, Form, Version};
 use crate::model::{
     Calibration, Channel, Frame, FrameBlock, Item, Model, Overview, Record, Recording, Slot, Span,
     Sub,
@@ -20,6 +20,7 @@ pub fn judge(file: &[u8]) -> Result<Model, Refusal> {
     let header = header::judge(file)?;
     let mut walk = Walk {
         file,
+        version: header.version,
         form: header.form,
         order: header.order,
         records: Vec::new(),
@@ -34,6 +35,7 @@ pub fn judge(file: &[u8]) -> Result<Model, Refusal> {
     require(at == file.len(), refusal::BYTES_AFTER, at)?;
     Ok(Model {
         spelling: header.spelling,
+        version: header.version,
         form: header.form,
         order: header.order,
         script: header.script,
@@ -42,29 +44,10 @@ pub fn judge(file: &[u8]) -> Result<Model, Refusal> {
     })
 }
 
-/// Whether a recording may lack such a record. 120, 320 and 130 are inherited then,
-/// so the first recording holds its own; 200 and 350 are not.
-fn may_be_absent(kind: Kind, first: bool) -> bool {
-    match kind {
-        Kind::Events | Kind::Montage => true,
-        Kind::Channels | Kind::Electrodes | Kind::Patient => !first,
-        _ => false,
-    }
-}
-
-/// What may follow a record of this kind: the kinds behind it, up to the first that
-/// may not be absent.
-fn following(form: Form, kind: Kind, first: bool) -> &'static [Kind] {
-    let parts = form.parts();
-    let at = parts.iter().position(|part| *part == kind);
-    let rest = &parts[at.expect("a kind of the form") + 1..];
-    let absent = rest.iter().take_while(|kind| may_be_absent(**kind, first));
-    &rest[..=absent.count()]
-}
-
 /// The walk over the file, with every record met so far.
 struct Walk<'a> {
     file: &'a [u8],
+    version: Version,
     form: Form,
     order: Order,
     records: Vec<Record>,
@@ -118,7 +101,7 @@ impl Walk<'_> {
     }
 
     fn multiplier(&self, at: usize, kind: Kind) -> Result<i32, Refusal> {
-        let most = if kind.rules().multiplied {
+        let most = if kind.rules().multiplied && self.version.has_multipliers() {
             record::MOST_MULTIPLIER
         } else {
             0
@@ -229,6 +212,29 @@ impl Walk<'_> {
         })
     }
 
+    /// Whether a recording may lack such a record. 120, 320 and 130 are inherited
+    /// then, so the first recording holds its own; 200 and 350 are not.
+    fn may_be_absent(&self, kind: Kind, first: bool) -> bool {
+        match kind {
+            Kind::Events => !self.version.needs_events(),
+            Kind::Montage => true,
+            Kind::Channels | Kind::Electrodes | Kind::Patient => !first,
+            _ => false,
+        }
+    }
+
+    /// What may follow a record of this kind: the kinds behind it, up to the first
+    /// that may not be absent.
+    fn following(&self, kind: Kind, first: bool) -> &'static [Kind] {
+        let parts = self.form.parts();
+        let at = parts.iter().position(|part| *part == kind);
+        let rest = &parts[at.expect("a kind of the form") + 1..];
+        let absent = rest
+            .iter()
+            .take_while(|kind| self.may_be_absent(**kind, first));
+        &rest[..=absent.count()]
+    }
+
     /// The next record of a recording, which is of one of these kinds.
     fn part(&mut self, inside: &mut Inside, allowed: &[Kind]) -> Result<Record, Refusal> {
         let part = self.head(inside.at, inside.end, allowed)?;
@@ -241,7 +247,7 @@ impl Walk<'_> {
     /// The next record that may follow one of this kind, past the makers' records
     /// that may stand before it.
     fn part_behind(&mut self, inside: &mut Inside, kind: Kind) -> Result<Record, Refusal> {
-        let allowed = following(self.form, kind, inside.first);
+        let allowed = self.following(kind, inside.first);
         let with_makers = [allowed, &[Kind::Maker]].concat();
         loop {
             let part = self.part(inside, &with_makers)?;
@@ -330,8 +336,12 @@ impl Walk<'_> {
     fn sub(&self, at: usize, subs: &Subs, electrodes: usize) -> Result<Sub, Refusal> {
         let number = self.field(at + channel::NUMBER, subs.is_number)?;
         let flags = self.number(at + channel::FLAGS);
-        let channel_type = self.field(at + channel::TYPE, subs.is_type)?;
-        let format = self.field(at + channel::FORMAT, subs.is_format)?;
+        let channel_type = self.field(at + channel::TYPE, |kind| {
+            (subs.is_type)(self.version, kind)
+        })?;
+        let format = self.field(at + channel::FORMAT, |format| {
+            (subs.is_format)(self.version, format)
+        })?;
         let is_rate = |rate| (subs.is_rate)(flags, channel_type, rate);
         let rate = self.field(at + channel::RATE, is_rate)?;
         let calibration = channel::CALIBRATION.map(|offset| self.number(at + offset));

@@ -1,7 +1,7 @@
 //! What an accepted file holds: its reading, with the position of every part.
 
 use crate::bytes::Order;
-use crate::header::{Form, Header, Spelling};
+use crate::header::{Form, Header, Spelling, Version};
 use crate::record::{frames, Format, Kind, Rate, HEAD};
 use std::rc::Rc;
 
@@ -32,6 +32,7 @@ pub struct Span {
 #[derive(Clone, Debug)]
 pub struct Model {
     pub spelling: Spelling,
+    pub version: Version,
     pub form: Form,
     pub order: Order,
     pub script: u8,
@@ -44,6 +45,7 @@ impl Model {
     pub fn header(&self) -> Header {
         Header {
             spelling: self.spelling,
+            version: self.version,
             form: self.form,
             order: self.order,
             script: self.script,

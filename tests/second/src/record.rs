@@ -1,6 +1,8 @@
 //! The kinds of record, and what is fixed about each: code, size, the offsets
 //! of its number fields, texts and reserve areas.
 
+use crate::header::Version;
+
 /// The four numbers a record starts with.
 pub const HEAD: usize = 16;
 pub const SIZE_AT: usize = 0;
@@ -121,8 +123,8 @@ pub mod channels {
 pub struct Subs {
     pub kind: Kind,
     pub is_number: fn(i32) -> bool,
-    pub is_type: fn(i32) -> bool,
-    pub is_format: fn(i32) -> bool,
+    pub is_type: fn(Version, i32) -> bool,
+    pub is_format: fn(Version, i32) -> bool,
     /// Of flags, type and rate.
     pub is_rate: fn(i32, i32, i32) -> bool,
 }
@@ -188,22 +190,24 @@ pub mod channel {
     pub const SUBS: Subs = Subs {
         kind: Kind::Channel,
         is_number: |_| true,
-        is_type,
-        is_format: |format| Format::from_number(format).is_some(),
+        is_type: |version, kind| is_type(kind) && version.has_type(kind),
+        is_format: |version, format| {
+            Format::from_number(format).is_some_and(|format| version.has_format(format))
+        },
         is_rate: |flags, kind, rate| Rate::from_fields(flags, kind, rate).is_some(),
     };
     pub const ELECTRODE_SUBS: Subs = Subs {
         kind: Kind::Electrode,
         is_number: |code| code >= 0,
-        is_type: |kind| is_type(kind) || kind == PROCESSED,
+        is_type: |version, kind| (SUBS.is_type)(version, kind) || kind == PROCESSED,
         ..SUBS
     };
     /// Of a montage channel G1 and G2 alone are judged, beside the head.
     pub const MONTAGE_SUBS: Subs = Subs {
         kind: Kind::MontageChannel,
         is_number: |_| true,
-        is_type: |_| true,
-        is_format: |_| true,
+        is_type: |_, _| true,
+        is_format: |_, _| true,
         is_rate: |_, _, _| true,
     };
 }
@@ -359,8 +363,11 @@ pub fn is_event_code(code: i32) -> bool {
     code == 0 || ((4096..=65_535).contains(&code) && code & BIT_12 != 0)
 }
 
+/// The type that the oldest version lacks.
+pub const NEWEST_TYPE: i32 = 20;
+
 pub fn is_type(value: i32) -> bool {
-    (0..=18).contains(&value) || value == 20
+    (0..=18).contains(&value) || value == NEWEST_TYPE
 }
 
 /// The type of a signal that was processed when it was recorded.

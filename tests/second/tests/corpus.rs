@@ -1,4 +1,7 @@
 //! What the project's own corpus (tests/corpus, made by tests/corpus.sh) has to show, and that this program answers it.
+//! Older versions are refused in it.
+
+#![cfg(not(feature = "older"))]
 
 use second::bytes::Order;
 use second::corpus::{self, shown::shown};

@@ -5,7 +5,7 @@ use super::plan::{
     MontagePlan, OverviewPlan, PartPlan, RecordingPlan,
 };
 use crate::bytes::Order;
-use crate::header::{self, Form, Spelling};
+use crate::header::{self, Form, Spelling, Version};
 use crate::listing;
 use crate::random::Random;
 use crate::record::{self, frames, items};
@@ -138,8 +138,9 @@ pub fn draw_shaped(random: &mut Random, shape: &Shape) -> FilePlan {
 /// A valid file of this shape; a simpler one when the shape is hard to meet.
 pub fn draw_formed(random: &mut Random, shape: &Shape, form: Form) -> FilePlan {
     const TRIES: usize = 4;
+    let version = draw_version(random, shape, form);
     for _ in 0..TRIES {
-        let plan = draw_file(random, shape, form);
+        let plan = draw_file(random, shape, version, form);
         if plan.length() <= shape.bytes {
             return plan;
         }
@@ -153,7 +154,28 @@ pub fn draw_formed(random: &mut Random, shape: &Shape, form: Form) -> FilePlan {
         montage_channels: 1,
         ..*shape
     };
-    draw_file(random, &lesser, form)
+    draw_file(random, &lesser, version, form)
+}
+
+/// A valid file of an older version.
+pub fn draw_older(random: &mut Random, shape: &Shape) -> FilePlan {
+    let version = random.pick(&[Version::V100, Version::V110, Version::V200]);
+    let forms = Form::ALL.into_iter().filter(|form| version.has_form(*form));
+    let forms: Vec<Form> = forms.collect();
+    let form = random.pick(&forms);
+    draw_file(random, shape, version, form)
+}
+
+/// One that has the form, the newest as often as all others; multipliers are of that one alone.
+fn draw_version(random: &mut Random, shape: &Shape, form: Form) -> Version {
+    let read = Version::READ.iter().copied();
+    let older: Vec<Version> = read
+        .filter(|version| *version < Version::V300 && version.has_form(form))
+        .collect();
+    if shape.padded || older.is_empty() || random.chance(50) {
+        return Version::V300;
+    }
+    random.pick(&older)
 }
 
 /// K's field: its digits, often behind zeros, then spaces.
@@ -171,7 +193,7 @@ pub fn digits(random: &mut Random, recordings: usize) -> [u8; header::RECORDINGS
     field
 }
 
-fn draw_file(random: &mut Random, shape: &Shape, form: Form) -> FilePlan {
+fn draw_file(random: &mut Random, shape: &Shape, version: Version, form: Form) -> FilePlan {
     let count = random.between(shape.recordings.0, shape.recordings.1) as usize;
     let mut recordings = Vec::new();
     let mut holding = None;
@@ -180,15 +202,68 @@ fn draw_file(random: &mut Random, shape: &Shape, form: Form) -> FilePlan {
         recordings.push(recording);
         holding = Some(now);
     }
-    FilePlan {
+    let mut plan = FilePlan {
         spelling: random.pick(&Spelling::ALL),
+        version,
         form,
         order: random.pick(&[Order::Little, Order::Big]),
         script: random.pick(header::SCRIPTS),
         digits: digits(random, count),
         tidy: random.chance(30),
         recordings,
+    };
+    if version < Version::V300 {
+        age(random, shape, &mut plan);
     }
+    plan
+}
+
+/// Takes from a plan what its version does not have, and gives it what it needs.
+fn age(random: &mut Random, shape: &Shape, plan: &mut FilePlan) {
+    let version = plan.version;
+    if !version.has_script(plan.script) {
+        plan.script = random.pick(b"SJE");
+    }
+    for recording in &mut plan.recordings {
+        recording.multiplier = 0;
+        for part in &mut recording.parts {
+            match part {
+                PartPlan::Channels(list) => age_channels(version, list),
+                PartPlan::Frames(block) => age_frames(block),
+                PartPlan::Maker(maker) => maker.multiplier = 0,
+                _ => {}
+            }
+        }
+        if version.needs_events() && recording.items(Kind::Events).is_none() {
+            let events = PartPlan::Items(draw_items(random, shape, Kind::Events));
+            let is_frames = |part: &PartPlan| matches!(part, PartPlan::Frames(_));
+            let at = recording.parts.iter().position(is_frames);
+            recording.parts.insert(at.expect("a 140"), events);
+        }
+        recording.settle();
+    }
+}
+
+fn age_channels(version: Version, list: &mut ChannelsPlan) {
+    for channel in &mut list.channels {
+        channel.format = Format::Signed16;
+        if !version.has_type(channel.channel_type) {
+            channel.channel_type -= 2;
+        }
+    }
+}
+
+fn age_frames(block: &mut FramesPlan) {
+    block.multiplier = 0;
+    for (format, _) in &mut block.samples {
+        *format = Format::Signed16;
+    }
+    block.frame_length = block.frame_content();
+    for frame in &mut block.frames {
+        frame.multiplier = 0;
+        frame.tail.clear();
+    }
+    block.settle();
 }
 
 /// The channels that hold after a recording, and its seconds a frame.

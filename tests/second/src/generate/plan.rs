@@ -2,12 +2,13 @@
 //! (texts, reserve, samples, makers' bodies) is drawn when the plan is written.
 
 use crate::bytes::Order;
-use crate::header::{self, Form, Spelling};
+use crate::header::{self, Form, Spelling, Version};
 use crate::record::{channel, channels, frame, frames, items, overview};
 use crate::record::{Format, Kind, Rate, HEAD};
 
 pub struct FilePlan {
     pub spelling: Spelling,
+    pub version: Version,
     pub form: Form,
     pub order: Order,
     pub script: u8,

@@ -158,7 +158,7 @@ impl Sheet {
 
     fn header(&mut self, plan: &FilePlan) {
         self.raw(plan.spelling.identifier());
-        self.raw(header::VERSION);
+        self.raw(plan.version.field());
         self.raw(plan.form.field());
         self.raw(&[plan.order.letter(), plan.script]);
         self.raw(&plan.digits);

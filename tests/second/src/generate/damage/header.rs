@@ -30,6 +30,15 @@ pub const NO_IDENTIFIERS: [&[u8; header::IDENTIFIER_LENGTH]; 16] = [
 pub const NO_FORMS: [&[u8; header::FORM_LENGTH]; 7] =
     [b"02", b"02", b"10", b"11", b"1 ", b" 1", b"0 "];
 
+/// Nearly one of the versions that are read.
+const NO_VERSIONS: &[&[u8; header::VERSION_LENGTH]] = if cfg!(feature = "older") {
+    &[
+        b"000101", b"000120", b"000210", b"000310", b"000400", b"000000", b"001000", b"00100 ",
+    ]
+} else {
+    &[b"000200"]
+};
+
 pub fn wrong_header(random: &mut Random) -> Sheet {
     const FIELDS: usize = 7;
     let mut sheet = valid(random);
@@ -72,7 +81,7 @@ pub fn wrong_recording_count(random: &mut Random) -> Sheet {
 fn spoil_header(random: &mut Random, bytes: &mut [u8], field: usize) {
     match field {
         0 => spoil_text(random, bytes, header::IDENTIFIER_AT, &NO_IDENTIFIERS),
-        1 => spoil_text(random, bytes, header::VERSION_AT, &[b"000200"]),
+        1 => spoil_text(random, bytes, header::VERSION_AT, NO_VERSIONS),
         2 => spoil_text(random, bytes, header::FORM_AT, &NO_FORMS),
         3 => bytes[header::ORDER_AT] = random.pick(b"lbLB X\0M"),
         4 => bytes[header::SCRIPT_AT] = random.pick(b"sjeuSJEU AT\0"),

@@ -7,6 +7,7 @@ mod field;
 mod header;
 mod length;
 mod noise;
+mod older;
 mod padding;
 mod parts;
 
@@ -55,7 +56,12 @@ const DAMAGES: &[(usize, Damage)] = &[
     (8, electrodes::montage_disagrees),
     (5, electrodes::montage_misplaced),
     (8, electrodes::other_form),
+    (OLDER_WEIGHT, older::relabelled),
+    (OLDER_WEIGHT, older::one_breach),
 ];
+
+/// None where no older version is read.
+const OLDER_WEIGHT: usize = if cfg!(feature = "older") { 15 } else { 0 };
 
 /// The share of files with a second damage close to the first refusal.
 const TWICE_PERCENT: usize = 25;
