@@ -72,12 +72,18 @@ pub enum Version {
 impl Version {
     pub const ALL: [Version; 4] = [Version::V100, Version::V110, Version::V200, Version::V300];
 
-    /// The versions that are read. All that depends on the feature asks here.
+    pub const OLDER: [Version; 3] = [Version::V100, Version::V110, Version::V200];
+
+    /// The versions that are read. All of the reader and the generator that depends
+    /// on the feature asks here.
     pub const READ: &'static [Version] = if cfg!(feature = "older") {
         &Version::ALL
     } else {
         &[Version::V300]
     };
+
+    /// Whether the older versions are among them.
+    pub const OLDER_READ: bool = Version::READ.len() > 1;
 
     pub fn from_field(field: &[u8]) -> Option<Version> {
         let mut read = Version::READ.iter().copied();

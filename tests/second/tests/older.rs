@@ -19,7 +19,6 @@ use second::table::table;
 use second::turn::turn;
 use std::collections::BTreeMap;
 
-const OLDER: [Version; 3] = [Version::V100, Version::V110, Version::V200];
 const ROOM: u64 = u64::MAX;
 
 // Where the records of the smallest file stand.
@@ -288,7 +287,7 @@ fn relabelling_generated_files() {
         assert_eq!(renewed.records, model.records);
         assert!(sub_of(&renewed).eq(sub_of(&model)));
         assert_eq!(table(&newest, ROOM), table(&file, ROOM));
-        for version in OLDER {
+        for version in Version::OLDER {
             let relabelled = of_version(&newest, version);
             let first = breaches(&newest, &renewed, version).first().copied();
             let verdict = judge(&relabelled).err();
@@ -299,7 +298,7 @@ fn relabelling_generated_files() {
             }
         }
     }
-    for version in OLDER {
+    for version in Version::OLDER {
         assert!(
             times[&version].iter().all(|count| *count > 300),
             "{times:?}"
@@ -344,7 +343,7 @@ fn every_breach_is_met_in_damaged_files() {
             *met.entry((version, refusal.number)).or_default() += 1;
         }
     }
-    for version in OLDER {
+    for version in Version::OLDER {
         for number in 4..=16 {
             // Without a multiplier there is no padding.
             let expected = number != refusal::PADDING;

@@ -159,7 +159,7 @@ pub fn draw_formed(random: &mut Random, shape: &Shape, form: Form) -> FilePlan {
 
 /// A valid file of an older version.
 pub fn draw_older(random: &mut Random, shape: &Shape) -> FilePlan {
-    let version = random.pick(&[Version::V100, Version::V110, Version::V200]);
+    let version = random.pick(&Version::OLDER);
     let forms = Form::ALL.into_iter().filter(|form| version.has_form(*form));
     let forms: Vec<Form> = forms.collect();
     let form = random.pick(&forms);
@@ -168,14 +168,12 @@ pub fn draw_older(random: &mut Random, shape: &Shape) -> FilePlan {
 
 /// One that has the form, the newest as often as all others; multipliers are of that one alone.
 fn draw_version(random: &mut Random, shape: &Shape, form: Form) -> Version {
-    let read = Version::READ.iter().copied();
-    let older: Vec<Version> = read
-        .filter(|version| *version < Version::V300 && version.has_form(form))
-        .collect();
-    if shape.padded || older.is_empty() || random.chance(50) {
+    if shape.padded || !Version::OLDER_READ || random.chance(50) {
         return Version::V300;
     }
-    random.pick(&older)
+    let older = Version::OLDER.into_iter();
+    let with_form: Vec<Version> = older.filter(|version| version.has_form(form)).collect();
+    random.pick(&with_form)
 }
 
 /// K's field: its digits, often behind zeros, then spaces.

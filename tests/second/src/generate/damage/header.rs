@@ -3,7 +3,7 @@
 use super::{small_plan, valid};
 use crate::generate::draw;
 use crate::generate::sheet::{write, Sheet};
-use crate::header;
+use crate::header::{self, Version};
 use crate::random::Random;
 
 /// Nearly one of the two spellings: part of each, other letters, another place.
@@ -31,7 +31,7 @@ pub const NO_FORMS: [&[u8; header::FORM_LENGTH]; 7] =
     [b"02", b"02", b"10", b"11", b"1 ", b" 1", b"0 "];
 
 /// Nearly one of the versions that are read.
-const NO_VERSIONS: &[&[u8; header::VERSION_LENGTH]] = if cfg!(feature = "older") {
+const NO_VERSIONS: &[&[u8; header::VERSION_LENGTH]] = if Version::OLDER_READ {
     &[
         b"000101", b"000120", b"000210", b"000310", b"000400", b"000000", b"001000", b"00100 ",
     ]

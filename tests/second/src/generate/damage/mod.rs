@@ -16,6 +16,7 @@ pub use header::{NO_FORMS, NO_IDENTIFIERS};
 use super::draw::{self, Shape, SMALL};
 use super::plan::{FilePlan, RecordingPlan};
 use super::sheet::{write, Sheet};
+use crate::header::Version;
 use crate::judge::judge;
 use crate::random::Random;
 
@@ -61,7 +62,7 @@ const DAMAGES: &[(usize, Damage)] = &[
 ];
 
 /// None where no older version is read.
-const OLDER_WEIGHT: usize = if cfg!(feature = "older") { 15 } else { 0 };
+const OLDER_WEIGHT: usize = if Version::OLDER_READ { 15 } else { 0 };
 
 /// The share of files with a second damage close to the first refusal.
 const TWICE_PERCENT: usize = 25;

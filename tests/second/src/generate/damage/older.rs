@@ -9,12 +9,10 @@ use crate::header::{Form, Version, UNICODE};
 use crate::random::Random;
 use crate::record::{Format, Kind, NEWEST_TYPE};
 
-const OLDER: [Version; 3] = [Version::V100, Version::V110, Version::V200];
-
 /// Any small file, with another version's label.
 pub fn relabelled(random: &mut Random) -> Sheet {
     let mut plan = small_plan(random);
-    plan.version = random.pick(&OLDER);
+    plan.version = random.pick(&Version::OLDER);
     write(random, &plan)
 }
 
@@ -33,7 +31,7 @@ pub fn one_breach(random: &mut Random) -> Sheet {
     write(random, &plan)
 }
 
-/// Type 20, or a format other than 1 in a channel without samples.
+/// Type 20, or a format other than 1.
 fn breach_channel(random: &mut Random, plan: &mut FilePlan) {
     let lists = plan.recordings.iter_mut().filter_map(|r| r.channels());
     let mut channels: Vec<_> = lists.flat_map(|list| &mut list.channels).collect();
