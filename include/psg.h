@@ -1,4 +1,5 @@
-/* The proved library for recordings in the JSSR PSG common format 3.00. Link libpsg.a, which `rt staticlib psg` writes.
+/* The proved library for recordings in the JSSR PSG common format, versions 1.00 to 3.00. Link libpsg.a, which
+ * `rt staticlib psg` writes.
  *
  * A file and a buffer are lent as pointer and length for the time of a call; nothing is kept. Every call judges the file
  * itself, and every file and every argument is answered. An answer begins with the refusal: its number (document 01,
@@ -45,7 +46,8 @@ struct psg_header {
 };
 
 /* All that the file header says: the spelling, 0 where the file begins with JSSR-SPG and 1 where it begins with
-   JSSR-PSG; the version as a number, 300, and the form, 0 for channels and 1 for electrodes; then as above. */
+   JSSR-PSG; the version as a number, 100, 110, 200 or 300, and the form, 0 for channels and 1 for electrodes; then as
+   above. */
 struct psg_heading {
     uint32_t refusal;
     uint64_t position;

@@ -7,7 +7,7 @@
 set -euo pipefail
 cd "$(dirname "$0")/.."
 own=tests/corpus/files.tar.gz
-beside=${1:-../shared/corpus/files-1-2-3.tar.gz}
+beside=${1:-../shared/corpus/files-1-2-3-6.tar.gz}
 listing=$PWD/target/bin/listing
 seed=${SEED:-$(date +%s)}
 count=${COUNT:-5000}

@@ -1,4 +1,4 @@
-//! Recordings in the JSSR PSG common format 3.00: a file's verdict and its table, questions about it, turning it to the
+//! Recordings in the JSSR PSG common format, versions 1.00 to 3.00: a file's verdict and its table, questions about it, turning it to the
 //! other byte order, and writing it anew in its canonical form, by a library whose every function is proved to meet its
 //! contract.
 //!
@@ -66,7 +66,7 @@ pub struct Header {
 pub struct Heading {
     /// The spelling of the identifier.
     pub spelling: Spelling,
-    /// The version as a number: 300.
+    /// The version as a number: 100, 110, 200 or 300.
     pub version: u32,
     /// The form as a number: 0 for channels, 1 for electrodes.
     pub form: u32,

@@ -18,10 +18,10 @@ impl Refusal {
         match self.number {
             1 => "the file is under 32 bytes long",
             2 => "the file begins with neither JSSR-SPG nor JSSR-PSG",
-            3 => "the version is not 000300",
-            4 => "the form is neither 00 nor 01",
+            3 => "the version is none that is read: 000100, 000110, 000200 and 000300 are",
+            4 => "the form is neither 00 nor 01, or not one of the version",
             5 => "the byte order is neither L nor B",
-            6 => "the script letter is none of S, J, E and U",
+            6 => "the script letter is none of S, J, E and U, or not one of the version",
             7 => "the number of recordings is not 1 to 64",
             8 => "the header does not end in spaces",
             9 => "a record's code is not allowed here",

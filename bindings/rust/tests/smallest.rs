@@ -276,6 +276,42 @@ fn an_electrode_has_neither_frequency_nor_sensitivity() {
     assert_eq!((channel.calibration_frequency, channel.sensitivity), (7, 9));
 }
 
+fn labelled(file: &[u8], version: &[u8; 6]) -> Vec<u8> {
+    [&file[..8], version, &file[14..]].concat()
+}
+
+#[test]
+fn the_header_has_the_version_and_both_writers_keep_it() {
+    for (version, number) in [(b"000200", 200), (b"000300", 300)] {
+        for file in [smallest(), electrodes()] {
+            let file = labelled(&file, version);
+            assert_eq!(psg::header(&file).unwrap().version, number);
+            let turned = psg::turned(&file).unwrap();
+            assert_eq!(&turned[8..14], version);
+            assert_eq!(psg::turned(&turned), Ok(file.clone()));
+            for order in [Order::Little, Order::Big] {
+                let rewritten = psg::rewritten(&file, order).unwrap();
+                assert_eq!(&rewritten[8..14], version);
+            }
+        }
+    }
+}
+
+#[test]
+fn an_older_version_asks_for_more() {
+    for version in [b"000100", b"000110"] {
+        // No event table, and a form that came later.
+        let refused = psg::header(&labelled(&smallest(), version)).unwrap_err();
+        assert_eq!((refused.number, refused.position), (9, 492));
+        let refused = psg::header(&labelled(&electrodes(), version)).unwrap_err();
+        assert_eq!((refused.number, refused.position), (4, 14));
+    }
+    let refused = psg::header(&labelled(&floating(1, 1), b"000200")).unwrap_err();
+    assert_eq!((refused.number, refused.position), (13, 236));
+    let refused = psg::header(&labelled(&smallest(), b"000120")).unwrap_err();
+    assert_eq!((refused.number, refused.position), (3, 8));
+}
+
 #[test]
 fn the_header_has_the_form_and_both_writers_keep_it() {
     for (file, form) in [(smallest(), 0), (electrodes(), 1)] {
@@ -293,7 +329,7 @@ fn the_header_has_the_form_and_both_writers_keep_it() {
     let refused = psg::header(&file).unwrap_err();
     assert_eq!(
         refused.to_string(),
-        "refused 4 at 14: the form is neither 00 nor 01"
+        "refused 4 at 14: the form is neither 00 nor 01, or not one of the version"
     );
 }
 

@@ -16,7 +16,7 @@ use Rattle.walk.specs.See.{goes, see}
 use Rattle.walk.proofs.Seen.{and-left, stays-goes, stays-then, stays-weaken}
 use Rattle.walk.proofs.Apart.{false-true, stops-goes}
 use Rattle.walk.proofs.Went.{goes-same, went-first, by-went, by-then}
-use Rattle.rules.specs.Rules.{Head, Basic, Group, channelsGroup, montageGroup, montage, Channel, Next, Part, Held, Frames, Placed, Descriptions, head, admit, span, coded, fixed, basic, basicBody, next, more as maker, part, channels, items, patientCode, eventCode, frames, makerCode, delimiter, padding, heldChannels, heldPatient, descriptions, signals, countBack, recordingBody}
+use Rattle.rules.specs.Rules.{mostOf, eventTable, Head, Basic, Group, channelsGroup, montageGroup, montage, Channel, Next, Part, Held, Frames, Placed, Descriptions, head, admit, span, coded, fixed, basic, basicBody, next, more as maker, part, channels, items, patientCode, eventCode, frames, makerCode, delimiter, padding, heldChannels, heldPatient, descriptions, signals, countBack, recordingBody}
 use Rattle.rules.specs.declared.Label.{Label}
 use Rattle.rules.proofs.Cases.{by-form}
 use Rattle.rules.proofs.Room.{Rests, stays-head, stays-admit, stays-basicBody, stays-basic, stays-channelsRest, stays-montageRest, stays-itemsRest, stays-framesRest, stays-delimiter}
@@ -34,9 +34,9 @@ rests-basic room h L at s =
     let n : 128 ≡ span h = eqb-true 128 (span h) (v .1) in
     stays-weaken basicBody (x + 112) L x _ _ (omega (arith, v .0, v .2)) (λ a e q. (omega arith, v .2, omega (arith, v .0, v .2))) (stays-basicBody x (x + 112) (omega arith)))
 
-rests-maker : Rests makerRest
-rests-maker room h L at s =
-    stays-then _ _ _ _ _ _ (stays-admit room 128 (leb 16) (λ _. true) h L at)
+rests-maker : (label : Label) → Rests (makerRest label)
+rests-maker label room h L at s =
+    stays-then _ _ _ _ _ _ (stays-admit room (mostOf label) (leb 16) (λ _. true) h L at)
     (λ _ x v.
     let n : 16 ≤ span h = leb-true 16 (span h) (v .1) in
     (omega (arith, v .0, v .2), λ _ _. (n, v .2, omega (arith, v .0, v .2))))
@@ -135,12 +135,12 @@ module _ (o : Order) (b : ℕ) (s : List ℕ) (kn : Known) where
   -- makers' records, up to the head of another
   module _ (f p : ℕ) (h : Head) where
     abbrev one : List ℕ → Walk Next
-    one body = next f (length s - p - span h) >>= λ n. give (maker (record { head = h; body = body }) n)
+    one body = next (kn .label) f (length s - p - span h) >>= λ n. give (maker (record { head = h; body = body }) n)
 
     abbrev maybe : Bool → Walk Next
-    maybe c = pick c (admit (length s - p) 128 (leb 16) (λ _. true) h >> (text (span h - 16) >>= one)) (give (record { makers = []; head = h; room = length s - p }))
+    maybe c = pick c (admit (length s - p) (mostOf (kn .label)) (leb 16) (λ _. true) h >> (text (span h - 16) >>= one)) (give (record { makers = []; head = h; room = length s - p }))
 
-    maker-split : maybe true ≡ (makerRest (length s - p) h >>= one)
+    maker-split : maybe true ≡ (makerRest (kn .label) (length s - p) h >>= one)
     unfolding admit _>>=_ _>>_
     maker-split = refl
 
@@ -148,23 +148,23 @@ module _ (o : Order) (b : ℕ) (s : List ℕ) (kn : Known) where
     unfolding makerCode
     maker-other q e = let n : 1024 ≤ h .code = leb-true 1024 (h .code) (and-left (leb 1024 (h .code)) _ q) in omega arith
 
-    next-step : Heads o b s p h → p + 16 ≤ length s → Leading (next f) → (c : Bool) → makerCode (h .code) ≡ c → {n : Next} {e : ℕ} → see o b s (b + (p + 16)) (maybe c) ≡ goes n e → Leads p (heading o b s p then said o b s (b + (p + 16)) (maybe c)) n e
+    next-step : Heads o b s p h → p + 16 ≤ length s → Leading (next (kn .label) f) → (c : Bool) → makerCode (h .code) ≡ c → {n : Next} {e : ℕ} → see o b s (b + (p + 16)) (maybe c) ≡ goes n e → Leads p (heading o b s p then said o b s (b + (p + 16)) (maybe c)) n e
     unfolding see
     next-step k fit leads false q {n} {e} g =
         let y = goes-same g in
         rw (said-gave, then-nothing, ← y .1) (leads-none p n (record { heads = rw (← y .0) k; room = rw (← y .0); inside = fit }))
     next-step k fit leads true q {n} {e} g =
-        let w = went-first o b s (b + (p + 16)) (makerRest (length s - p) h) one (rw maker-split at g) in
-        let u = went-first o b s (w .end) (next f (length s - p - span h)) _ (w .kept) in
+        let w = went-first o b s (b + (p + 16)) (makerRest (kn .label) (length s - p) h) one (rw maker-split at g) in
+        let u = went-first o b s (w .end) (next (kn .label) f (length s - p - span h)) _ (w .kept) in
         let y = goes-same (u .kept) in
-        rw (maker-split, said-bind o b s (b + (p + 16)) (makerRest (length s - p) h) one (w .is), said-give o b s (w .end) (next f (length s - p - span h)) (maker (record { head = h; body = w .value })))
-        (leads-at (ap (λ (x : Next). x .head) (y .0)) (ap (λ (x : Next). x .room) (y .0)) (rw (y .1) at (record-leads makerRest rests-maker p h fit (next f) leads (w .is) (u .is) k (λ _ r. record { inner = isMaker q r; other = maker-other q }))))
+        rw (maker-split, said-bind o b s (b + (p + 16)) (makerRest (kn .label) (length s - p) h) one (w .is), said-give o b s (w .end) (next (kn .label) f (length s - p - span h)) (maker (record { head = h; body = w .value })))
+        (leads-at (ap (λ (x : Next). x .head) (y .0)) (ap (λ (x : Next). x .room) (y .0)) (rw (y .1) at (record-leads (makerRest (kn .label)) (rests-maker (kn .label)) p h fit (next (kn .label) f) leads (w .is) (u .is) k (λ _ r. record { inner = isMaker q r; other = maker-other q }))))
 
-  next-zero : {X : Type 0} (at room : ℕ) {n : Next} {e : ℕ} → see o b s at (next zero room) ≡ goes n e → X
+  next-zero : {X : Type 0} (at room : ℕ) {n : Next} {e : ℕ} → see o b s at (next (kn .label) zero room) ≡ goes n e → X
   unfolding next see
   next-zero at room g = stops-goes g
 
-  next-more : (f : ℕ) → Leading (next f) → Leading (next (suc f))
+  next-more : (f : ℕ) → Leading (next (kn .label) f) → Leading (next (kn .label) (suc f))
   unfolding next
   next-more f leads p n e fit g =
       let v : Walk Head = head (length s - p) in
@@ -173,7 +173,7 @@ module _ (o : Order) (b : ℕ) (s : List ℕ) (kn : Known) where
       let z = headed p fit (w .is) in
       rw (said-bind o b s (b + p) v k (w .is), z .0) (next-step f p (w .value) (rw (z .0) at (w .is)) (z .1) leads (makerCode (w .value .code)) refl (rw (z .0) at (w .kept)))
 
-  pub next-leads : (fuel : ℕ) → Leading (next fuel)
+  pub next-leads : (fuel : ℕ) → Leading (next (kn .label) fuel)
   next-leads zero p n e fit g = next-zero (b + p) (length s - p) g
   next-leads (suc f) p n e fit g = next-more f (next-leads f) p n e fit g
 
@@ -181,7 +181,7 @@ module _ (o : Order) (b : ℕ) (s : List ℕ) (kn : Known) where
   module _ {A : Type 0} (body : ℕ → Head → Walk A) (rests : Rests body) (fuel code p : ℕ) (n : Next) (at : Stands p n) (kind : code ≡ 140 → ⊥)
       (inner : n .head .code ≡ code → (l : Said) → Reads o b s p (body (length s - p) (n .head)) l → Inner o b s p kn (n .head) l) where
     abbrev owned : ℕ → Walk (Part A)
-    owned room = body room (n .head) >>= λ a. next fuel (room - span (n .head)) >>= λ m. give (record { own = true; value = a; next = m })
+    owned room = body room (n .head) >>= λ a. next (kn .label) fuel (room - span (n .head)) >>= λ m. give (record { own = true; value = a; next = m })
 
     abbrev lacked : Option A → Walk (Part A)
     lacked held = elim held [ none ↦ refuse 9 12 | some a ↦ give (record { own = false; value = a; next = record { makers = []; head = n .head; room = n .room } }) ]
@@ -194,7 +194,7 @@ module _ (o : Order) (b : ℕ) (s : List ℕ) (kn : Known) where
     unfolding see
     owned-leads q {x} g =
         let v : Walk A = body (length s - p) (n .head) in
-        let u : Walk Next = next fuel (length s - p - span (n .head)) in
+        let u : Walk Next = next (kn .label) fuel (length s - p - span (n .head)) in
         let k : A → Walk (Part A) = λ a. u >>= λ m. give (record { own = true; value = a; next = m }) in
         let w = went-first o b s (b + (p + 16)) v k g in
         let j : Next → Part A = λ m. record { own = true; value = w .value; next = m } in
@@ -202,7 +202,7 @@ module _ (o : Order) (b : ℕ) (s : List ℕ) (kn : Known) where
         let z = goes-same (y .kept) in
         let i : y .value ≡ x .next = ap (λ (t : Part A). t .next) (z .0) in
         rw (said-bind o b s (b + (p + 16)) v k (w .is), said-give o b s (w .end) u j)
-        (leads-at (ap (λ (t : Next). t .head) i) (ap (λ (t : Next). t .room) i) (rw (z .1) at (record-leads body rests p (n .head) (at .inside) (next fuel) (next-leads fuel) (w .is) (y .is) (at .heads) (λ l r. record { inner = inner q l r; other = λ e. kind (sym q ∙ e) }))))
+        (leads-at (ap (λ (t : Next). t .head) i) (ap (λ (t : Next). t .room) i) (rw (z .1) at (record-leads body rests p (n .head) (at .inside) (next (kn .label) fuel) (next-leads fuel) (w .is) (y .is) (at .heads) (λ l r. record { inner = inner q l r; other = λ e. kind (sym q ∙ e) }))))
 
     lacked-leads : (held : Option A) {x : Part A} {e : ℕ} → see o b s (b + (p + 16)) (lacked held) ≡ goes x e → Passes (said o b s (b + (p + 16)) (lacked held)) x e
     unfolding see
@@ -212,18 +212,18 @@ module _ (o : Order) (b : ℕ) (s : List ℕ) (kn : Known) where
         let i : record { makers = []; head = n .head; room = n .room } ≡ x .next = ap (λ (t : Part A). t .next) (y .0) in
         rw (said-gave, then-nothing, ← y .1) (leads-at (ap (λ (t : Next). t .head) i) (ap (λ (t : Next). t .room) i) (leads-none p n at))
 
-    part-owned : (held : Option A) → eqb (n .head .code) code ≡ true → part fuel code body held n ≡ owned (length s - p)
+    part-owned : (held : Option A) → eqb (n .head .code) code ≡ true → part (kn .label) fuel code body held n ≡ owned (length s - p)
     unfolding part
     part-owned held q = rw (part, q, at .room)
 
-    part-lacked : (held : Option A) → eqb (n .head .code) code ≡ false → part fuel code body held n ≡ lacked held
+    part-lacked : (held : Option A) → eqb (n .head .code) code ≡ false → part (kn .label) fuel code body held n ≡ lacked held
     unfolding part
     part-lacked held q = rw (part, q)
 
-    part-leads : (held : Option A) (x : Part A) (e : ℕ) → see o b s (b + (p + 16)) (part fuel code body held n) ≡ goes x e → Passes (said o b s (b + (p + 16)) (part fuel code body held n)) x e
+    part-leads : (held : Option A) (x : Part A) (e : ℕ) → see o b s (b + (p + 16)) (part (kn .label) fuel code body held n) ≡ goes x e → Passes (said o b s (b + (p + 16)) (part (kn .label) fuel code body held n)) x e
     part-leads held x e g = go (eqb (n .head .code) code) refl
       where
-        go : (c : Bool) → eqb (n .head .code) code ≡ c → Passes (said o b s (b + (p + 16)) (part fuel code body held n)) x e
+        go : (c : Bool) → eqb (n .head .code) code ≡ c → Passes (said o b s (b + (p + 16)) (part (kn .label) fuel code body held n)) x e
         go true q = rw (part-owned held q) (owned-leads (eqb-true (n .head .code) code q) (rw (part-owned held q) at g))
         go false q = rw (part-lacked held q) (lacked-leads held (rw (part-lacked held q) at g))
 
@@ -271,7 +271,7 @@ module _ (o : Order) (b : ℕ) (s : List ℕ) (kn : Known) where
   -- the rest of a 350 that was read, which is in form 01
   montage-reads : (label : Label) (cs : List Channel) (p room : ℕ) (h : Head) (l : Said) → Reads o b s p (montage label cs room h) l → Reads o b s p (channels (montageGroup (length cs)) room h) l
   unfolding montage see
-  montage-reads label cs p room h l = by-form (λ x. Reads o b s p (montage x cs room h) l → Reads o b s p (channels (montageGroup (length cs)) room h) l) (λ r. stops-goes (r .is)) (λ r. r) label
+  montage-reads label cs p room h l = by-form (λ x. Reads o b s p (montage x cs room h) l → Reads o b s p (channels (montageGroup (length cs)) room h) l) label (λ r. stops-goes (r .is)) (λ r. r)
 
   -- a record that holds subs is no 140
   subs-other : (g : Group) → CodeTells g → g .code ≡ 140 → ⊥
@@ -279,40 +279,40 @@ module _ (o : Order) (b : ℕ) (s : List ℕ) (kn : Known) where
   subs-other g t e = false-true (sym (ap isGroup e) ∙ t .group)
 
   -- the records before the 140
-  pub tables-leads : (label : Label) (held : Option Held) (bytes : ℕ) {t : Descriptions} {e : ℕ} → bytes ≡ 16 + length s → see o b s b (descriptions label held bytes) ≡ goes t e →
-      Leads 0 (said o b s b (descriptions label held bytes)) (t .montage .next) e
-  unfolding descriptions see
-  tables-leads label held bytes n g =
+  pub tables-leads : (held : Option Held) (bytes : ℕ) {t : Descriptions} {e : ℕ} → bytes ≡ 16 + length s → see o b s b (descriptions (kn .label) held bytes) ≡ goes t e →
+      Leads 0 (said o b s b (descriptions (kn .label) held bytes)) (t .montage .next) e
+  unfolding descriptions eventTable see
+  tables-leads held bytes n g =
       by-said o b s b (basic (bytes - 16)) _ g λ c e₁ h₁ g j₁.
-      by-said o b s e₁ (next bytes (bytes - 144)) _ g λ d e₂ h₂ g j₂.
-      let k : Group = channelsGroup label (c .channels) in
-      by-said o b s e₂ (part bytes (k .code) (channels k) (heldChannels held) d) _ g λ p e₃ h₃ g j₃.
-      by-said o b s e₃ (part bytes 130 (items patientCode) (heldPatient held) (p .next)) _ g λ u e₄ h₄ g j₄.
-      by-said o b s e₄ (part bytes 200 (items eventCode) (some []) (u .next)) _ g λ v e₅ h₅ g j₅.
-      by-said o b s e₅ (part bytes 350 (montage label (p .value)) (some []) (v .next)) _ g λ m e₆ h₆ g j₆.
+      by-said o b s e₁ (next (kn .label) bytes (bytes - 144)) _ g λ d e₂ h₂ g j₂.
+      let k : Group = channelsGroup (kn .label) (c .channels) in
+      by-said o b s e₂ (part (kn .label) bytes (k .code) (channels k) (heldChannels held) d) _ g λ p e₃ h₃ g j₃.
+      by-said o b s e₃ (part (kn .label) bytes 130 (items patientCode) (heldPatient held) (p .next)) _ g λ u e₄ h₄ g j₄.
+      by-said o b s e₄ (eventTable (kn .label) bytes (u .next)) _ g λ v e₅ h₅ g j₅.
+      by-said o b s e₅ (part (kn .label) bytes 350 (montage (kn .label) (p .value)) (some []) (v .next)) _ g λ m e₆ h₆ g j₆.
       let y = goes-same g in
       let f = first-at b (bytes - 16) (omega arith) (omega arith) h₁ in
       let z : bytes - 144 ≡ length s - 128 = omega arith in
       let l₁ = next-leads bytes 128 d e₂ (f .1) (rw (f .0, z) at h₂) in
-      let l₂ = leads-then l₁ (part bytes (k .code) (channels k) (heldChannels held) d)
-      (λ q a. part-leads (channels k) (stays-channelsRest k) bytes (k .code) q d a (subs-other k (told-channels label (c .channels))) (λ e _ r. isSubs k (told-channels label (c .channels)) e r) (heldChannels held) p e₃) h₃ in
-      let l₃ = leads-then l₂ (part bytes 130 (items patientCode) (heldPatient held) (p .next)) (λ q k. part-leads (items patientCode) (stays-itemsRest patientCode) bytes 130 q (p .next) k (λ e. absurd (omega arith)) (λ e _. is130 e) (heldPatient held) u e₄) h₄ in
-      let l₄ = leads-then l₃ (part bytes 200 (items eventCode) (some []) (u .next)) (λ q k. part-leads (items eventCode) (stays-itemsRest eventCode) bytes 200 q (u .next) k (λ e. absurd (omega arith)) (λ e _. is200 e) (some []) v e₅) h₅ in
-      let l₅ = leads-then l₄ (part bytes 350 (montage label (p .value)) (some []) (v .next))
-      (λ q a. part-leads (montage label (p .value)) (stays-montageRest label (p .value)) bytes 350 q (v .next) a (λ e. absurd (omega arith))
-      (λ e l r. isSubs (montageGroup (length (p .value))) (told-montage (length (p .value))) e (montage-reads label (p .value) q _ _ l r)) (some []) m e₆) h₆ in
+      let l₂ = leads-then l₁ (part (kn .label) bytes (k .code) (channels k) (heldChannels held) d)
+      (λ q a. part-leads (channels k) (stays-channelsRest k) bytes (k .code) q d a (subs-other k (told-channels (kn .label) (c .channels))) (λ e _ r. isSubs k (told-channels (kn .label) (c .channels)) e r) (heldChannels held) p e₃) h₃ in
+      let l₃ = leads-then l₂ (part (kn .label) bytes 130 (items patientCode) (heldPatient held) (p .next)) (λ q k. part-leads (items patientCode) (stays-itemsRest patientCode) bytes 130 q (p .next) k (λ e. absurd (omega arith)) (λ e _. is130 e) (heldPatient held) u e₄) h₄ in
+      let l₄ = leads-then l₃ (eventTable (kn .label) bytes (u .next)) (λ q k g. let r = said-require o b s (b + (q + 16)) _ 9 12 _ g in rw (r .2) (part-leads (items eventCode) (stays-itemsRest eventCode) bytes 200 q (u .next) k (λ e. absurd (omega arith)) (λ e _. is200 e) (some []) v e₅ (r .1))) h₅ in
+      let l₅ = leads-then l₄ (part (kn .label) bytes 350 (montage (kn .label) (p .value)) (some []) (v .next))
+      (λ q a. part-leads (montage (kn .label) (p .value)) (stays-montageRest (kn .label) (p .value)) bytes 350 q (v .next) a (λ e. absurd (omega arith))
+      (λ e l r. isSubs (montageGroup (length (p .value))) (told-montage (length (p .value))) e (montage-reads (kn .label) (p .value) q _ _ l r)) (some []) m e₆) h₆ in
       rw (← y .0, ← y .1, j₁, j₂, j₃, j₄, j₅, j₆, said-gave, then-nothing, f .0, z) (simp then-assoc at (f .2 _ _ _ l₅))
 
   -- the 140, whose head stands at q, up to the delimiter, of which `later` tells
-  signals-chain : {B : Type 0} (c : Basic) (own : Bool) (cs : List Channel) (back fuel q : ℕ) (n : Next) → Stands q n → n .head .code ≡ 140 → kn ≡ record { basic = c; own = own; channels = cs; back = back } → (f : Frames → Next → Walk B) {x : B} {e : ℕ} →
+  signals-chain : {B : Type 0} (c : Basic) (own : Bool) (cs : List Channel) (back fuel q : ℕ) (n : Next) → Stands q n → n .head .code ≡ 140 → kn ≡ record { label = kn .label; basic = c; own = own; channels = cs; back = back } → (f : Frames → Next → Walk B) {x : B} {e : ℕ} →
       ((a : Frames) (d : Next) (p : ℕ) → Stands p d → see o b s (b + (p + 16)) (f a d) ≡ goes x e → Closed o b s p (heading o b s p then said o b s (b + (p + 16)) (f a d))) →
-      see o b s (b + (q + 16)) (frames c own cs back (n .room) (n .head) >>= λ a. next fuel (n .room - span (n .head)) >>= λ d. f a d) ≡ goes x e →
-      Chain o b s kn q (heading o b s q then said o b s (b + (q + 16)) (frames c own cs back (n .room) (n .head) >>= λ a. next fuel (n .room - span (n .head)) >>= λ d. f a d))
+      see o b s (b + (q + 16)) (frames (kn .label) c own cs back (n .room) (n .head) >>= λ a. next (kn .label) fuel (n .room - span (n .head)) >>= λ d. f a d) ≡ goes x e →
+      Chain o b s kn q (heading o b s q then said o b s (b + (q + 16)) (frames (kn .label) c own cs back (n .room) (n .head) >>= λ a. next (kn .label) fuel (n .room - span (n .head)) >>= λ d. f a d))
   signals-chain c own cs back fuel q n at code same f later g =
-      let v : Walk Frames = frames c own cs back (length s - q) (n .head) in
+      let v : Walk Frames = frames (kn .label) c own cs back (length s - q) (n .head) in
       by-said o b s (b + (q + 16)) v _ (rw (at .room) at g) λ a m h₁ g₁ j₁.
-      by-said o b s m (next fuel (length s - q - span (n .head))) _ g₁ λ d m₁ h₂ g₂ j₂.
-      let l = behind-leads (frames c own cs back) (stays-framesRest c own cs back) q (n .head) (at .inside) (next fuel) (next-leads fuel) h₁ h₂ in
+      by-said o b s m (next (kn .label) fuel (length s - q - span (n .head))) _ g₁ λ d m₁ h₂ g₂ j₂.
+      let l = behind-leads (frames (kn .label) c own cs back) (stays-framesRest (kn .label) c own cs back) q (n .head) (at .inside) (next (kn .label) fuel) (next-leads fuel) h₁ h₂ in
       let e = later a d (l .to) (l .stands) (rw (l .end) at g₂) in
       rw (at .room, j₁, j₂, leads-to l (f a d), ← then-assoc)
       (more (n .head) (heading o b s q then said o b s (b + (q + 16)) v) _ (at .heads) (is140 code (rw same (record { value = a; end = m; is = h₁; says = refl })))
@@ -334,23 +334,23 @@ module _ (o : Order) (b : ℕ) (s : List ℕ) (kn : Known) where
       record { head = n .head; stands = at .heads; ends = rw z at (w .is); is = ap (λ (l : Said). heading o b s p then l) (i ∙ rw (z, at .room)) }
 
 -- what the 140 is read with, as the walk of the descriptions gives it
-signals-known : (o : Order) (b : ℕ) (s : List ℕ) (at : ℕ) (t : Descriptions) (h : Head) {x : Placed} {e : ℕ} → see o b s at (signals t h) ≡ goes x e →
-    knownOf x ≡ record { basic = t .basic; own = t .channels .own; channels = t .channels .value; back = countBack (span h) (t .montage .next .room) }
+signals-known : (o : Order) (label : Label) (b : ℕ) (s : List ℕ) (at : ℕ) (t : Descriptions) (h : Head) {x : Placed} {e : ℕ} → see o b s at (signals label t h) ≡ goes x e →
+    knownOf label x ≡ record { label = label; basic = t .basic; own = t .channels .own; channels = t .channels .value; back = countBack (span h) (t .montage .next .room) }
 unfolding signals see
-signals-known o b s at t h g =
-    by-went o b s at (frames (t .basic) (t .channels .own) (t .channels .value) _ (t .montage .next .room) (t .montage .next .head)) _ (require-went o b s at _ 9 12 _ g .1) λ f m₁ _ g.
-    by-went o b s m₁ (next (span h) (t .montage .next .room - span (t .montage .next .head))) _ g λ d m₂ _ g.
+signals-known o label b s at t h g =
+    by-went o b s at (frames label (t .basic) (t .channels .own) (t .channels .value) _ (t .montage .next .room) (t .montage .next .head)) _ (require-went o b s at _ 9 12 _ g .1) λ f m₁ _ g.
+    by-went o b s m₁ (next label (span h) (t .montage .next .room - span (t .montage .next .head))) _ g λ d m₂ _ g.
     by-then o b s m₂ (delimiter (d .head)) _ g λ _ m₃ _ g.
-    by-then o b s m₃ (padding (d .room - 16)) _ (require-went o b s m₃ _ 10 0 _ (require-went o b s m₃ _ 14 _ _ g .1) .1) λ _ m₄ _ g. sym (ap knownOf (goes-same g .0))
+    by-then o b s m₃ (padding (d .room - 16)) _ (require-went o b s m₃ _ 10 0 _ (require-went o b s m₃ _ 14 _ _ g .1) .1) λ _ m₄ _ g. sym (ap (knownOf label) (goes-same g .0))
 
 -- an accepted body is a chain
-pub body-chain : (o : Order) (label : Label) (b : ℕ) (s : List ℕ) (held : Option Held) (h : Head) {x : Placed} {e : ℕ} → span h ≡ 16 + length s → see o b s b (recordingBody label held h) ≡ goes x e → Chain o b s (knownOf x) 0 (said o b s b (recordingBody label held h))
+pub body-chain : (o : Order) (label : Label) (b : ℕ) (s : List ℕ) (held : Option Held) (h : Head) {x : Placed} {e : ℕ} → span h ≡ 16 + length s → see o b s b (recordingBody label held h) ≡ goes x e → Chain o b s (knownOf label x) 0 (said o b s b (recordingBody label held h))
 unfolding recordingBody signals
 body-chain o label b s held h {x} n g =
-    let kn : Known = knownOf x in
+    let kn : Known = knownOf label x in
     by-said o b s b (descriptions label held (span h)) _ g λ t m h₁ g₁ j₁.
-    let same = signals-known o b s m t h g₁ in
-    let d = tables-leads o b s kn label held (span h) n h₁ in
+    let same = signals-known o label b s m t h g₁ in
+    let d = tables-leads o b s kn held (span h) n h₁ in
     let r = said-require o b s (b + (d .to + 16)) (eqb (t .montage .next .head .code) 140) 9 12 _ (rw (d .end) at g₁) in
     let c = signals-chain o b s kn (t .basic) (t .channels .own) (t .channels .value) _ (span h) (d .to) (t .montage .next) (d .stands) (eqb-true (t .montage .next .head .code) 140 (r .0)) same _ (λ f v p k. ended o b s kn p v k _ _ _ _) (r .1) in
-    rw (j₁, leads-to o b s kn d (signals t h), r .2) (onto o b s kn _then_ (λ p. Inner o b s p kn) (Closed o b s) (λ l. l) _ (λ l m. then-assoc l m _) (nothing-then _) (λ _ _ _ i. i .inner) c (d .links))
+    rw (j₁, leads-to o b s kn d (signals label t h), r .2) (onto o b s kn _then_ (λ p. Inner o b s p kn) (Closed o b s) (λ l. l) _ (λ l m. then-assoc l m _) (nothing-then _) (λ _ _ _ i. i .inner) c (d .links))

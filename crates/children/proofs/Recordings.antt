@@ -19,7 +19,8 @@ use Rattle.walk.proofs.Seen.{stays-goes, see-part, body-length}
 use Rattle.walk.proofs.Went.{goes-same}
 use Rattle.walk.proofs.Told.{tell-part}
 use Rattle.rules.specs.declared.Head as At
-use Rattle.rules.specs.Rules.{Head, span, Held, Placed, recordingBody, recording, recordings}
+use Rattle.rules.proofs.Cases.{most-low}
+use Rattle.rules.specs.Rules.{mostOf, Head, span, Held, Placed, recordingBody, recording, recordings}
 use Rattle.rules.specs.declared.Label.{Label}
 use Rattle.rules.proofs.Room.{stays-recordingBody}
 use Rattle.records.specs.Says.{headOf}
@@ -32,7 +33,7 @@ use Rattle.children.proofs.Saying.{nothing, then-assoc, then-nothing, n
 
 -- a recording that the walk accepted, up to byte e of the file s
 pub record Begun (o : Order) (label : Label) (s : List ℕ) (p : ℕ) (held : Option Held) (i : ℕ) (x : Placed) (e : ℕ) : Type 0 where
-  pub opens : Opened o 0 s p (length s - p) 10 128 (λ _. leb 16) (eqb i) (recordingBody label held) x e
+  pub opens : Opened o 0 s p (length s - p) 10 (mostOf label) (λ _. leb 16) (eqb i) (recordingBody label held) x e
   pub least : 16 ≤ span (opens .top)
   pub ends : e ≡ p + span (opens .top)
   pub inside : e ≤ length s
@@ -41,7 +42,7 @@ pub record Begun (o : Order) (label : Label) (s : List ℕ) (p : ℕ) (held : Op
 pub begun : (o : Order) (label : Label) (s : List ℕ) (p : ℕ) (held : Option Held) (i : ℕ) {x : Placed} {e : ℕ} → see o 0 s p (recording label held (length s - p) i) ≡ goes x e → Begun o label s p held i x e
 unfolding recording
 begun o label s p held i g =
-    let v = opened o 0 s p (length s - p) 10 128 (λ _. leb 16) (eqb i) (recordingBody label held) g in
+    let v = opened o 0 s p (length s - p) 10 (mostOf label) (λ _. leb 16) (eqb i) (recordingBody label held) g in
     let h = v .top in
     let l : 16 ≤ span h = leb-true 16 (span h) (v .given .length) in
     let z = stays-goes o 0 s (p + 16 + (span h - 16)) (omega (arith, v .given .inside, l)) (recordingBody label held h) (p + 16) _ (omega arith) (stays-recordingBody label held h (p + 16) l) (v .given .rest) in
@@ -75,7 +76,7 @@ within o label s p q held i g =
       top = h;
       heads = rw (zero-add p, zero-add (p + 16)) (v .opens .first);
       kind = eqb-true (h .code) 10 (v .opens .kind);
-      admits = rw (zero-add (p + 16)) (admit-passed o 0 s (p + 16) (length s - p) 128 (leb 16) (eqb i) h (d .admits) .any);
+      admits = rw (zero-add (p + 16)) (admit-passed o 0 s (p + 16) (length s - p) (mostOf label) (leb 16) (eqb i) h (d .admits) .any 128 (most-low label));
       ends = v .ends;
       starts = omega (arith, v .ends, v .least);
       fills = omega (arith, v .ends, body-length p q s (omega (arith, v .ends, v .least)) (v .inside));

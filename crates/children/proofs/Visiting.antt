@@ -15,7 +15,8 @@ use Rattle.walk.proofs.Apart.{false-true, stops-goes}
 use Rattle.walk.proofs.Seen.{and-left, and-right, gate-true}
 use Rattle.walk.proofs.Went.{goes-same, gate-went}
 use Rattle.rules.specs.declared.Head as At
-use Rattle.rules.specs.Rules.{Head, head, admit, span, limit, basicBody, channels, channelsBody, items, itemsBody, patientCode, eventCode, frames, framesBody, makerCode, delimiter}
+use Rattle.rules.proofs.Cases.{most-low}
+use Rattle.rules.specs.Rules.{mostOf, Head, head, admit, span, limit, basicBody, channels, channelsBody, items, itemsBody, patientCode, eventCode, frames, framesBody, makerCode, delimiter}
 use Rattle.records.specs.Says.{headOf, isGroup}
 use Rattle.children.specs.Children.{Said, _then_, Known, Heads, Inner, is100, isSubs, is130, is200, is140, isMaker, Links, more, last, Parted, Chain, Closed, RecordAt, NoRecord, Visits}
 use Rattle.children.specs.declared.Direct.{Direct}
@@ -56,8 +57,8 @@ module _ (o : Order) (b : ℕ) (s : List ℕ) where
     inner-admits (isSubs g t q r) = admits (b + (p + 16)) (length s - p) 0 (leb 32) (eqb 0) h (channelsBody g (span h)) (omega arith) (low 32 (span h) (omega arith)) (r .is)
     inner-admits (is130 q r) = admits (b + (p + 16)) (length s - p) 0 (leb 24) (eqb 0) h (itemsBody patientCode (span h)) (omega arith) (low 24 (span h) (omega arith)) (r .is)
     inner-admits (is200 q r) = admits (b + (p + 16)) (length s - p) 0 (leb 24) (eqb 0) h (itemsBody eventCode (span h)) (omega arith) (low 24 (span h) (omega arith)) (r .is)
-    inner-admits (is140 q r) = admits (b + (p + 16)) (length s - p) 128 (leb 32) (eqb 0) h (require (k .own || eqb (length (k .channels)) (k .basic .channels)) 14 (k .back) >> framesBody (k .basic) (k .channels) h) (omega arith) (low 32 (span h) (omega arith)) (r .is)
-    inner-admits (isMaker q r) = admits (b + (p + 16)) (length s - p) 128 (leb 16) (λ _. true) h (text (span h - 16)) (omega arith) (low 16 (span h) (omega arith)) (r .is)
+    inner-admits (is140 q r) = admits (b + (p + 16)) (length s - p) (mostOf (k .label)) (leb 32) (eqb 0) h (require (k .own || eqb (length (k .channels)) (k .basic .channels)) 14 (k .back) >> framesBody (k .label) (k .basic) (k .channels) h) (most-low (k .label)) (low 32 (span h) (omega arith)) (r .is)
+    inner-admits (isMaker q r) = admits (b + (p + 16)) (length s - p) (mostOf (k .label)) (leb 16) (λ _. true) h (text (span h - 16)) (most-low (k .label)) (low 16 (span h) (omega arith)) (r .is)
 
     inner-coded : {l : Said} → Inner o b s p k h l → h .code ≡ 0 → ⊥
     unfolding makerCode isGroup

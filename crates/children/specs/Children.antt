@@ -11,6 +11,7 @@ use Rattle.walk.specs.See.{goes, see}
 use Rattle.walk.specs.Tell.{tell}
 use Rattle.walk.specs.Trace.{trace}
 use Rattle.rules.specs.declared.Head as At
+use Rattle.rules.specs.declared.Label.{Label}
 use Rattle.rules.specs.Rules.{Head, Basic, Group, Channel, Placed, head, basicRule, makerRule, anyRule, admitBy, span, basicBody, channels, items, patientCode, eventCode, frames, makerCode, delimiter, padding}
 use Rattle.records.specs.Says.{headOf, CodeTells}
 use Rattle.children.specs.declared.Direct.{Direct}
@@ -32,11 +33,12 @@ _then_ x y = record { rows = x .rows ++ y .rows; events = x .events ++ y .events
 abbrev pub basicRest : ℕ → Head → Walk Basic
 basicRest room h = admitBy basicRule room h >> basicBody
 
-abbrev pub makerRest : ℕ → Head → Walk (List ℕ)
-makerRest room h = admitBy makerRule room h >> text (span h - 16)
+abbrev pub makerRest : Label → ℕ → Head → Walk (List ℕ)
+makerRest label room h = admitBy (makerRule label) room h >> text (span h - 16)
 
--- what a recording's 140 is read with, as its reading has it
+-- what a recording's 140 and its makers' records are read with: the file's label, and what its reading has
 pub record Known : Type 0 where
+  pub label : Label
   -- its 100
   pub basic : Basic
   -- whether it has a 120 or 320 of its own, and the channels that hold
@@ -45,8 +47,14 @@ pub record Known : Type 0 where
   -- how far back 100's count of channels stands from its 140
   pub back : ℕ
 
-abbrev pub knownOf : Placed → Known
-knownOf x = record { basic = x .recording .basic; own = x .recording .ownChannels; channels = x .recording .channels; back = x .layout .at140 - 20 }
+abbrev pub knownOf : Label → Placed → Known
+knownOf label x = record {
+  label = label;
+  basic = x .recording .basic;
+  own = x .recording .ownChannels;
+  channels = x .recording .channels;
+  back = x .layout .at140 - 20;
+}
 
 -- in the part s at b a head stands at byte p; the walk, begun behind it, accepts, and the two say l
 module _ (o : Order) (b : ℕ) (s : List ℕ) (p : ℕ) where
@@ -68,8 +76,8 @@ module _ (o : Order) (b : ℕ) (s : List ℕ) (p : ℕ) where
     isSubs : (g : Group) → CodeTells g → h .code ≡ g .code → Reads (channels g (length s - p) h) l → Inner k h l
     is130 : h .code ≡ 130 → Reads (items patientCode (length s - p) h) l → Inner k h l
     is200 : h .code ≡ 200 → Reads (items eventCode (length s - p) h) l → Inner k h l
-    is140 : h .code ≡ 140 → Reads (frames (k .basic) (k .own) (k .channels) (k .back) (length s - p) h) l → Inner k h l
-    isMaker : makerCode (h .code) ≡ true → Reads (makerRest (length s - p) h) l → Inner k h l
+    is140 : h .code ≡ 140 → Reads (frames (k .label) (k .basic) (k .own) (k .channels) (k .back) (length s - p) h) l → Inner k h l
+    isMaker : makerCode (h .code) ≡ true → Reads (makerRest (k .label) (length s - p) h) l → Inner k h l
 
   -- what a delimiter's head, and the padding behind it, say
   abbrev pub closing : Head → Said

@@ -9,12 +9,15 @@ use Rattle.words.specs.declared.Order.{Order}
 use Rattle.walk.specs.Walk.{Event}
 use Rattle.rules.specs.Rules as R
 use Rattle.rules.specs.Reading.{Value, ChannelReading, Reading, reading}
+use Rattle.rules.specs.declared.Version.{Version}
+use Rattle.rules.specs.declared.Version.the-variants as Version
+use Rattle.rules.specs.declared.Form.the-variants as Form
 use Rattle.rules.specs.declared.Form.{Form}
 use Rattle.rules.specs.declared.Refusal.{Refusal}
 use Rattle.records.specs.declared.items.Holder.the-variants as Holder
 use Rattle.recordings.specs.Answers.{Answer, value, refusal}
 use Rattle.recordings.proofs.Chosen.{refusal-value}
-use Rattle.questions.specs.Questions.{formNumber, channelOf, montageOf}
+use Rattle.questions.specs.Questions.{versionNumber, formNumber, channelOf, montageOf}
 use Rattle.questions.specs.Tied.{channelRead, montageRead, samplesRead, Alike, values, refusals, FactsAre, NumbersAre, TextsAre, ItemIs, ClockIs}
 use Rattle.questions.specs.declared.channels.Descriptor.{Descriptor}
 use Rattle.questions.proofs.Readings.{alike-value, facts-read, numbers-read, montage-count-read, clock-read}
@@ -48,15 +51,18 @@ module _ {Y E A : Type 0} (l : Meant {X = Y} value refusal E A) {X : Type 0} {P 
   tells e (values {a = y} {b = u} p) f = (ap (λ (z : A). l .says z .0) e ∙ l .zero y, rw e (f y u p))
   tells e (refusals {n} {p = q}) f = (ap (λ (z : A). l .says z .0) e ∙ ap (λ (r : Refusal). r .0) (l .named n q), ap (λ (z : A). l .says z .1) e ∙ ap (λ (r : Refusal). r .1) (l .named n q))
 
--- the number of a form
+-- the numbers of a version and of a form
+abbrev numberIn : Version → ℕ
+numberIn v = versionNumber (record { version = v; form = Form.Channels })
+
 abbrev numberOf : Form → ℕ
-numberOf f = formNumber (record { form = f })
+numberOf f = formNumber (record { version = Version.V300; form = f })
 
 -- what C is answered of a header
 heading-is : (o : Order) (g : Reading) {a : Heading} → a ≡ flatHeading (value (headerRead o g)) → HeadingIs o g a
-unfolding R.decimal R.between R.allSpaces R.version R.formed
+unfolding R.decimal R.between R.allSpaces R.versioned R.formed
 heading-is o g x =
-    rw x (record { accepted = refl; spg = λ e. ap spellingNumber e; psg = λ e. ap spellingNumber e; version = refl; channels = λ e. ap numberOf e; electrodes = λ e. ap numberOf e; order = refl; script = refl; recordings = refl })
+    rw x (record { accepted = refl; spg = λ e. ap spellingNumber e; psg = λ e. ap spellingNumber e; v100 = λ e. ap numberIn e; v110 = λ e. ap numberIn e; v200 = λ e. ap numberIn e; v300 = λ e. ap numberIn e; channels = λ e. ap numberOf e; electrodes = λ e. ap numberOf e; order = refl; script = refl; recordings = refl })
 
 -- An accepted file
 

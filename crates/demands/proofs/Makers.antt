@@ -13,13 +13,12 @@ use Rattle.walk.specs.Plays.{Plays, gives, checks, numbers, reads, skips, lists
 use Rattle.walk.specs.Walk.{pick, Event, numeral, piece, blank, row, size, rows, Walk, give, refuse, check, number, read, skip, list, _>>=_, _>>_, passed}
 use Rattle.walk.proofs.Apart.{none-some}
 use Rattle.walk.proofs.Told.{Silent}
-use Rattle.rules.specs.Rules.{series, fileHeader, Head, head, span, admit, Rule, codedBy, admitBy, fixed, Basic, basicBody, basic, basicRule, Channel, channelBody, channel, channelRule, channelsBody, channels, patientCode, eventCode, itemsBody, items, sampleBytes, frameRule, frameBody, frame, framesBody, frames, makerCode, Next, next, Part, part, Held, heldChannels, heldPatient, delimiter, padding, Descriptions, descriptions, signals, recordingRule, recordingBody, recording, recordings, File, file, judge, Sub, Group, channelsGroup, montageGroup, montage}
+use Rattle.rules.specs.Rules.{mostOf, eventTable, series, fileHeader, Head, head, span, admit, Rule, codedBy, admitBy, fixed, Basic, basicBody, basic, basicRule, Channel, channelBody, channel, channelRule, channelsBody, channels, patientCode, eventCode, itemsBody, items, sampleBytes, frameRule, frameBody, frame, framesBody, frames, makerCode, Next, next, Part, part, Held, heldChannels, heldPatient, delimiter, padding, Descriptions, descriptions, signals, recordingRule, recordingBody, recording, recordings, File, file, judge, Sub, Group, channelsGroup, montageGroup, montage}
 use Rattle.rules.specs.declared.Label.{Label}
 use Rattle.rules.proofs.Cases.{by-form}
+use Rattle.rules.proofs.Silent.{silent-basicBody, silent-padding, silent-frameBody, silent-channelBody, silent-itemsBody}
 use Rattle.rules.proofs.Turn.{accepted, tiled}
 use Rattle.judge.proofs.Accepted.{accepted-long}
-use Rattle.rows.proofs.Body.{silent-basicBody}
-use Rattle.rows.proofs.Lists.{silent-padding, silent-frameBody, silent-channelBody, silent-itemsBody}
 use Rattle.makers.specs.Makers.{firstMaker}
 use Rattle.demands.specs.Demands.{headerJudged}
 
@@ -98,30 +97,30 @@ back-channels g room h = (refl, λ m _. back-series 256 (channel (g .sub)) (back
 
 back-montage : (label : Label) (cs : List Channel) (room : ℕ) (h : Head) → Back (montage label cs room h)
 unfolding montage
-back-montage label cs room h = by-form (λ l. Back (montage l cs room h)) tt (back-channels (montageGroup (length cs)) room h) label
+back-montage label cs room h = by-form (λ l. Back (montage l cs room h)) label tt (back-channels (montageGroup (length cs)) room h)
 
 back-items : (ok : ℕ → Bool) (room : ℕ) (h : Head) → Back (items ok room h)
 unfolding items
 back-items ok room h = back-then _ (itemsBody ok (span h)) (back-admit room 0 _ _ h) (silent-back (itemsBody ok (span h)) (silent-itemsBody ok (span h)))
 
-back-frame : (size t : ℕ) (cs : List Channel) (room i : ℕ) → Back (frame size t cs room i)
+back-frame : (label : Label) (size t : ℕ) (cs : List Channel) (room i : ℕ) → Back (frame label size t cs room i)
 unfolding frame
-back-frame size t cs room i = back-record (frameRule size (24 + sampleBytes t cs) i) room (λ _. frameBody size t cs) (λ _. silent-back (frameBody size t cs) (silent-frameBody size t cs))
+back-frame label size t cs room i = back-record (frameRule label size (24 + sampleBytes t cs) i) room (λ _. frameBody size t cs) (λ _. silent-back (frameBody size t cs) (silent-frameBody size t cs))
 
 back-padding : (n : ℕ) → Back (padding n)
 back-padding n = silent-back (padding n) (silent-padding n)
 
-back-frames : (b : Basic) (own : Bool) (cs : List Channel) (back room : ℕ) (h : Head) → Back (frames b own cs back room h)
+back-frames : (label : Label) (b : Basic) (own : Bool) (cs : List Channel) (back room : ℕ) (h : Head) → Back (frames label b own cs back room h)
 unfolding frames framesBody admit _>>=_ _>>_
-back-frames b own cs back room h =
-    (refl, λ t size n. back-bind (series n 1 size (span h - 32) (frame size t cs)) _ (back-series size (frame size t cs) (back-frame size t cs) n 1 (span h - 32)) (λ _. back-bind (padding _) _ (back-padding _) (λ _. tt)))
+back-frames label b own cs back room h =
+    (refl, λ t size n. back-bind (series n 1 size (span h - 32) (frame label size t cs)) _ (back-series size (frame label size t cs) (back-frame label size t cs) n 1 (span h - 32)) (λ _. back-bind (padding _) _ (back-padding _) (λ _. tt)))
 
-back-next : (fuel room : ℕ) → Back (next fuel room)
+back-next : (label : Label) (fuel room : ℕ) → Back (next label fuel room)
 unfolding next
-back-next zero room = tt
-back-next (suc fuel) room =
+back-next label zero room = tt
+back-next label (suc fuel) room =
     back-bind (head room) _ (back-head room)
-    (λ h. back-pick (makerCode (h .code)) _ _ (back-then _ _ (back-admit room 128 _ _ h) (back-bind _ _ (λ _. tt) (λ _. back-bind (next fuel (room - span h)) _ (back-next fuel (room - span h)) (λ _. tt)))) tt)
+    (λ h. back-pick (makerCode (h .code)) _ _ (back-then _ _ (back-admit room (mostOf label) _ _ h) (back-bind _ _ (λ _. tt) (λ _. back-bind (next label fuel (room - span h)) _ (back-next label fuel (room - span h)) (λ _. tt)))) tt)
 
 back-own : {A : Type 0} (own : Bool) (held : Option A) (n : Next) (w : Walk (Part A)) → Back w →
     Back {A = Part A} (elim own [ true ↦ w | false ↦ elim held [ none ↦ refuse 9 12 | some a ↦ give (record { own = false; value = a; next = record { makers = []; head = n .head; room = n .room } }) ] ])
@@ -129,37 +128,37 @@ back-own true held n w h = h
 back-own false none n w h = tt
 back-own false (some a) n w h = tt
 
-back-part : {A : Type 0} (fuel code : ℕ) (body : ℕ → Head → Walk A) → ((room : ℕ) (h : Head) → Back (body room h)) → (held : Option A) (n : Next) → Back (part fuel code body held n)
+back-part : (label : Label) {A : Type 0} (fuel code : ℕ) (body : ℕ → Head → Walk A) → ((room : ℕ) (h : Head) → Back (body room h)) → (held : Option A) (n : Next) → Back (part label fuel code body held n)
 unfolding part
-back-part fuel code body k held n = back-own (eqb (n .head .code) code) held n _ (back-bind _ _ (k (n .room) (n .head)) (λ _. back-bind _ _ (back-next fuel (n .room - span (n .head))) (λ _. tt)))
+back-part label fuel code body k held n = back-own (eqb (n .head .code) code) held n _ (back-bind _ _ (k (n .room) (n .head)) (λ _. back-bind _ _ (back-next label fuel (n .room - span (n .head))) (λ _. tt)))
 
 back-descriptions : (label : Label) (held : Option Held) (bytes : ℕ) → Back (descriptions label held bytes)
-unfolding descriptions
+unfolding descriptions eventTable
 back-descriptions label held bytes =
     back-bind _ _ (back-basic (bytes - 16))
-    (λ b. back-bind _ _ (back-next bytes (bytes - 144))
-    (λ n. back-bind _ _ (back-part bytes _ _ (back-channels (channelsGroup label (b .channels))) (heldChannels held) n)
-    (λ c. back-bind _ _ (back-part bytes 130 (items patientCode) (back-items patientCode) (heldPatient held) (c .next))
-    (λ p. back-bind _ _ (back-part bytes 200 (items eventCode) (back-items eventCode) (some []) (p .next))
-    (λ e. back-bind _ _ (back-part bytes 350 (montage label (c .value)) (back-montage label (c .value)) (some []) (e .next))
+    (λ b. back-bind _ _ (back-next label bytes (bytes - 144))
+    (λ n. back-bind _ _ (back-part label bytes _ _ (back-channels (channelsGroup label (b .channels))) (heldChannels held) n)
+    (λ c. back-bind _ _ (back-part label bytes 130 (items patientCode) (back-items patientCode) (heldPatient held) (c .next))
+    (λ p. back-bind _ _ (back-then _ _ tt (back-part label bytes 200 (items eventCode) (back-items eventCode) (some []) (p .next)))
+    (λ e. back-bind _ _ (back-part label bytes 350 (montage label (c .value)) (back-montage label (c .value)) (some []) (e .next))
     (λ _. tt))))))
 
 back-delimiter : (h : Head) → Back (delimiter h)
 unfolding delimiter _>>=_ _>>_
 back-delimiter h = (refl, tt)
 
-back-signals : (t : Descriptions) (h : Head) → Back (signals t h)
+back-signals : (label : Label) (t : Descriptions) (h : Head) → Back (signals label t h)
 unfolding signals
-back-signals t h =
+back-signals label t h =
     let last : Next = t .montage .next in
     back-then _ _ tt
-    (back-bind _ _ (back-frames (t .basic) (t .channels .own) (t .channels .value) _ (last .room) (last .head))
-    (λ _. back-bind _ _ (back-next (span h) (last .room - span (last .head)))
+    (back-bind _ _ (back-frames label (t .basic) (t .channels .own) (t .channels .value) _ (last .room) (last .head))
+    (λ _. back-bind _ _ (back-next label (span h) (last .room - span (last .head)))
     (λ d. back-then _ _ (back-delimiter (d .head)) (back-then _ _ tt (back-then _ _ tt (back-then _ _ (back-padding (d .room - 16)) tt))))))
 
 back-recording : (label : Label) (held : Option Held) (room i : ℕ) → Back (recording label held room i)
 unfolding recording recordingBody
-back-recording label held room i = back-record (recordingRule i) room (recordingBody label held) (λ h. back-bind _ _ (back-descriptions label held (span h)) (λ t. back-signals t h))
+back-recording label held room i = back-record (recordingRule label i) room (recordingBody label held) (λ h. back-bind _ _ (back-descriptions label held (span h)) (λ t. back-signals label t h))
 
 back-recordings : (label : Label) (n : ℕ) (held : Option Held) (room i : ℕ) → Back (recordings label n held room i)
 unfolding recordings

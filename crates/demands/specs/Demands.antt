@@ -22,6 +22,7 @@ use Rattle.rules.specs.CanonicalForm.{CanonicalForm}
 use Rattle.rules.specs.Reading.{Value, whole, float, ChannelReading, FrameReading, RecordingReading, Reading, reading}
 use Rattle.rules.specs.Rules as R
 use Rattle.rules.specs.declared.FileHeader.{FileHeader}
+use Rattle.rules.specs.declared.Version.the-variants as Version
 use Rattle.rules.specs.declared.Form.the-variants as Form
 use Rattle.rules.specs.declared.Refusal.{Refusal}
 use Rattle.rules.specs.declared.Spelling.the-variants as Spelling
@@ -391,7 +392,10 @@ pub record HeadingIs (o : Order) (g : Reading) (a : Heading) : Type 0 where
   pub accepted : a .refusal ≡ 0
   pub spg : g .heading .spelling ≡ Spelling.Spg → a .spelling ≡ 0
   pub psg : g .heading .spelling ≡ Spelling.Psg → a .spelling ≡ 1
-  pub version : a .version ≡ 300
+  pub v100 : g .heading .label .version ≡ Version.V100 → a .version ≡ 100
+  pub v110 : g .heading .label .version ≡ Version.V110 → a .version ≡ 110
+  pub v200 : g .heading .label .version ≡ Version.V200 → a .version ≡ 200
+  pub v300 : g .heading .label .version ≡ Version.V300 → a .version ≡ 300
   pub channels : g .heading .label .form ≡ Form.Channels → a .form ≡ 0
   pub electrodes : g .heading .label .form ≡ Form.Electrodes → a .form ≡ 1
   pub order : a .order ≡ letterOf o

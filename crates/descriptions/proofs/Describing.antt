@@ -24,7 +24,7 @@ use Rattle.records.specs.declared.basic.Basiced.the-variants as Basiced
 use Rattle.records.specs.declared.items.Holder.the-variants as Holder
 use Rattle.records.specs.Says.{halts, headOf, headroom, Headroom, basicOf, basiced, okOf, HeadFrom, NextHead, subsAt, ChannelsStand}
 use Rattle.rules.specs.Rules.{descriptions}
-use Rattle.descriptions.specs.DescriptionsJudged.{HeldIs, HeldAs, Owned, Parts, parted, Keeps, DescribedBounds, heldAt, channelsIn, patientIn, countIn, placeOf, ChannelsPart, MontagePart, ItemsPart, DescriptionsOf}
+use Rattle.descriptions.specs.DescriptionsJudged.{HeldIs, HeldAs, Owned, Parts, parted, Keeps, DescribedBounds, heldAt, channelsIn, patientIn, countIn, placeOf, ChannelsPart, MontagePart, ItemsPart, EventsPart, DescriptionsOf}
 use Rattle.descriptions.specs.declared.Before.{Before}
 use Rattle.descriptions.specs.declared.Before.the-variants as Before
 use Rattle.descriptions.specs.declared.Held.{Held}
@@ -66,11 +66,11 @@ abbrev pub Hundred : Order → ℕ → List ℕ → Basiced → Type 0
 Hundred o base s a = over basicOf (see o base s (base + 0) (R.basic (length s - 0))) ≡ basiced (base + 0) a
 
 -- the 100 that passed, and the head behind it
-pub record Begun (o : Order) (base : ℕ) (s : List ℕ) (b : Basic) (h : Head) : Type 0 where
+pub record Begun (o : Order) (label : Label) (base : ℕ) (s : List ℕ) (b : Basic) (h : Head) : Type 0 where
   pub basic : R.Basic
   pub next : R.Next
   pub is : see o base s base (R.basic (length s)) ≡ goes basic (base + 128)
-  pub follows : see o base s (base + 128) (R.next (16 + length s) (length s - 128)) ≡ goes next (base + (h .at + 16))
+  pub follows : see o base s (base + 128) (R.next label (16 + length s) (length s - 128)) ≡ goes next (base + (h .at + 16))
   pub same : basicOf basic ≡ b
   pub head : next .head ≡ headOf h
   pub room : next .room ≡ length s - h .at
@@ -94,10 +94,10 @@ module _ (o : Order) (base : ℕ) (s : List ℕ) where
       let z : (g .end ≡ base + 128) × (g .end ≤ base + length s) = stays-goes o base s (base + length s) (omega arith) (R.basic (length s)) base _ (omega arith) (stays-basic base (length s)) (g .is) in
       omega arith
 
-  pub begun : {b : Basic} {h : Head} → Hundred o base s (Basiced.Holds b) → NextHead o base s 128 (Headed.At h) → Begun o base s b h
-  begun {b} {h} k l =
+  pub begun : (label : Label) {b : Basic} {h : Head} → Hundred o base s (Basiced.Holds b) → NextHead o label base s 128 (Headed.At h) → Begun o label base s b h
+  begun label {b} {h} k l =
       let g : Goes hundred (λ x e. (basicOf x ≡ b) × (e ≡ base + 128)) = hundred-goes k in
-      let v : Verdict R.Next = see o base s (base + 128) (R.next (16 + length s) (length s - 128)) in
+      let v : Verdict R.Next = see o base s (base + 128) (R.next label (16 + length s) (length s - 128)) in
       let n : Goes v (λ x e. (headroom x ≡ record { head = headOf h; room = length s - h .at }) × (e ≡ base + (h .at + 16))) = went headroom v (l .seen (16 + length s) (omega arith)) in
       let y : CountsBounded (g .value .channels) (g .value .frames) = yields o base s (R.basic (length s)) base _ (yields-basic o base s (length s) base) (g .is) in
       record {
@@ -118,19 +118,19 @@ module _ (o : Order) (base : ℕ) (s : List ℕ) where
 
     -- what is left of the walk before each part
     abbrev to350 : R.Basic → R.Next → R.Part (List R.Channel) → R.Part (List R.Item) → R.Part (List R.Item) → Walk R.Descriptions
-    to350 b n c p e = R.part (16 + length s) 350 (R.montage label (c .value)) (some []) (e .next) >>= λ m. give (record { basic = b; next = n; channels = c; patient = p; events = e; montage = m })
+    to350 b n c p e = R.part label (16 + length s) 350 (R.montage label (c .value)) (some []) (e .next) >>= λ m. give (record { basic = b; next = n; channels = c; patient = p; events = e; montage = m })
 
     abbrev to200 : R.Basic → R.Next → R.Part (List R.Channel) → R.Part (List R.Item) → Walk R.Descriptions
-    to200 b n c p = R.part (16 + length s) 200 (R.items (okOf Holder.Event)) (some []) (p .next) >>= to350 b n c p
+    to200 b n c p = R.eventTable label (16 + length s) (p .next) >>= to350 b n c p
 
     abbrev to130 : R.Basic → R.Next → R.Part (List R.Channel) → Walk R.Descriptions
-    to130 b n c = R.part (16 + length s) 130 (R.items (okOf Holder.Patient)) (R.heldPatient held) (c .next) >>= to200 b n c
+    to130 b n c = R.part label (16 + length s) 130 (R.items (okOf Holder.Patient)) (R.heldPatient held) (c .next) >>= to200 b n c
 
     abbrev to120 : R.Basic → R.Next → Walk R.Descriptions
     to120 b n =
-        R.part (16 + length s) (R.channelsGroup label (b .channels) .code) (R.channels (R.channelsGroup label (b .channels))) (R.heldChannels held) n >>= to130 b n
+        R.part label (16 + length s) (R.channelsGroup label (b .channels) .code) (R.channels (R.channelsGroup label (b .channels))) (R.heldChannels held) n >>= to130 b n
 
-    opened : whole ≡ see o base s base (R.basic (length s) >>= λ b. R.next (16 + length s) (length s - 128) >>= to120 b)
+    opened : whole ≡ see o base s base (R.basic (length s) >>= λ b. R.next label (16 + length s) (length s - 128) >>= to120 b)
     unfolding descriptions okOf
     opened =
         let x : 16 + length s - 16 ≡ length s = omega arith in
@@ -140,7 +140,7 @@ module _ (o : Order) (base : ℕ) (s : List ℕ) where
     basic-stop : {r : Refusal} → Hundred o base s (Basiced.Stop r) → whole ≡ halts r
     basic-stop k = opened ∙ bind-stops o base s _ _ _ (stopped basicOf hundred (at-start basicOf (stops _ _) k))
 
-    next-stop : {b : Basic} {r : Refusal} → Hundred o base s (Basiced.Holds b) → NextHead o base s 128 (Headed.Stop r) → whole ≡ halts r
+    next-stop : {b : Basic} {r : Refusal} → Hundred o base s (Basiced.Holds b) → NextHead o label base s 128 (Headed.Stop r) → whole ≡ halts r
     next-stop {b} k l =
         let g : Goes hundred (λ x e. (basicOf x ≡ b) × (e ≡ base + 128)) = hundred-goes k in
         opened ∙ bind-goes o base s _ _ _ (rw (g .kept .1) at (g .is)) ∙ bind-stops o base s _ _ _ (stopped headroom _ (l .seen (16 + length s) (omega arith)))
@@ -153,19 +153,19 @@ module _ (o : Order) (base : ℕ) (s : List ℕ) where
   pub stops-basic : {label : Label} {before : Before} {r : Refusal} → Hundred o base s (Basiced.Stop r) → DescriptionsOf o label base s before (DescriptionsJudged.Stop r)
   stops-basic {label} k = refused (λ file held is has. basic-stop label held k)
 
-  pub stops-next : {label : Label} {before : Before} {b : Basic} {r : Refusal} → Hundred o base s (Basiced.Holds b) → NextHead o base s 128 (Headed.Stop r) → DescriptionsOf o label base s before (DescriptionsJudged.Stop r)
+  pub stops-next : {label : Label} {before : Before} {b : Basic} {r : Refusal} → Hundred o base s (Basiced.Holds b) → NextHead o label base s 128 (Headed.Stop r) → DescriptionsOf o label base s before (DescriptionsJudged.Stop r)
   stops-next {label} k l = refused (λ file held is has. next-stop label held k l)
 
-  module _ (label : Label) {b : Basic} {h : Head} (g : Begun o base s b h) (before : Before) {x y : Held} (xs : x ≡ channelsIn before) (ys : y ≡ patientIn before) where
+  module _ (label : Label) {b : Basic} {h : Head} (g : Begun o label base s b h) (before : Before) {x y : Held} (xs : x ≡ channelsIn before) (ys : y ≡ patientIn before) where
     -- what the functions say of the 120 or 320, the 130, the 200 and the 350
     abbrev First : Parted → Type 0
     First a = ChannelsPart o label base s h (b .channels) x a
 
     abbrev Second : Part → Parted → Type 0
-    Second c a = ItemsPart o Holder.Patient base s (c .next) y a
+    Second c a = ItemsPart o label Holder.Patient base s (c .next) y a
 
     abbrev Third : Part → Parted → Type 0
-    Third p a = ItemsPart o Holder.Event base s (p .next) (Held.At 0) a
+    Third p a = EventsPart o label base s (p .next) a
 
     abbrev Fourth : Part → Part → Parted → Type 0
     Fourth c e a = MontagePart o label base s (e .next) (pick (c .own) (b .channels) (countIn before)) a
@@ -191,7 +191,7 @@ module _ (o : Order) (base : ℕ) (s : List ℕ) where
     module _ (file : List ℕ) (held : Option R.Held) (has : HeldAs o file before held) where
       -- the part at the head h, and the walk up to it
       abbrev seen₁ : Verdict (R.Part (List R.Channel))
-      seen₁ = see o base s (base + (h .at + 16)) (R.part (16 + length s) (R.channelsGroup label (g .basic .channels) .code) (R.channels (R.channelsGroup label (g .basic .channels))) (R.heldChannels held) (g .next))
+      seen₁ = see o base s (base + (h .at + 16)) (R.part label (16 + length s) (R.channelsGroup label (g .basic .channels) .code) (R.channels (R.channelsGroup label (g .basic .channels))) (R.heldChannels held) (g .next))
 
       judged₁ : (a : Parted) → First a → parted (Owned o s (h .at) (b .channels)) (R.heldChannels held) base (length s) h x a seen₁
       judged₁ a k = rw counted (k .told (R.heldChannels held) (g .next) (16 + length s) (record { holds = rw xs (held-is o file before held has .0); head = g .head; room = g .room; enough = omega arith }))
@@ -208,7 +208,7 @@ module _ (o : Order) (base : ℕ) (s : List ℕ) where
 
         -- so of the 130
         abbrev seen₂ : Verdict (R.Part (List R.Item))
-        seen₂ = see o base s (base + (c .next .at + 16)) (R.part (16 + length s) 130 (R.items (okOf Holder.Patient)) (R.heldPatient held) (first .value .next))
+        seen₂ = see o base s (base + (c .next .at + 16)) (R.part label (16 + length s) 130 (R.items (okOf Holder.Patient)) (R.heldPatient held) (first .value .next))
 
         judged₂ : (a : Parted) → Second c a → parted (λ _. Unit {0}) (R.heldPatient held) base (length s) (c .next) y a seen₂
         judged₂ a k = k .told (R.heldPatient held) (first .value .next) (16 + length s) (record { holds = rw ys (held-is o file before held has .1); head = first .kept .head; room = first .kept .room; enough = omega arith })
@@ -225,10 +225,10 @@ module _ (o : Order) (base : ℕ) (s : List ℕ) where
 
           -- and of the 200
           abbrev seen₃ : Verdict (R.Part (List R.Item))
-          seen₃ = see o base s (base + (p .next .at + 16)) (R.part (16 + length s) 200 (R.items (okOf Holder.Event)) (some []) (second .value .next))
+          seen₃ = see o base s (base + (p .next .at + 16)) (R.eventTable label (16 + length s) (second .value .next))
 
           judged₃ : (a : Parted) → Third p a → parted (λ _. Unit {0}) (some []) base (length s) (p .next) (Held.At 0) a seen₃
-          judged₃ a k = k .told (some []) (second .value .next) (16 + length s) (record { holds = tt; head = second .kept .head; room = second .kept .room; enough = omega arith })
+          judged₃ a k = k .told (second .value .next) (16 + length s) (record { holds = tt; head = second .kept .head; room = second .kept .room; enough = omega arith })
 
           reached₃ : whole label held ≡ see o base s (base + (p .next .at + 16)) (to200 label held (g .basic) (g .next) (first .value) (second .value))
           reached₃ = reached₂ ∙ bind-goes o base s _ _ _ (rw (second .kept .end) at (second .is))
@@ -249,7 +249,7 @@ module _ (o : Order) (base : ℕ) (s : List ℕ) where
 
             -- and of the 350
             abbrev seen₄ : Verdict (R.Part (List R.Channel))
-            seen₄ = see o base s (base + (e .next .at + 16)) (R.part (16 + length s) 350 (R.montage label (first .value .value)) (some []) (third .value .next))
+            seen₄ = see o base s (base + (e .next .at + 16)) (R.part label (16 + length s) 350 (R.montage label (first .value .value)) (some []) (third .value .next))
 
             judged₄ : (a : Parted) → Fourth c e a → parted (λ _. Unit {0}) (some []) base (length s) (e .next) (Held.At 0) a seen₄
             judged₄ a k = k .told (first .value .value) (stood .count) (some []) (third .value .next) (16 + length s) (record { holds = tt; head = third .kept .head; room = third .kept .room; enough = omega arith })

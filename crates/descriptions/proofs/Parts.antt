@@ -1,7 +1,7 @@
 -- A part of a recording that may be absent: what the walk comes to, from what the code finds. Shown once, over the code, the body and what is held.
 -- Assumes nothing.
 use mathlib.Core.Path.{_≡_, refl, sym, ap, _∙_}
-use mathlib.Core.Bool.{true, false}
+use mathlib.Core.Bool.{Bool, true, false, _||_}
 use mathlib.Core.List.{List, []}
 use mathlib.Core.Option.{Option, none, some}
 use Prim.Native.Nat.{ℕ, _+_, _-_, _≤_}
@@ -9,17 +9,19 @@ use native.Mathlib.Omega.{arith}
 use lib.Dec.{eqb}
 use lib.ListN.{length}
 use Rattle.words.specs.declared.Order.{Order}
-use Rattle.walk.specs.Walk.{Walk, give, refuse, _>>=_}
-use Rattle.walk.specs.See.{Verdict, stops, goes, see, Goes, over, ends}
+use Rattle.walk.specs.Walk.{Walk, give, refuse, _>>=_, _>>_}
+use Rattle.walk.specs.See.{Verdict, stops, goes, gate, see, Goes, over, ends}
 use Rattle.walk.proofs.Apart.{zero-one, stops-goes}
 use Rattle.walk.proofs.Seen.{see-bind, see-give, see-refuse, went, stopped, stays-goes}
 use Rattle.rules.specs.Rules as R
 use Rattle.rules.specs.Rules.{part}
 use Rattle.rules.specs.declared.Head.{Head}
+use Rattle.rules.specs.declared.Label.{Label}
 use Rattle.rules.specs.declared.Refusal.{Refusal}
 use Rattle.rules.proofs.Room.{Rests}
-use Rattle.records.specs.Says.{halts, headOf, headroom, Headroom}
-use Rattle.descriptions.specs.DescriptionsJudged.{lacking, Follows, There, Stood, Meets, Judges, Behind}
+use Rattle.records.specs.Says.{halts, headOf, headroom, Headroom, okOf}
+use Rattle.records.specs.declared.items.Holder.the-variants as Holder
+use Rattle.descriptions.specs.DescriptionsJudged.{lacking, Follows, There, Stood, Meets, Judges, Behind, ItemsPart, EventsPart}
 use Rattle.descriptions.specs.declared.Held.{Held}
 use Rattle.descriptions.specs.declared.Held.the-variants as Held
 use Rattle.descriptions.specs.declared.Parted.{Parted}
@@ -43,25 +45,25 @@ module _ {A B : Type 0} (o : Order) (b : ℕ) (s : List ℕ) (at : ℕ) (w : Wal
   pub bind-goes : {a : A} {e : ℕ} → see o b s at w ≡ goes a e → see o b s at (w >>= k) ≡ see o b s e (k a)
   bind-goes h = rw (see-bind o b s at w k, h)
 
-module _ {A : Type 0} (fuel code : ℕ) (body : ℕ → R.Head → Walk A) (n : R.Next) where
+module _ (label : Label) {A : Type 0} (fuel code : ℕ) (body : ℕ → R.Head → Walk A) (n : R.Next) where
   -- the three forms of a part
-  part-own : (held : Option A) → eqb (n .head .code) code ≡ true → part fuel code body held n ≡ (body (n .room) (n .head) >>= λ a. R.next fuel (n .room - R.span (n .head)) >>= λ m. give (record { own = true; value = a; next = m }))
+  part-own : (held : Option A) → eqb (n .head .code) code ≡ true → part label fuel code body held n ≡ (body (n .room) (n .head) >>= λ a. R.next label fuel (n .room - R.span (n .head)) >>= λ m. give (record { own = true; value = a; next = m }))
   unfolding part
   part-own held e = rw (part, e)
 
-  part-held : (a : A) → eqb (n .head .code) code ≡ false → part fuel code body (some a) n ≡ give (record { own = false; value = a; next = record { makers = []; head = n .head; room = n .room } })
+  part-held : (a : A) → eqb (n .head .code) code ≡ false → part label fuel code body (some a) n ≡ give (record { own = false; value = a; next = record { makers = []; head = n .head; room = n .room } })
   unfolding part
   part-held a e = rw (part, e)
 
-  part-none : eqb (n .head .code) code ≡ false → part fuel code body none n ≡ refuse 9 12
+  part-none : eqb (n .head .code) code ≡ false → part label fuel code body none n ≡ refuse 9 12
   unfolding part
   part-none e = rw (part, e)
 
-module _ {A : Type 0} (o : Order) (base : ℕ) (s : List ℕ) (code : ℕ) (body : ℕ → R.Head → Walk A) (K : A → Type 0) (h : Head) where
-  pub judges-absent : (held : Held) → eqb (h .code) code ≡ false → Judges o base s code body K h held (lacking base h held)
+module _ {A : Type 0} (o : Order) (label : Label) (base : ℕ) (s : List ℕ) (code : ℕ) (body : ℕ → R.Head → Walk A) (K : A → Type 0) (h : Head) where
+  pub judges-absent : (held : Held) → eqb (h .code) code ≡ false → Judges o label base s code body K h held (lacking base h held)
   judges-absent Held.Nothing e none n fuel m =
       let c : eqb (n .head .code) code ≡ false = rw (m .head) e in
-      rw (part-none fuel code body n c, see-refuse) (ap (λ (x : ℕ). stops 9 x) (omega arith))
+      rw (part-none label fuel code body n c, see-refuse) (ap (λ (x : ℕ). stops 9 x) (omega arith))
   judges-absent Held.Nothing e (some a) n fuel m = absurd (m .holds)
   judges-absent (Held.At p) e none n fuel m = absurd (m .holds)
   judges-absent (Held.At p) e (some a) n fuel m =
@@ -69,7 +71,7 @@ module _ {A : Type 0} (o : Order) (base : ℕ) (s : List ℕ) (code : ℕ) (body
       record {
         value = record { own = false; value = a; next = record { makers = []; head = n .head; room = n .room } };
         end = base + (h .at + 16);
-        is = rw (part-held fuel code body n a c, see-give);
+        is = rw (part-held label fuel code body n a c, see-give);
         kept = record { own = refl; place = refl; value = refl; head = m .head; room = m .room; end = refl };
       }
 
@@ -78,10 +80,10 @@ module _ {A : Type 0} (o : Order) (base : ℕ) (s : List ℕ) (code : ℕ) (body
     abbrev rest : Verdict A
     rest = see o base s (base + (h .at + 16)) (body (length s - h .at) (headOf h))
 
-    pub judges-stop : (r : Refusal) → ends rest ≡ halts r → Judges o base s code body K h held (Parted.Stop r)
+    pub judges-stop : (r : Refusal) → ends rest ≡ halts r → Judges o label base s code body K h held (Parted.Stop r)
     judges-stop x k hv n fuel m =
         let c : eqb (n .head .code) code ≡ true = rw (m .head) same in
-        rw (part-own fuel code body n hv c, m .head, m .room) (bind-stops o base s _ _ _ (stopped (λ _. tt) rest k))
+        rw (part-own label fuel code body n hv c, m .head, m .room) (bind-stops o base s _ _ _ (stopped (λ _. tt) rest k))
 
     module _ (rests : Rests body) (q : ℕ) (fits : h .at + 16 ≤ length s) (inside : q ≤ length s) (k : ends rest ≡ goes tt (base + q)) (keeps : (x : A) → rest ≡ goes x (base + q) → K x) where
       went-on : Goes rest (λ _ e. e ≡ base + q)
@@ -96,16 +98,16 @@ module _ {A : Type 0} (o : Order) (base : ℕ) (s : List ℕ) (code : ℕ) (body
           omega arith
 
       -- what follows the record
-      follows : {n : R.Next} {fuel : ℕ} {hv : Option A} → Meets s h held hv n fuel → see o base s (base + (h .at + 16)) (part fuel code body hv n) ≡ see o base s (base + q) (R.next fuel (length s - q) >>= λ m. give (record { own = true; value = went-on .value; next = m }))
+      follows : {n : R.Next} {fuel : ℕ} {hv : Option A} → Meets s h held hv n fuel → see o base s (base + (h .at + 16)) (part label fuel code body hv n) ≡ see o base s (base + q) (R.next label fuel (length s - q) >>= λ m. give (record { own = true; value = went-on .value; next = m }))
       follows {n} {fuel} {hv} m =
           let c : eqb (n .head .code) code ≡ true = rw (m .head) same in
-          rw (part-own fuel code body n hv c, m .head, m .room, ← left) (bind-goes o base s _ _ _ goes-on)
+          rw (part-own label fuel code body n hv c, m .head, m .room, ← left) (bind-goes o base s _ _ _ goes-on)
 
-      pub judges-behind : (a : Parted) → Behind o base s (h .at) q a → Judges o base s code body K h held a
+      pub judges-behind : (a : Parted) → Behind o label base s (h .at) q a → Judges o label base s code body K h held a
       judges-behind (Parted.Stop x) b hv n fuel m =
-          follows m ∙ bind-stops o base s _ _ _ (stopped headroom (see o base s (base + q) (R.next fuel (length s - q))) (b .seen fuel (omega (arith, m .enough))))
+          follows m ∙ bind-stops o base s _ _ _ (stopped headroom (see o base s (base + q) (R.next label fuel (length s - q))) (b .seen fuel (omega (arith, m .enough))))
       judges-behind (Parted.On t) b hv n fuel m =
-          let v : Verdict R.Next = see o base s (base + q) (R.next fuel (length s - q)) in
+          let v : Verdict R.Next = see o base s (base + q) (R.next label fuel (length s - q)) in
           let g : Goes v (λ x e. (headroom x ≡ record { head = headOf (t .next); room = length s - t .next .at }) × (e ≡ base + (t .next .at + 16))) = went headroom v (b .seen fuel (omega (arith, m .enough))) in
           let st : There (base + h .at) q (length s) t = b .stands in
           record {
@@ -121,6 +123,21 @@ module _ {A : Type 0} (o : Order) (base : ℕ) (s : List ℕ) (code : ℕ) (body
               end = g .kept .1;
             };
           }
+
+-- an event table: the part, or the refusal of what stands in its place
+module _ (o : Order) (label : Label) (base : ℕ) (s : List ℕ) (h : Head) where
+  -- the test of what stands there, from the head that the code found
+  there : {n : R.Next} {fuel : ℕ} (c : Bool) → R.allowed label .eventless || eqb (h .code) 200 ≡ c → Meets {A = List R.Item} s h (Held.At 0) (some []) n fuel →
+      R.allowed label .eventless || eqb (n .head .code) 200 ≡ c
+  there c e m = rw (m .head) e
+
+  pub table-stops : R.allowed label .eventless || eqb (h .code) 200 ≡ false → EventsPart o label base s h (Parted.Stop (record { 0 = 9; 1 = base + h .at + 4 }))
+  unfolding R.eventTable see gate _>>=_ _>>_
+  table-stops e = record { told = λ n fuel m. rw (there false e m) (ap (λ (x : ℕ). stops 9 x) (omega arith)); follows = tt }
+
+  pub table-part : R.allowed label .eventless || eqb (h .code) 200 ≡ true → (a : Parted) → ItemsPart o label Holder.Event base s h (Held.At 0) a → EventsPart o label base s h a
+  unfolding R.eventTable okOf see gate _>>=_ _>>_
+  table-part e a k = record { told = λ n fuel m. rw (there true e m) (k .told (some []) n fuel m); follows = k .follows }
 
 -- where the next head stands, in a part that is absent and in one that is there
 pub follows-lacking : (base n : ℕ) (h : Head) (held : Held) → h .at + 16 ≤ n → Follows (h .at) n (lacking base h held)

@@ -71,7 +71,7 @@ record Ends (o : Order) (b : ℕ) (s : List ℕ) (p m : ℕ) (cs : List R.Channe
 -- the code's group for a label is the rules'
 pub group-is : (label : Label) (n : ℕ) → groupOf (groupFor label n) ≡ channelsGroup label n
 unfolding groupFor channelsGroup
-group-is label n = by-form (λ l. groupOf (groupFor l n) ≡ channelsGroup l n) refl refl label
+group-is label n = by-form (λ l. groupOf (groupFor l n) ≡ channelsGroup l n) label refl refl
 
 -- a 350: in form 00 it is refused at its code, in form 01 its channels are read
 pub montage-none : (o : Order) (base : ℕ) (s : List ℕ) (label : Label) → label .form ≡ Form.Channels → (cs : List R.Channel) (h : Head) →
@@ -86,7 +86,7 @@ montage-some label f cs room h = rw (R.montage, f)
 -- it has as many channels as record 100 says, in either form
 counts-label : (label : Label) (n m : ℕ) → channelsGroup label n .counts m ≡ true → m ≡ n
 unfolding channelsGroup
-counts-label label n m = by-form (λ l. channelsGroup l n .counts m ≡ true → m ≡ n) (eqb-true m n) (eqb-true m n) label
+counts-label label n m = by-form (λ l. channelsGroup l n .counts m ≡ true → m ≡ n) label (eqb-true m n) (eqb-true m n)
 
 yields-rest : (o : Order) (b : ℕ) (s : List ℕ) (label : Label) (n room : ℕ) (h : R.Head) (p : ℕ) → Yields o b s (b + (p + 16)) (channels (channelsGroup label n) room h) (Ends o b s p n)
 unfolding channels channelsBody admit _>>=_ _>>_

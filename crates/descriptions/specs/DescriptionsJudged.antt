@@ -2,7 +2,7 @@
 -- Assumes nothing.
 use mathlib.Core.Path.{_≡_}
 use mathlib.Core.Bool.{Bool, true, false}
-use mathlib.Core.List.{List}
+use mathlib.Core.List.{List, []}
 use mathlib.Core.Option.{Option, none, some}
 use Prim.Native.Nat.{ℕ, _+_, _-_, _≤_, _<_}
 use lib.ListN.{length, take, drop}
@@ -49,7 +49,7 @@ refusalDescriptions (DescriptionsJudged.Stop r) = r
 
 -- the 120 or 320 of a file with this label, of so many channels
 unfoldable pub groupFor : Label → ℕ → Group
-groupFor l n = elim (l .form) [ Form.Channels ↦ Group.Channels n | Form.Electrodes ↦ Group.Electrodes n ]
+groupFor l n = elim (l .form) [ Form.Channels ↦ Group.Channels (l .version) n | Form.Electrodes ↦ Group.Electrodes (l .version) n ]
 
 -- what the recording before leaves to hold: its 120 or 320, its 130, and how many channels
 abbrev pub channelsIn : Before → Held
@@ -154,9 +154,9 @@ pub record Meets {A : Type 0} (s : List ℕ) (h : Head) (held : Held) (hv : Opti
   pub enough : length s < fuel
 
 -- a part with this code and body, whatever holds in its place
-abbrev pub Judges : {A : Type 0} → Order → ℕ → List ℕ → ℕ → (ℕ → R.Head → Walk A) → (A → Type 0) → Head → Held → Parted → Type 0
-Judges o base s code body K h held a = (hv : Option _) (n : R.Next) (fuel : ℕ) → Meets s h held hv n fuel →
-    parted K hv base (length s) h held a (see o base s (base + (h .at + 16)) (R.part fuel code body hv n))
+abbrev pub Judges : {A : Type 0} → Order → Label → ℕ → List ℕ → ℕ → (ℕ → R.Head → Walk A) → (A → Type 0) → Head → Held → Parted → Type 0
+Judges o label base s code body K h held a = (hv : Option _) (n : R.Next) (fuel : ℕ) → Meets s h held hv n fuel →
+    parted K hv base (length s) h held a (see o base s (base + (h .at + 16)) (R.part label fuel code body hv n))
 
 -- the place of the record with so much room from its start on, in a recording whose body of n bytes stands at `base`
 abbrev pub placeOf : ℕ → ℕ → ℕ → ℕ
@@ -206,23 +206,29 @@ pub record BodyAt (base : ℕ) (s : List ℕ) : Type 0 where
 -- and what they promise. `seen`, `told`: the answer is what the rules' walk comes to; `stands`, `follows`, `bounds`: where it lies, whatever the walk holds
 
 -- the head behind the record from byte `at` up to `end`
-pub record Behind (o : Order) (base : ℕ) (s : List ℕ) (at end : ℕ) (a : Parted) : Type 0 where
-  pub seen : (fuel : ℕ) → length s < end + fuel → over headroom (see o base s (base + end) (R.next fuel (length s - end))) ≡ followed base (length s) a
+pub record Behind (o : Order) (label : Label) (base : ℕ) (s : List ℕ) (at end : ℕ) (a : Parted) : Type 0 where
+  pub seen : (fuel : ℕ) → length s < end + fuel → over headroom (see o base s (base + end) (R.next label fuel (length s - end))) ≡ followed base (length s) a
   pub stands : Stood (base + at) end (length s) a
 
 -- the 120 or 320, or what holds in its place
 pub record ChannelsPart (o : Order) (label : Label) (base : ℕ) (s : List ℕ) (h : Head) (channels : ℕ) (held : Held) (a : Parted) : Type 0 where
-  pub told : Judges o base s (R.channelsGroup label channels .code) (R.channels (R.channelsGroup label channels)) (Owned o s (h .at) channels) h held a
+  pub told : Judges o label base s (R.channelsGroup label channels .code) (R.channels (R.channelsGroup label channels)) (Owned o s (h .at) channels) h held a
   pub follows : Follows (h .at) (length s) a
 
 -- the 350, if there is one: over so many electrodes
 pub record MontagePart (o : Order) (label : Label) (base : ℕ) (s : List ℕ) (h : Head) (electrodes : ℕ) (a : Parted) : Type 0 where
-  pub told : (cs : List R.Channel) → length cs ≡ electrodes → Judges o base s 350 (R.montage label cs) (λ _. Unit {0}) h (Held.At 0) a
+  pub told : (cs : List R.Channel) → length cs ≡ electrodes → Judges o label base s 350 (R.montage label cs) (λ _. Unit {0}) h (Held.At 0) a
   pub follows : Follows (h .at) (length s) a
 
 -- the 130 or the 200, or what holds in its place
-pub record ItemsPart (o : Order) (k : Holder) (base : ℕ) (s : List ℕ) (h : Head) (held : Held) (a : Parted) : Type 0 where
-  pub told : Judges o base s (codeOf k) (R.items (okOf k)) (λ _. Unit {0}) h held a
+pub record ItemsPart (o : Order) (label : Label) (k : Holder) (base : ℕ) (s : List ℕ) (h : Head) (held : Held) (a : Parted) : Type 0 where
+  pub told : Judges o label base s (codeOf k) (R.items (okOf k)) (λ _. Unit {0}) h held a
+  pub follows : Follows (h .at) (length s) a
+
+-- the 200, or none; where the version does not allow a recording without one, another record in its place is refused
+pub record EventsPart (o : Order) (label : Label) (base : ℕ) (s : List ℕ) (h : Head) (a : Parted) : Type 0 where
+  pub told : (n : R.Next) (fuel : ℕ) → Meets {A = List R.Item} s h (Held.At 0) (some []) n fuel →
+      parted {A = List R.Item} (λ _. Unit {0}) (some []) base (length s) h (Held.At 0) a (see o base s (base + (h .at + 16)) (R.eventTable label fuel n))
   pub follows : Follows (h .at) (length s) a
 
 -- the descriptions of the recording whose body is s, for any file that it stands in, where the code and the walk hold the same of the recording before

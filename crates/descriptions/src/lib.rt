@@ -1,12 +1,15 @@
 // The descriptions of a recording: record 100, and 120 or 320, 130, 200 and 350, each of which may be absent.
 ghost use mathlib.Core.Path.{_≡_};
+ghost use mathlib.Core.Bool.{_||_};
+ghost use lib.Dec.{eqb};
 ghost use Prim.Native.Nat.{_+_, _<_};
 ghost use Rattle.words.specs.Sizes.{Addressable};
 ghost use Rattle.walk.specs.Walk.{pick};
+ghost use Rattle.rules.specs.Rules as R;
 ghost use Rattle.records.specs.Asks.{HeadIn, BytesIn};
 ghost use Rattle.records.specs.Says.{subsAt};
 ghost use Rattle.descriptions.specs.DescriptionsJudged.{refusalBasic, refusalPart, refusalDescriptions, channelsIn, patientIn, countIn, kindOf, lacking};
-ghost use Rattle.descriptions.specs.DescriptionsJudged.{groupFor, BodyAt, Behind, ChannelsPart, MontagePart, ItemsPart, DescriptionsOf};
+ghost use Rattle.descriptions.specs.DescriptionsJudged.{groupFor, BodyAt, Behind, ChannelsPart, MontagePart, ItemsPart, EventsPart, DescriptionsOf};
 use records::Headed;
 use records::Step;
 use records::basic::Basiced;
@@ -24,6 +27,7 @@ use rules::Label;
 use rules::Montage;
 use rules::Patient;
 use rules::Refusal;
+use versions::allows;
 use words::Order;
 
 // Where a recording stands, and the records that hold for it.
@@ -175,11 +179,11 @@ fn absent(base: usize, h: Head, held: Held) -> Parted
 }
 
 // A part that stands at byte `at` and stops at byte `end`: the head of the next record.
-fn behind(o: Order, s: &[u8], base: usize, at: usize, end: usize) -> Parted
+fn behind(o: Order, label: Label, s: &[u8], base: usize, at: usize, end: usize) -> Parted
     requires { ⌜ BytesIn base (now s) at end ⌝ }
-    ensures { λ a. ⌜ Behind o base (now (s .entry)) at end a ⌝ }
+    ensures { λ a. ⌜ Behind o label base (now (s .entry)) at end a ⌝ }
 {
-    let found = records::makers::next_head(o, s, base, end);
+    let found = records::makers::next_head(o, label, s, base, end);
     let Headed::At(next) = found else {
         return Parted::Stop(records::of_head(found));
     };
@@ -194,10 +198,11 @@ fn behind(o: Order, s: &[u8], base: usize, at: usize, end: usize) -> Parted
 fn group_for(label: Label, channels: u32) -> Group
     ensures { λ r. ⌜ r ≡ groupFor label channels ⌝ }
 {
+    let version = label.version;
     let form = label.form;
     match form {
-        Form::Channels => Group::Channels(channels),
-        Form::Electrodes => Group::Electrodes(channels),
+        Form::Channels => Group::Channels(version, channels),
+        Form::Electrodes => Group::Electrodes(version, channels),
     }
 }
 
@@ -221,12 +226,20 @@ fn channels_part(
     let Step::On(end) = step else {
         return Parted::Stop(records::of_step(step));
     };
-    behind(o, s, base, h.at, end)
+    behind(o, label, s, base, h.at, end)
 }
 
-fn items_part(o: Order, k: Holder, s: &[u8], base: usize, h: Head, held: Held) -> Parted
+fn items_part(
+    o: Order,
+    label: Label,
+    k: Holder,
+    s: &[u8],
+    base: usize,
+    h: Head,
+    held: Held,
+) -> Parted
     requires { ⌜ HeadIn base (now s) h ⌝ }
-    ensures { λ a. ⌜ ItemsPart o k base (now (s .entry)) h held a ⌝ }
+    ensures { λ a. ⌜ ItemsPart o label k base (now (s .entry)) h held a ⌝ }
 {
     if !has_code(kind_of(k), h.code) {
         return absent(base, h, held);
@@ -235,7 +248,30 @@ fn items_part(o: Order, k: Holder, s: &[u8], base: usize, h: Head, held: Held) -
     let Step::On(end) = step else {
         return Parted::Stop(records::of_step(step));
     };
-    behind(o, s, base, h.at, end)
+    behind(o, label, s, base, h.at, end)
+}
+
+// A record with this code may stand where the 200 should.
+fn table_ok(label: Label, code: u32) -> bool
+    ensures { λ r. ⌜ r ≡ (R.allowed label .eventless || eqb code 200) ⌝ }
+{
+    if code == Events::CODE {
+        return true;
+    }
+    let version = label.version;
+    let allowed = allows(version);
+    allowed.eventless
+}
+
+// The record 200: where the version does not allow a recording without one, another record in its place is refused.
+fn events_part(o: Order, label: Label, s: &[u8], base: usize, h: Head) -> Parted
+    requires { ⌜ HeadIn base (now s) h ⌝ }
+    ensures { λ a. ⌜ EventsPart o label base (now (s .entry)) h a ⌝ }
+{
+    if !table_ok(label, h.code) {
+        return Parted::Stop(Refusal(9, base + h.at + Head::CODE));
+    }
+    items_part(o, label, Holder::Event, s, base, h, Held::At(0))
 }
 
 // The record 350, over so many electrodes: there is none in form 00.
@@ -254,7 +290,7 @@ fn montage_part(o: Order, label: Label, s: &[u8], base: usize, h: Head, electrod
     let Step::On(end) = step else {
         return Parted::Stop(records::of_step(step));
     };
-    behind(o, s, base, h.at, end)
+    behind(o, label, s, base, h.at, end)
 }
 
 // Judges the descriptions of the recording whose body is s, which stands at `base` in the file.
@@ -272,7 +308,7 @@ pub fn judge_descriptions(
     let Basiced::Holds(basic) = first else {
         return DescriptionsJudged::Stop(of_basic(first));
     };
-    let found = records::makers::next_head(o, s, base, Basic::LENGTH);
+    let found = records::makers::next_head(o, label, s, base, Basic::LENGTH);
     let Headed::At(h) = found else {
         return DescriptionsJudged::Stop(records::of_head(found));
     };
@@ -280,11 +316,19 @@ pub fn judge_descriptions(
     let Parted::On(c) = cs else {
         return DescriptionsJudged::Stop(of_part(cs));
     };
-    let ps = items_part(o, Holder::Patient, s, base, c.next, held_patient(before));
+    let ps = items_part(
+        o,
+        label,
+        Holder::Patient,
+        s,
+        base,
+        c.next,
+        held_patient(before),
+    );
     let Parted::On(p) = ps else {
         return DescriptionsJudged::Stop(of_part(ps));
     };
-    let es = items_part(o, Holder::Event, s, base, p.next, Held::At(0));
+    let es = events_part(o, label, s, base, p.next);
     let Parted::On(e) = es else {
         return DescriptionsJudged::Stop(of_part(es));
     };

@@ -1,7 +1,7 @@
 -- What the walk of the file header comes to, and what its texts say, byte by byte.
 -- Assumes nothing.
 use mathlib.Core.Path.{_≡_, refl, ap, _∙_}
-use mathlib.Core.Bool.{Bool, true, false}
+use mathlib.Core.Bool.{Bool, true, false, _&&_}
 use mathlib.Core.List.{List, [], _∷_, map}
 use mathlib.Core.Option.{Option, none, some}
 use Prim.Native.Nat.{ℕ, zero, suc, _+_, _*_, _-_, _^_, _≤_, _<_}
@@ -19,21 +19,35 @@ use Rattle.walk.specs.See.{Verdict, gate, see, stops, goes}
 use Rattle.walk.specs.Walk.{pick, swap, laid, Letter, _>>=_, _>>_}
 use Rattle.walk.proofs.Apart.{zero-one}
 use Rattle.walk.proofs.Laid.{laid-text}
-use Rattle.rules.specs.Rules.{between, sameBytes, oneOf, isSpelling, spellingOf, version, isForm, formOf, allSpaces, isDigit, decimal, countOf, countFits, countIs, isScript, FileHeader, fileHeader, orderOf}
+use Rattle.rules.specs.Rules.{between, sameBytes, oneOf, isSpelling, spellingOf, isVersion, versionOf, isForm, formOf, allSpaces, isDigit, decimal, countOf, countFits, countIs, isScript, FileHeader, fileHeader, orderOf}
 use Rattle.header.specs.Letters.{lettered}
 use Rattle.header.specs.Opened.{names}
 use Rattle.header.specs.declared.Lettered.{Lettered}
 use Rattle.header.specs.declared.Lettered.the-variants as Lettered
 
--- which of two things bytes name, by the answer of the comparison with the text of the first
-module _ {A : Type 0} (text : A → List ℕ) (a b : A) (bs : List ℕ) (x : Bool) (is : x ≡ sameBytes bs (text a)) where
-  pub names-first : x ≡ true → a ≡ oneOf text a b bs
+-- which of several things bytes name, by the answer of the comparison with the text of the first
+module _ {A : Type 0} (text : A → List ℕ) (a b : A) (others : List A) (bs : List ℕ) (x : Bool) (is : x ≡ sameBytes bs (text a)) where
+  pub names-first : x ≡ true → a ≡ oneOf text a (b ∷ others) bs
   unfolding oneOf
   names-first e = simp (← is, e)
 
-  pub names-second : x ≡ false → b ≡ oneOf text a b bs
+  pub names-other : x ≡ false → {c : A} → c ≡ oneOf text b others bs → c ≡ oneOf text a (b ∷ others) bs
   unfolding oneOf
-  names-second e = simp (← is, e)
+  names-other e f = simp (← is, e) f
+
+-- where there is no other
+pub names-last : {A : Type 0} (text : A → List ℕ) (a : A) (bs : List ℕ) → a ≡ oneOf text a [] bs
+unfolding oneOf
+names-last text a bs = refl
+
+-- where something is allowed, what is and what is not
+pub and-none : (e : Bool) → e && false ≡ false
+and-none true = refl
+and-none false = refl
+
+pub and-all : (e : Bool) → e && true ≡ e
+and-all true = refl
+and-all false = refl
 
 -- spaces, one more and none
 module _ (s : List ℕ) (i : ℕ) where
@@ -135,7 +149,7 @@ module _ (s : List ℕ) where
   walk = see (orderOf s) 0 s 0 (fileHeader (length s))
 
   abbrev pub holds : Verdict FileHeader
-  holds = goes (record { heading = record { spelling = spellingOf (bytesAt 8 s 0); label = record { form = formOf (bytesAt 2 s 14) }; script = getD s 17 0 }; count = countIs (countOf (bytesAt 4 s 18)) }) 32
+  holds = goes (record { heading = record { spelling = spellingOf (bytesAt 8 s 0); label = record { version = versionOf (bytesAt 6 s 8); form = formOf (bytesAt 2 s 14) }; script = getD s 17 0 }; count = countIs (countOf (bytesAt 4 s 18)) }) 32
 
   abbrev pub fromSpaces : Verdict FileHeader
   fromSpaces = gate (allSpaces (bytesAt 10 s 22)) holds 8 22
@@ -144,16 +158,16 @@ module _ (s : List ℕ) where
   fromCount = gate (between 1 64 (countIs (countOf (bytesAt 4 s 18)))) fromSpaces 7 18
 
   abbrev pub fromScript : Verdict FileHeader
-  fromScript = gate (isScript (getD s 17 0)) fromCount 6 17
+  fromScript = gate (isScript (versionOf (bytesAt 6 s 8)) (getD s 17 0)) fromCount 6 17
 
   abbrev pub fromLetter : Verdict FileHeader
   fromLetter = gate (names (lettered (getD s 16 0))) fromScript 5 16
 
   abbrev pub fromForm : Verdict FileHeader
-  fromForm = gate (isForm (bytesAt 2 s 14)) fromLetter 4 14
+  fromForm = gate (isForm (versionOf (bytesAt 6 s 8)) (bytesAt 2 s 14)) fromLetter 4 14
 
   abbrev pub fromVersion : Verdict FileHeader
-  fromVersion = gate (sameBytes (bytesAt 6 s 8) version) fromForm 3 8
+  fromVersion = gate (isVersion (bytesAt 6 s 8)) fromForm 3 8
 
   abbrev pub fromSpelling : Verdict FileHeader
   fromSpelling = gate (isSpelling (bytesAt 8 s 0)) fromVersion 2 0

@@ -14,6 +14,8 @@ use rules::Heading;
 use rules::Label;
 use rules::Refusal;
 use rules::Spelling;
+use rules::Version;
+use versions::allows;
 use words::Order;
 use words::byte;
 
@@ -69,8 +71,9 @@ fn spelling_of(name: &[u8]) -> Spelling
     Spelling::Psg
 }
 
-fn script_ok(letter: u32) -> bool
-    ensures { λ r. ⌜ r ≡ R.isScript letter ⌝ }
+// A script that the version allows.
+fn script_ok(v: Version, letter: u32) -> bool
+    ensures { λ r. ⌜ r ≡ R.isScript v letter ⌝ }
 {
     if letter == FileHeader::SCRIPT_S {
         return true;
@@ -81,7 +84,11 @@ fn script_ok(letter: u32) -> bool
     if letter == FileHeader::SCRIPT_E {
         return true;
     }
-    letter == FileHeader::SCRIPT_U
+    if letter != FileHeader::SCRIPT_U {
+        return false;
+    }
+    let allowed = allows(v);
+    allowed.unicode
 }
 
 // Only spaces from byte `from` on.
@@ -119,6 +126,46 @@ fn count_of(s: &[u8]) -> u32
     value
 }
 
+// Whether digits are a version's.
+fn is_version(digits: &[u8]) -> bool
+    ensures { λ r. ⌜ r ≡ R.isVersion (now (digits .entry)) ⌝ }
+{
+    if is_one_of(digits, b"000100", b"000110") {
+        return true;
+    }
+    is_one_of(digits, b"000200", b"000300")
+}
+
+// Which version digits name that are those of one of the four.
+fn version_of(digits: &[u8]) -> Version
+    ensures { λ r. ⌜ r ≡ R.versionOf (now (digits .entry)) ⌝ }
+{
+    if same(digits, b"000100") {
+        return Version::V100;
+    }
+    if same(digits, b"000110") {
+        return Version::V110;
+    }
+    if same(digits, b"000200") {
+        return Version::V200;
+    }
+    Version::V300
+}
+
+// Whether digits are those of a form that the version allows.
+fn form_ok(v: Version, digits: &[u8]) -> bool
+    ensures { λ r. ⌜ r ≡ R.isForm v (now (digits .entry)) ⌝ }
+{
+    if same(digits, b"00") {
+        return true;
+    }
+    if !same(digits, b"01") {
+        return false;
+    }
+    let allowed = allows(v);
+    allowed.electrodes
+}
+
 // Which form digits name that are those of one of the two.
 fn form_of(digits: &[u8]) -> Form
     ensures { λ r. ⌜ r ≡ R.formOf (now (digits .entry)) ⌝ }
@@ -140,11 +187,13 @@ pub fn file_header(s: &[u8]) -> Opened
     if !is_one_of(name, b"JSSR-SPG", b"JSSR-PSG") {
         return Opened::Stop(Refusal(2, FileHeader::IDENTIFIER));
     }
-    if !same(&s[FileHeader::VERSION..FileHeader::FORM], b"000300") {
+    let digits = &s[FileHeader::VERSION..FileHeader::FORM];
+    if !is_version(digits) {
         return Opened::Stop(Refusal(3, FileHeader::VERSION));
     }
-    let digits = &s[FileHeader::FORM..FileHeader::ORDER];
-    if !is_one_of(digits, b"00", b"01") {
+    let version = version_of(digits);
+    let form = &s[FileHeader::FORM..FileHeader::ORDER];
+    if !form_ok(version, form) {
         return Opened::Stop(Refusal(4, FileHeader::FORM));
     }
     let letter = order_of(byte(s, FileHeader::ORDER));
@@ -152,7 +201,7 @@ pub fn file_header(s: &[u8]) -> Opened
         return Opened::Stop(Refusal(5, FileHeader::ORDER));
     };
     let script = byte(s, FileHeader::SCRIPT);
-    if !script_ok(script) {
+    if !script_ok(version, script) {
         return Opened::Stop(Refusal(6, FileHeader::SCRIPT));
     }
     let count = count_of(&s[FileHeader::COUNT..FileHeader::SPACES]);
@@ -165,7 +214,8 @@ pub fn file_header(s: &[u8]) -> Opened
     let heading = Heading {
         spelling: spelling_of(name),
         label: Label {
-            form: form_of(digits),
+            version,
+            form: form_of(form),
         },
         script,
     };

@@ -30,6 +30,7 @@ use Rattle.rules.proofs.Room.{stays-recordingBody}
 use Rattle.records.specs.Says.{halts, headOf, subsAt, ChannelsIn, opened, OpenAt}
 use Rattle.records.specs.declared.kinds.Opened.the-variants as Opened
 use Rattle.records.proofs.Bodies.{body-opened}
+use Rattle.rules.proofs.Cases.{most-low}
 use Rattle.records.proofs.Opened.{require-went, admit-went, admit-passed}
 use Rattle.descriptions.specs.DescriptionsJudged.{HeldWithin, placeOf, channelsIn, patientIn, heldAt, Keeps, DescribedBounds, described, DescriptionsOf}
 use Rattle.descriptions.specs.declared.Before.{Before}
@@ -93,17 +94,17 @@ module _ (o : Order) (label : Label) (file : List ℕ) (at : ℕ) (s : List ℕ)
   abbrev body : Verdict R.Placed
   body = see o (at + 16) s (at + 16) (R.recordingBody label held h)
 
-  halves : body ≡ onward (see o (at + 16) s (at + 16) (R.descriptions label held (16 + length s))) (λ t e. see o (at + 16) s e (R.signals t h))
+  halves : body ≡ onward (see o (at + 16) s (at + 16) (R.descriptions label held (16 + length s))) (λ t e. see o (at + 16) s e (R.signals label t h))
   unfolding R.recordingBody
   halves =
-      see-bind o (at + 16) s (at + 16) (R.descriptions label held (R.span h)) (λ t. R.signals t h)
-      ∙ ap (λ (n : ℕ). onward (see o (at + 16) s (at + 16) (R.descriptions label held n)) (λ t e. see o (at + 16) s e (R.signals t h))) fills
+      see-bind o (at + 16) s (at + 16) (R.descriptions label held (R.span h)) (λ t. R.signals label t h)
+      ∙ ap (λ (n : ℕ). onward (see o (at + 16) s (at + 16) (R.descriptions label held n)) (λ t e. see o (at + 16) s e (R.signals label t h))) fills
 
   tables-stop : {r : Refusal} → described o label file (at + 16) held s before (DescriptionsJudged.Stop r) → body ≡ halts r
   tables-stop k = halves ∙ rw k
 
   module _ {t : Described} (kept : described o label file (at + 16) held s before (DescriptionsJudged.On t)) where
-    reached : body ≡ see o (at + 16) s (at + 16 + (t .next .at + 16)) (R.signals (kept .value) h)
+    reached : body ≡ see o (at + 16) s (at + 16 + (t .next .at + 16)) (R.signals label (kept .value) h)
     reached = halves ∙ rw (kept .is, kept .kept .end)
 
     -- the second half is whole, with a 140 of which the code keeps f
@@ -122,12 +123,12 @@ module _ (o : Order) (label : Label) (file : List ℕ) (at : ℕ) (s : List ℕ)
         multiplier = times;
       }
 
-      signals-stop : {r : Refusal} → SignalsOf o file cs (t .own) (t .basic) (t .next) (at + 16) s m (FramesJudged.Stop r) → body ≡ halts r
+      signals-stop : {r : Refusal} → SignalsOf o label file cs (t .own) (t .basic) (t .next) (at + 16) s m (FramesJudged.Stop r) → body ≡ halts r
       signals-stop k = reached ∙ k (kept .value) h known
 
-      body-holds : {f : Frames} (q : ℕ) → SignalsOf o file cs (t .own) (t .basic) (t .next) (at + 16) s m (FramesJudged.On f q) → t .next .at + 16 ≤ length s → Goes body (Places-of o file at before (placesFor at (length s) t (f .size) (f .seconds)))
+      body-holds : {f : Frames} (q : ℕ) → SignalsOf o label file cs (t .own) (t .basic) (t .next) (at + 16) s m (FramesJudged.On f q) → t .next .at + 16 ≤ length s → Goes body (Places-of o file at before (placesFor at (length s) t (f .size) (f .seconds)))
       body-holds {f} q k l =
-          let g : Goes (see o (at + 16) s (at + 16 + (t .next .at + 16)) (R.signals (kept .value) h)) (WholeAt (at + 16 + length s) (kept .value) h f) = k (kept .value) h known in
+          let g : Goes (see o (at + 16) s (at + 16 + (t .next .at + 16)) (R.signals label (kept .value) h)) (WholeAt (at + 16 + length s) (kept .value) h f) = k (kept .value) h known in
           placed f (reached ∙ g .is) (g .kept .ends) (g .kept .whole) l
 
     -- of a body that the walk accepted
@@ -139,7 +140,7 @@ module _ (o : Order) (label : Label) (file : List ℕ) (at : ℕ) (s : List ℕ)
       told =
           let i : at + 16 + (t .next .at + 16) - (at + 16) ≡ t .next .at + 16 = omega arith in
           let j : at + 16 + (t .next .at + 16) + 4 - (at + 16) ≡ t .next .at + 20 = omega arith in
-          rw (i, j) at (yields o (at + 16) s (R.signals (kept .value) h) (at + 16 + (t .next .at + 16)) _ (yields-signals o (at + 16) s (at + 16 + (t .next .at + 16)) (kept .value) h) (sym reached ∙ g))
+          rw (i, j) at (yields o (at + 16) s (R.signals label (kept .value) h) (at + 16 + (t .next .at + 16)) _ (yields-signals o label (at + 16) s (at + 16 + (t .next .at + 16)) (kept .value) h) (sym reached ∙ g))
 
       long : length s < t .next .at + 32 → ⊥
       long l = omega (arith, told .0, kept .kept .room)
@@ -176,10 +177,10 @@ module _ (o : Order) (label : Label) (file s : List ℕ) (at : ℕ) (before : Be
   stops-descriptions k = record { told = λ held h has fills times. tables-stop o label file at s before held h fills (k .told file held (i .part) has); continues = tt }
 
   module _ {m : ℕ} {t : Described} (k : DescriptionsOf o label (at + 16) s before (DescriptionsJudged.On t)) {cs : Channels} (c : cs ≡ subsAt (t .channels) (t .count)) where
-    pub stops-signals : {r : Refusal} → SignalsOf o file cs (t .own) (t .basic) (t .next) (at + 16) s m (FramesJudged.Stop r) → BodyJudged o label file s at m before (Recorded.Stop r)
+    pub stops-signals : {r : Refusal} → SignalsOf o label file cs (t .own) (t .basic) (t .next) (at + 16) s m (FramesJudged.Stop r) → BodyJudged o label file s at m before (Recorded.Stop r)
     stops-signals j = record { told = λ held h has fills times. signals-stop o label file at s before held h fills (k .told file held (i .part) has) c times j; continues = tt }
 
-    pub holds : {f : Frames} (q : ℕ) → SignalsOf o file cs (t .own) (t .basic) (t .next) (at + 16) s m (FramesJudged.On f q) → BodyJudged o label file s at m before (Recorded.On (placesFor at (length s) t (f .size) (f .seconds)))
+    pub holds : {f : Frames} (q : ℕ) → SignalsOf o label file cs (t .own) (t .basic) (t .next) (at + 16) s m (FramesJudged.On f q) → BodyJudged o label file s at m before (Recorded.On (placesFor at (length s) t (f .size) (f .seconds)))
     holds {f} q j = record {
       told = λ held h has fills times. body-holds o label file at s before held h fills (k .told file held (i .part) has) c times q j (k .bounds .fits);
       continues = continues at (length file) s before t (k .bounds) (i .inside) (i .held) (f .size) (f .seconds);
@@ -205,15 +206,15 @@ module _ (o : Order) (label : Label) (file : List ℕ) (p i : ℕ) where
   abbrev walk : Option R.Held → Verdict R.Placed
   walk held = see o 0 file p (R.recording label held (length file - p) i)
 
-  begins : (held : Option R.Held) → walk held ≡ onward (see o 0 file p (opened (R.recordingRule i) (length file - p))) (λ h e. see o 0 file e (R.recordingBody label held h))
+  begins : (held : Option R.Held) → walk held ≡ onward (see o 0 file p (opened (R.recordingRule label i) (length file - p))) (λ h e. see o 0 file e (R.recordingBody label held h))
   unfolding recording
-  begins held = body-opened o 0 file (R.recordingRule i) (R.recordingBody label held) (length file - p) p
+  begins held = body-opened o 0 file (R.recordingRule label i) (R.recordingBody label held) (length file - p) p
 
-  open-stop : {r : Refusal} → OpenAt o 0 file p (Kind.Recording i) (Opened.Stop r) → (held : Option R.Held) → walk held ≡ halts r
+  open-stop : {r : Refusal} → OpenAt o 0 file p (Kind.Recording label i) (Opened.Stop r) → (held : Option R.Held) → walk held ≡ halts r
   open-stop a held = begins held ∙ rw (rw zero-add at (a .seen))
 
   -- the body of a record that ends at byte q, handed on as a part of its own
-  module _ {h : Head} {q : ℕ} (a : OpenAt o 0 file p (Kind.Recording i) (Opened.On h q)) where
+  module _ {h : Head} {q : ℕ} (a : OpenAt o 0 file p (Kind.Recording label i) (Opened.On h q)) where
     fills : R.span (headOf h) ≡ 16 + length (take (q - (p + 16)) (drop (p + 16) file))
     fills =
         let st = a .stands in
@@ -229,13 +230,13 @@ module _ (o : Order) (label : Label) (file : List ℕ) (p i : ℕ) where
         sym (begins held ∙ rw (rw (zero-add p, zero-add (h .at + 16), st .at) at (a .seen)))
 
 -- it is accepted whatever its serial, where the head is looked at for no more than that
-opened-any : (o : Order) (s : List ℕ) (at room i : ℕ) {h : R.Head} {e : ℕ} → see o 0 s at (opened (R.recordingRule i) room) ≡ goes h e → see o 0 s at (opened R.anyRule room) ≡ goes h e
+opened-any : (o : Order) (label : Label) (s : List ℕ) (at room i : ℕ) {h : R.Head} {e : ℕ} → see o 0 s at (opened (R.recordingRule label i) room) ≡ goes h e → see o 0 s at (opened R.anyRule room) ≡ goes h e
 unfolding opened
-opened-any o s at room i {h} {e} g =
+opened-any o label s at room i {h} {e} g =
     let f = went-first o 0 s at (R.head room) _ g in
-    let c = require-went o 0 s (f .end) (eqb (f .value .code) 10) 9 12 (R.admitBy (R.recordingRule i) room (f .value) >> give (f .value)) (f .kept) in
-    let d = admit-went o 0 s (f .end) room 128 (leb 16) (eqb i) (f .value) (give (f .value)) (c .1) in
-    let y = admit-passed o 0 s (f .end) room 128 (leb 16) (eqb i) (f .value) (d .admits) .any in
+    let c = require-went o 0 s (f .end) (eqb (f .value .code) 10) 9 12 (R.admitBy (R.recordingRule label i) room (f .value) >> give (f .value)) (f .kept) in
+    let d = admit-went o 0 s (f .end) room (R.mostOf label) (leb 16) (eqb i) (f .value) (give (f .value)) (c .1) in
+    let y = admit-passed o 0 s (f .end) room (R.mostOf label) (leb 16) (eqb i) (f .value) (d .admits) .any 128 (most-low label) in
     simp (walks, gates, f .is, y) (sym (see-give o 0 s (f .end) (f .value)) ∙ d .rest)
 
 -- what `recording_at` and `recording_again` ask of the functions that they call, and what they answer
@@ -254,10 +255,10 @@ module _ (file : List ℕ) (p q : ℕ) {before : Before} (low : p + 16 ≤ q) (i
     held = i .held;
   }
 
-pub at-stops : {o : Order} {label : Label} {file : List ℕ} {p i : ℕ} {before : Before} {r : Refusal} → OpenAt o 0 file p (Kind.Recording i) (Opened.Stop r) → RecordingAt o label file p i before (Recorded.Stop r)
+pub at-stops : {o : Order} {label : Label} {file : List ℕ} {p i : ℕ} {before : Before} {r : Refusal} → OpenAt o 0 file p (Kind.Recording label i) (Opened.Stop r) → RecordingAt o label file p i before (Recorded.Stop r)
 at-stops {o} {label} {file} {p} {i} a = record { told = λ held has. open-stop o label file p i a held; continues = tt }
 
-pub at-body : {o : Order} {label : Label} {file : List ℕ} {p i : ℕ} {before : Before} {h : Head} {q : ℕ} {x : Recorded} → OpenAt o 0 file p (Kind.Recording i) (Opened.On h q) →
+pub at-body : {o : Order} {label : Label} {file : List ℕ} {p i : ℕ} {before : Before} {h : Head} {q : ℕ} {x : Recorded} → OpenAt o 0 file p (Kind.Recording label i) (Opened.On h q) →
     BodyJudged o label file (take (q - (p + 16)) (drop (p + 16) file)) p (h .multiplier) before x → RecordingAt o label file p i before x
 at-body {o} {label} {file} {p} {i} {before} {h} {q} {x} a k = record {
   told = λ held has. subst (λ (v : Verdict R.Placed). recorded o file p before v x) (in-body o label file p i a held) (k .told held (headOf h) has (fills o label file p i a) refl);
@@ -266,16 +267,16 @@ at-body {o} {label} {file} {p} {i} {before} {h} {q} {x} a k = record {
 
 -- a recording that the walk accepts: its head was opened as one
 module _ (o : Order) (label : Label) (file : List ℕ) (p i : ℕ) (held : Option R.Held) {x : R.Placed} {e : ℕ} (g : see o 0 file p (R.recording label held (length file - p) i) ≡ goes x e) where
-  begun : Goes (see o 0 file p (opened (R.recordingRule i) (length file - p))) (λ h m. see o 0 file m (R.recordingBody label held h) ≡ goes x e)
+  begun : Goes (see o 0 file p (opened (R.recordingRule label i) (length file - p))) (λ h m. see o 0 file m (R.recordingBody label held h) ≡ goes x e)
   begun = onward-went _ _ (sym (begins o label file p i held) ∙ g)
 
   any : see o 0 file p (opened R.anyRule (length file - p)) ≡ goes (begun .value) (begun .end)
-  any = opened-any o file p (length file - p) i (begun .is)
+  any = opened-any o label file p (length file - p) i (begun .is)
 
   not-stopped : {r : Refusal} → OpenAt o 0 file p Kind.Any (Opened.Stop r) → ⊥
   not-stopped a = stops-goes (sym (rw zero-add at (a .seen)) ∙ any)
 
-  as-recording : {h : Head} {q : ℕ} → OpenAt o 0 file p Kind.Any (Opened.On h q) → OpenAt o 0 file p (Kind.Recording i) (Opened.On h q)
+  as-recording : {h : Head} {q : ℕ} → OpenAt o 0 file p Kind.Any (Opened.On h q) → OpenAt o 0 file p (Kind.Recording label i) (Opened.On h q)
   as-recording {h} {q} a =
       let y = goes-same (sym any ∙ rw zero-add at (a .seen)) in
       let st = a .stands in

@@ -77,7 +77,7 @@ fn recording_body(
     let cs = channels_of(t);
     let next = t.next;
     let basic = t.basic;
-    let framed = signals(o, file, cs, t.own, basic, next, s, base, multiplier);
+    let framed = signals(o, label, file, cs, t.own, basic, next, s, base, multiplier);
     let FramesJudged::On(f, _) = framed else {
         return Recorded::Stop(of_frames(framed));
     };
@@ -96,7 +96,7 @@ pub fn recording_at(
     requires { ⌜ RecordingIn (length (now file)) p before ⌝ }
     ensures { λ a. ⌜ RecordingAt o label (now (file .entry)) p i before a ⌝ }
 {
-    let opened = open(o, file, 0, p, Kind::Recording(i));
+    let opened = open(o, file, 0, p, Kind::Recording(label, i));
     let Opened::On(h, end) = opened else {
         return Recorded::Stop(of_open(opened));
     };

@@ -88,7 +88,7 @@ pub record Sought (o : Order) (b : ℕ) (s : List ℕ) (p : ℕ) (m : Option ℕ
 module _ {o : Order} {b : ℕ} {s : List ℕ} where
   pub sought-all : OfBody o b s (λ rs. Sought o b s 0 (firstMaker rs))
   unfolding said
-  sought-all label held h x e n g = record { left = said o b s b (recordingBody label held h); known = knownOf x; chain = body-chain o label b s held h n g; first = refl }
+  sought-all label held h x e n g = record { left = said o b s b (recordingBody label held h); known = knownOf label x; chain = body-chain o label b s held h n g; first = refl }
 
   module _ {p : ℕ} {m : Option ℕ} (g : Sought o b s p m) where
     pub sought-none : p ≤ length s → NoRecord o b s p → none ≡ m

@@ -42,11 +42,11 @@ module _ (o : Order) (b : ℕ) (s : List ℕ) (bytes : Bytes s) where
   tables-bare label held n l g = tables-written label held n (trace-plays o b s (b + (n - 16)) (omega arith) bytes (descriptions label held n) b _ (omega arith) (stays-descriptions label held n b) g)
 
   -- makers' records and the head of another, with room up to the end of the part
-  pub next-bare : (fuel at : ℕ) {n : Next} {e : ℕ} → b ≤ at → at ≤ b + length s → b + length s < at + fuel → see o b s at (next fuel (b + length s - at)) ≡ goes n e →
-      bare o b s at (next fuel (b + length s - at)) ≡ makerEvents (n .makers) ++ numerals (n .head)
-  next-bare fuel at g l f h =
-      next-written fuel (b + length s - at)
-      (trace-plays o b s (b + length s) (omega arith) bytes (next fuel (b + length s - at)) at _ g (stays-next fuel (b + length s - at) fuel (b + length s) at (omega arith) (omega arith) (omega arith)) h)
+  pub next-bare : (label : Label) (fuel at : ℕ) {n : Next} {e : ℕ} → b ≤ at → at ≤ b + length s → b + length s < at + fuel → see o b s at (next label fuel (b + length s - at)) ≡ goes n e →
+      bare o b s at (next label fuel (b + length s - at)) ≡ makerEvents (n .makers) ++ numerals (n .head)
+  next-bare label fuel at g l f h =
+      next-written label fuel (b + length s - at)
+      (trace-plays o b s (b + length s) (omega arith) bytes (next label fuel (b + length s - at)) at _ g (stays-next label fuel (b + length s - at) fuel (b + length s) at (omega arith) (omega arith) (omega arith)) h)
 
 -- the recording that these tables begin
 pub content-tables : (label : Label) (t : Descriptions) (seconds : ℕ) (fs : List Frame) (ms : List Maker) →

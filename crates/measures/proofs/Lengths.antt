@@ -20,12 +20,13 @@ use Rattle.walk.proofs.Laws.{size-append, size-cleared}
 use Rattle.walk.proofs.Seen.{see-bind, stays-goes, body-length}
 use Rattle.walk.proofs.Tracing.{size-trace}
 use Rattle.walk.proofs.Went.{gate-went, goes-same, by-onward, by-went, by-then}
-use Rattle.rules.specs.Rules.{Head, head, span, padOk, padding, basic, channels, Frame, Frames, frames, Maker, Next, next, Held, Placed, contentLimit, delimiter, recordingBody, recording, Descriptions, descriptions, signals}
+use Rattle.rules.specs.Rules.{mostOf, Head, head, span, padOk, padding, basic, channels, Frame, Frames, frames, Maker, Next, next, Held, Placed, contentLimit, delimiter, recordingBody, recording, Descriptions, descriptions, signals}
 use Rattle.rules.specs.declared.Label.{Label}
-use Rattle.rules.specs.Canonical.{recordOf, framesBytes, framesHead, framesWritten, makerEvents, delimiterHead, delimiterEvents, content}
+use Rattle.rules.specs.Canonical.{most, recordOf, framesBytes, framesHead, framesWritten, makerEvents, delimiterHead, delimiterEvents, content}
 use Rattle.rules.proofs.Room.{Behind, stays-next, stays-descriptions, stays-framesRest}
 use Rattle.rules.proofs.Renew.{FramesOk, frames-ok, frames-size, next-ok}
-use Rattle.rules.proofs.Sized.{pad-under}
+use Rattle.rules.proofs.Cases.{by-most}
+use Rattle.rules.proofs.Sized.{longest, pad-under}
 use Rattle.rules.proofs.Written.{tablesEvents}
 use Rattle.records.proofs.Opened.{require-went}
 use Rattle.children.proofs.Chained.{tables-leads}
@@ -61,7 +62,7 @@ tables-told o label b s bytes held n {t} {m} l g =
     let r = tables-bare o b s bytes label held n (omega arith) g in
     let e = size-trace o b s (b + (n - 16)) fit (descriptions label held n) b _ (omega arith) (stays-descriptions label held n b) g in
     let z = sym (size-cleared (trace o b s b (descriptions label held n))) ∙ (ap size r ∙ size-append (tablesEvents label t) _) in
-    let d = tables-leads o b s (record { basic = t .basic; own = t .channels .own; channels = t .channels .value; back = 0 }) label held n l g in
+    let d = tables-leads o b s (record { label = label; basic = t .basic; own = t .channels .own; channels = t .channels .value; back = 0 }) held n l g in
     record {
       held = held;
       went = g;
@@ -84,6 +85,10 @@ delimiter-is o b s at h g =
     let g₄ = gate-went _ _ _ _ (g₃ .1) in
     no-head (h .size) (h .code) (h .serial) (h .multiplier) (eqb-true (h .size) 0 (g₃ .0)) (eqb-true (h .code) 0 (g₁ .0)) (eqb-true (h .serial) 0 (g₄ .0)) (eqb-true (h .multiplier) 0 (g₂ .0))
 
+-- no version allows a larger multiplier than 128
+served-most : (label : Label) → longest (mostOf label) ≤ 128 * most
+served-most label = by-most (λ k. longest k ≤ 128 * most) label (omega arith) (omega arith)
+
 -- a recording's body that the walk accepted: the tables before its 140, which stands at byte `at` of the body, what follows it, and how long the canonical form is
 pub record Accepted (o : Order) (label : Label) (b : ℕ) (s : List ℕ) (x : Placed) : Type 0 where
   pub at : ℕ
@@ -99,12 +104,12 @@ pub record Accepted (o : Order) (label : Label) (b : ℕ) (s : List ℕ) (x : Pl
   pub own : Bool
   pub back : ℕ
   pub value : Frames
-  pub went : see o b s (b + (at + 16)) (frames (before .basic) own (x .recording .channels) back (length s - at) top) ≡ goes value (b + (at + span top))
+  pub went : see o b s (b + (at + 16)) (frames label (before .basic) own (x .recording .channels) back (length s - at) top) ≡ goes value (b + (at + span top))
   pub fuel : ℕ
   pub enough : length s < at + span top + fuel
   pub after : Next
   pub end : ℕ
-  pub behind : see o b s (b + (at + span top)) (next fuel (length s - (at + span top))) ≡ goes after end
+  pub behind : see o b s (b + (at + span top)) (next label fuel (length s - (at + span top))) ≡ goes after end
   pub closes : after .head ≡ delimiterHead
   pub seconds : x .recording .seconds ≡ value .seconds
   pub frames : x .recording .frames ≡ value .frames
@@ -128,7 +133,7 @@ total-sum B len room at bytes pad span f k d all h₁ h₂ h₃ h₄ h₅ h₆ h
     omega (arith, j, h₈, h₉)
 
 -- a recording that these tables begin
-content-size : (label : Label) (t : Descriptions) (seconds : ℕ) (fs : List Frame) (ms : List Maker) → FramesOk (t .basic) (t .channels .own) (t .channels .value) seconds fs →
+content-size : (label : Label) (t : Descriptions) (seconds : ℕ) (fs : List Frame) (ms : List Maker) → FramesOk label (t .basic) (t .channels .own) (t .channels .value) seconds fs →
     size (tablesEvents label t ++ (recordOf (framesHead seconds (t .channels .value) fs) (framesWritten seconds (t .channels .value) fs) ++ (makerEvents ms ++ delimiterEvents))) ≡ size (tablesEvents label t) + span (framesHead seconds (t .channels .value) fs) + (size (makerEvents ms) + 16)
 unfolding delimiterEvents size
 content-size label t seconds fs ms f =
@@ -147,26 +152,26 @@ module _ (o : Order) (label : Label) (b : ℕ) (s : List ℕ) (bytes : Bytes s) 
   hears : {A : Type 0} (w : Walk A) (at : ℕ) (Q : A → ℕ → Type 0) {a : A} {e : ℕ} → b ≤ at → Stays L at w Q → see o b s at w ≡ goes a e → Heard w Q a e
   hears = heard o b s L (omega arith) bytes
 
-  signals-told : (t : Descriptions) (m : ℕ) → Told o label b s (span h) t m → {x : Placed} {e : ℕ} → see o b s m (signals t h) ≡ goes x e → Accepted o label b s x
+  signals-told : (t : Descriptions) (m : ℕ) → Told o label b s (span h) t m → {x : Placed} {e : ℕ} → see o b s m (signals label t h) ≡ goes x e → Accepted o label b s x
   unfolding signals see
   signals-told t m k g =
       let last : Next = t .montage .next in
       let top : Head = last .head in
       let back : ℕ = span h - last .room - 20 in
-      let v : ℕ → Walk Frames = λ r. frames (t .basic) (t .channels .own) (t .channels .value) back r top in
+      let v : ℕ → Walk Frames = λ r. frames label (t .basic) (t .channels .own) (t .channels .value) back r top in
       let a = require-went o b s m (eqb (top .code) 140) 9 12 _ g in
       by-went o b s m (v (last .room)) _ (a .1) λ f m₁ f₀ g₁.
-      by-went o b s m₁ (next (span h) (last .room - span top)) _ g₁ λ d m₂ d₀ g₂.
+      by-went o b s m₁ (next label (span h) (last .room - span top)) _ g₁ λ d m₂ d₀ g₂.
       by-then o b s m₂ (delimiter (d .head)) _ g₂ λ _ m₃ c₃ g₃.
       let l = require-went o b s m₃ (leb (span h - (d .room - 16) - f .padded) contentLimit) 14 _ _ g₃ in
       by-then o b s m₃ (padding (d .room - 16)) _ (require-went o b s m₃ (padOk h (d .room - 16)) 10 0 _ (l .1) .1) λ _ m₄ _ g₄.
       let q = k .behind in
       let at : ℕ = size (tablesEvents label t) in
       let p : at + last .room ≡ length s = omega (arith, k .long, q .2) in
-      let f₁ = hears (v (last .room)) m _ (omega (arith, k .long)) (stays-framesRest (t .basic) (t .channels .own) (t .channels .value) back (last .room) top L m (q .2)) f₀ in
+      let f₁ = hears (v (last .room)) m _ (omega (arith, k .long)) (stays-framesRest label (t .basic) (t .channels .own) (t .channels .value) back (last .room) top L m (q .2)) f₀ in
       let z : (16 ≤ span top) × (span top ≤ last .room) × (m₁ + (last .room - span top) ≡ L) = f₁ .holds in
       let f₂ = frames-ok (t .basic) (t .channels .own) (t .channels .value) back (last .room) top (f₁ .plays) in
-      let d₁ = hears (next (span h) (last .room - span top)) m₁ (Behind L (span h)) (omega (arith, z, q .1)) (stays-next (span h) (last .room - span top) (span h) L m₁ (omega (arith, q .1)) (omega (arith, q .1)) (z .2)) d₀ in
+      let d₁ = hears (next label (span h) (last .room - span top)) m₁ (Behind L (span h)) (omega (arith, z, q .1)) (stays-next label (span h) (last .room - span top) (span h) L m₁ (omega (arith, q .1)) (omega (arith, q .1)) (z .2)) d₀ in
       let d₂ = next-ok (span h) (last .room - span top) (d₁ .plays) in
       let n = ap size (content-tables label t (f .seconds) (f .frames) (d .makers)) ∙ content-size label t (f .seconds) (f .frames) (d .makers) (f₂ .0) in
       rw (← goes-same g₄ .0)
@@ -189,7 +194,7 @@ module _ (o : Order) (label : Label) (b : ℕ) (s : List ℕ) (bytes : Bytes s) 
         enough = omega arith;
         after = d;
         end = m₂;
-        behind = moved o b s (next (span h)) m₁ (b + (at + span top)) (last .room - span top) (length s - (at + span top)) m₂ m₂ (omega (arith, z)) (omega arith) refl d₀;
+        behind = moved o b s (next label (span h)) m₁ (b + (at + span top)) (last .room - span top) (length s - (at + span top)) m₂ m₂ (omega (arith, z)) (omega arith) refl d₀;
         closes = delimiter-is o b s m₂ (d .head) c₃;
         seconds = refl;
         frames = refl;
@@ -200,14 +205,14 @@ module _ (o : Order) (label : Label) (b : ℕ) (s : List ℕ) (bytes : Bytes s) 
         left = omega (arith, d₂ .left);
         events = content-tables label t (f .seconds) (f .frames) (d .makers);
         long = n;
-        few = f₂ .0 .total;
-        total = total-sum (span h) (length s) (last .room) at _ _ _ _ _ _ _ fills p (f₂ .1) (f₂ .2) (d₂ .left) (d₂ .enough) (leb-true _ contentLimit (l .0)) n (pad-under _ 128 (omega arith) (f₂ .0 .total));
+        few = omega (arith, f₂ .0 .total, served-most label);
+        total = total-sum (span h) (length s) (last .room) at _ _ _ _ _ _ _ fills p (f₂ .1) (f₂ .2) (d₂ .left) (d₂ .enough) (leb-true _ contentLimit (l .0)) n (pad-under _ 128 (omega arith) (omega (arith, f₂ .0 .total, served-most label)));
       })
 
   pub accepted : (held : Option Held) {x : Placed} {e : ℕ} → see o b s b (recordingBody label held h) ≡ goes x e → Accepted o label b s x
   unfolding recordingBody
   accepted held g =
-      by-onward (see o b s b (descriptions label held (span h))) (λ t m. see o b s m (signals t h)) (sym (see-bind o b s b (descriptions label held (span h)) (λ t. signals t h)) ∙ g) λ t m t₀ g₁.
+      by-onward (see o b s b (descriptions label held (span h))) (λ t m. see o b s m (signals label t h)) (sym (see-bind o b s b (descriptions label held (span h)) (λ t. signals label t h)) ∙ g) λ t m t₀ g₁.
       signals-told t m (tables-told o label b s bytes held (span h) fills t₀) g₁
 
 -- a recording that the walk accepted: its 140 stands inside it

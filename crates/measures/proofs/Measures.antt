@@ -122,12 +122,12 @@ module _ (at end last seconds size filled count : ℕ) where
   measure-given P h k p = rw (measuredFor, le-leb frames mostServed h, le-leb whole mostServed k) p
 
 -- what the three numbers say of a 140 whose body is s
-fields-told : (o : Order) (b : ℕ) (s : List ℕ) (c : R.Basic) (cs : List R.Channel) (h : R.Head) {f : R.Frames} {e : ℕ} → see o b s b (R.framesBody c cs h) ≡ goes f e → Fields (numberAt o 4 s 0) (numberAt o 4 s 4) (numberAt o 4 s 8) cs c f (R.span h)
-fields-told o b s c cs h g =
+fields-told : (o : Order) (label : Label) (b : ℕ) (s : List ℕ) (c : R.Basic) (cs : List R.Channel) (h : R.Head) {f : R.Frames} {e : ℕ} → see o b s b (R.framesBody label c cs h) ≡ goes f e → Fields (numberAt o 4 s 0) (numberAt o 4 s 4) (numberAt o 4 s 8) cs c f (R.span h)
+fields-told o label b s c cs h g =
     let z₀ : b - b ≡ 0 = omega arith in
     let z₁ : b + 4 - b ≡ 4 = omega arith in
     let z₂ : b + 4 + 4 - b ≡ 8 = omega arith in
-    rw (z₀, z₁, z₂) at (yields o b s (R.framesBody c cs h) b _ (yields-framesBody o b s b c cs h) g)
+    rw (z₀, z₁, z₂) at (yields o b s (R.framesBody label c cs h) b _ (yields-framesBody o label b s b c cs h) g)
 
 -- a recording's body s that the walk accepted, with the 140 at byte `at` of it
 module _ {o : Order} {label : Label} {base : ℕ} {s : List ℕ} {x : R.Placed} (v : Accepted o label base s x) (at : ℕ) (is : 16 + at ≡ x .layout .at140) where
@@ -143,16 +143,16 @@ module _ {o : Order} {label : Label} {base : ℕ} {s : List ℕ} {x : R.Placed} 
     same-head : v .top ≡ headOf h
     same-head = goes-same (sym stands ∙ found) .0
 
-    went : see o base s (base + (h .at + 16)) (R.frames (v .before .basic) (v .own) (x .recording .channels) (v .back) (length s - h .at) (headOf h)) ≡ goes (v .value) (base + (h .at + R.span (headOf h)))
+    went : see o base s (base + (h .at + 16)) (R.frames label (v .before .basic) (v .own) (x .recording .channels) (v .back) (length s - h .at) (headOf h)) ≡ goes (v .value) (base + (h .at + R.span (headOf h)))
     went = let e : v .at ≡ h .at = omega (arith, v .place) in rw (e, same-head) at (v .went)
 
     -- it is admitted
-    pub measure-refused : {n p : ℕ} → see o base s (base + (h .at + 16)) (R.admit (length s - h .at) 128 (leb 32) (eqb 0) (headOf h)) ≡ stops n p → ⊥
-    measure-refused g = frames-refused o base s (v .before .basic) (v .own) (x .recording .channels) (v .back) (base + (h .at + 16)) (length s - h .at) (headOf h) g went
+    pub measure-refused : {n p : ℕ} → see o base s (base + (h .at + 16)) (R.admit (length s - h .at) (R.mostOf label) (leb 32) (eqb 0) (headOf h)) ≡ stops n p → ⊥
+    measure-refused g = frames-refused o label base s (v .before .basic) (v .own) (x .recording .channels) (v .back) (base + (h .at + 16)) (length s - h .at) (headOf h) g went
 
     -- the 140 stops at q, and another head follows
     module _ (q : ℕ) (stop : q ≡ h .at + R.span (headOf h)) where
-      behind : over headroom (see o base s (base + q) (R.next (v .fuel) (length s - q))) ≡ goes (headroom (v .after)) (v .end)
+      behind : over headroom (see o base s (base + q) (R.next label (v .fuel) (length s - q))) ≡ goes (headroom (v .after)) (v .end)
       behind =
           let e : v .at + R.span (v .top) ≡ q = omega (arith, v .place, ap (λ (t : R.Head). R.span t) same-head) in
           ap (over headroom) (rw e at (v .behind)) ∙ over-goes headroom (v .after) (v .end)
@@ -160,25 +160,25 @@ module _ {o : Order} {label : Label} {base : ℕ} {s : List ℕ} {x : R.Placed} 
       enough : length s < q + v .fuel
       enough = omega (arith, v .enough, v .place, ap (λ (t : R.Head). R.span t) same-head)
 
-      pub measure-alone : {n p : ℕ} → ((fuel : ℕ) → length s < q + fuel → over headroom (see o base s (base + q) (R.next fuel (length s - q))) ≡ stops n p) → ⊥
+      pub measure-alone : {n p : ℕ} → ((fuel : ℕ) → length s < q + fuel → over headroom (see o base s (base + q) (R.next label fuel (length s - q))) ≡ stops n p) → ⊥
       measure-alone g = stops-goes (sym (g (v .fuel) enough) ∙ behind)
 
       module _ (inside : q ≤ length s) (least : 32 ≤ R.span (headOf h)) where
         abbrev body : List ℕ
         body = take (q - (at + 16)) (drop (at + 16) s)
 
-        pub in-body : see o (base + at + 16) body (base + at + 16) (R.framesBody (v .before .basic) (x .recording .channels) (headOf h)) ≡ goes (v .value) (base + q)
+        pub in-body : see o (base + at + 16) body (base + at + 16) (R.framesBody label (v .before .basic) (x .recording .channels) (headOf h)) ≡ goes (v .value) (base + q)
         unfolding R.frames
         in-body =
-            let w : Walk R.Frames = R.framesBody (v .before .basic) (x .recording .channels) (headOf h) in
-            let d = admit-went o base s (base + (h .at + 16)) (length s - h .at) 128 (leb 32) (eqb 0) (headOf h) (require (v .own || eqb (length (x .recording .channels)) (v .before .basic .channels)) 14 (v .back) >> w) went in
+            let w : Walk R.Frames = R.framesBody label (v .before .basic) (x .recording .channels) (headOf h) in
+            let d = admit-went o base s (base + (h .at + 16)) (length s - h .at) (R.mostOf label) (leb 32) (eqb 0) (headOf h) (require (v .own || eqb (length (x .recording .channels)) (v .before .basic .channels)) 14 (v .back) >> w) went in
             let t = require-went o base s (base + (h .at + 16)) (v .own || eqb (length (x .recording .channels)) (v .before .basic .channels)) 14 (v .back) w (d .rest) in
             let z : base + at + 16 + (R.span (headOf h) - 16) ≡ base + q = omega arith in
-            see-body o base at q s w _ (omega arith) inside (rw z at (stays-framesBody (v .before .basic) (x .recording .channels) (headOf h) (base + at + 16) least)) ∙ (ap (λ (y : ℕ). see o base s (base + (y + 16)) w) (sym here) ∙ (t .1 ∙ ap (λ (y : ℕ). goes (v .value) (base + y)) (sym stop)))
+            see-body o base at q s w _ (omega arith) inside (rw z at (stays-framesBody label (v .before .basic) (x .recording .channels) (headOf h) (base + at + 16) least)) ∙ (ap (λ (y : ℕ). see o base s (base + (y + 16)) w) (sym here) ∙ (t .1 ∙ ap (λ (y : ℕ). goes (v .value) (base + y)) (sym stop)))
 
         module _ (t size n : ℕ) (e₁ : t ≡ numberAt o 4 body 0) (e₂ : size ≡ numberAt o 4 body 4) (e₃ : n ≡ numberAt o 4 body 8) where
           pub measure-fields : Fields t size n (x .recording .channels) (v .before .basic) (v .value) (R.span (headOf h))
-          measure-fields = rw (e₁, e₂, e₃) (fields-told o (base + at + 16) body (v .before .basic) (x .recording .channels) (headOf h) in-body)
+          measure-fields = rw (e₁, e₂, e₃) (fields-told o label (base + at + 16) body (v .before .basic) (x .recording .channels) (headOf h) in-body)
 
           -- the code's test of these numbers passes
           pub measure-fits : (bytes : ℕ) (r : Bool) → bytes ≡ R.sampleBytes t (x .recording .channels) → r ≡ leb (24 + bytes) size && leb (16 + size * n) (length body) → r ≡ false → ⊥
@@ -188,7 +188,7 @@ module _ {o : Order} {label : Label} {base : ℕ} {s : List ℕ} {x : R.Placed} 
               both-false (24 + bytes) size (16 + size * n) (length body) r e f₀ (rw i (f .long)) (omega (arith, f .fits, mul-comm n size))
 
           -- and what is measured is the recording's measure; d: the head that follows
-          module _ (d : At.Head) (follows : (fuel : ℕ) → length s < q + fuel → over headroom (see o base s (base + q) (R.next fuel (length s - q))) ≡ goes (record { head = headOf d; room = length s - d .at }) (base + (d .at + 16))) (last : d .at + 16 ≤ length s) (bytes : ℕ) (many : bytes ≡ R.sampleBytes t (x .recording .channels)) where
+          module _ (d : At.Head) (follows : (fuel : ℕ) → length s < q + fuel → over headroom (see o base s (base + q) (R.next label fuel (length s - q))) ≡ goes (record { head = headOf d; room = length s - d .at }) (base + (d .at + 16))) (last : d .at + 16 ≤ length s) (bytes : ℕ) (many : bytes ≡ R.sampleBytes t (x .recording .channels)) where
             abbrev frames-bytes : ℕ
             frames-bytes = C.framesBytes (x .recording .seconds) (x .recording .channels) (x .recording .frames)
 

@@ -125,12 +125,12 @@ pub record Measurable (file s : List ℕ) (cs : Channels) (at base : ℕ) : Type
   pub part : PartAt base s at
 
 -- what `measure_of` answers of it
-pub record MeasuredAs (o : Order) (file s : List ℕ) (cs : Channels) (at base : ℕ) (a : Measured) : Type 0 where
+pub record MeasuredAs (o : Order) (label : Label) (file s : List ℕ) (cs : Channels) (at base : ℕ) (a : Measured) : Type 0 where
   -- whatever the bytes are
   pub bounds : Each a (MeasureBounds (length s))
   pub reads : Each a (MeasureIn o base s)
   -- where the walk accepts the body, there is a measure, and it is the recording's
-  pub told : (label : Label) (held : Option R.Held) (h : R.Head) (x : R.Placed) (e : ℕ) →
+  pub told : (held : Option R.Held) (h : R.Head) (x : R.Placed) (e : ℕ) →
       R.span h ≡ 16 + length s → ChannelsStand o file cs (x .recording .channels) → 16 + at ≡ x .layout .at140 →
       see o base s base (R.recordingBody label held h) ≡ goes x e → Given a (λ f. MeasureOf label f x)
 

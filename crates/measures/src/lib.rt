@@ -10,6 +10,7 @@ use rules::Frame;
 use rules::Frames;
 use rules::Head;
 use rules::Kind;
+use rules::Label;
 use words::Order;
 
 // The size and the multiplier of a record, and the length that they make.
@@ -113,19 +114,27 @@ fn measure_for(
 }
 
 // The measure of the recording whose body is s, with the 140 at byte `at` of it and the records 125 that hold for it in the file.
-pub fn measure_of(o: Order, file: &[u8], cs: Channels, at: usize, s: &[u8], base: usize) -> Measured
+pub fn measure_of(
+    o: Order,
+    label: Label,
+    file: &[u8],
+    cs: Channels,
+    at: usize,
+    s: &[u8],
+    base: usize,
+) -> Measured
     requires { ⌜ Measurable (now file) (now s) cs at base ⌝ }
-    ensures { λ a. ⌜ MeasuredAs o (now (file .entry)) (now (s .entry)) cs at base a ⌝ }
+    ensures { λ a. ⌜ MeasuredAs o label (now (file .entry)) (now (s .entry)) cs at base a ⌝ }
 {
     let found = records::head::head_at(o, s, base, at);
     let Headed::At(h) = found else {
         return Measured::Nothing;
     };
-    let room = records::kinds::admit(h, base, s.len(), Kind::Frames);
+    let room = records::kinds::admit(h, base, s.len(), Kind::Frames(label));
     let Step::On(end) = room else {
         return Measured::Nothing;
     };
-    let behind = records::makers::next_head(o, s, base, end);
+    let behind = records::makers::next_head(o, label, s, base, end);
     let Headed::At(d) = behind else {
         return Measured::Nothing;
     };

@@ -19,7 +19,7 @@ use Rattle.rules.specs.Places.{bytesBefore, holder}
 use Rattle.rules.specs.Reading.{channelReading}
 use Rattle.rules.specs.declared.Label.{Label}
 use Rattle.rules.proofs.Asked.{rest-inside, recording-found, recording-at, montage-at}
-use Rattle.rules.proofs.Cases.{by-form}
+use Rattle.rules.proofs.Cases.{by-form, four-formats}
 use Rattle.rules.proofs.Held.{channel-holds-at}
 use Rattle.rules.proofs.Places.{Found, found-at, channel-bytes}
 use Rattle.rules.proofs.Renewed.{PartOk, MontageOk, RecordingOk, recording-ok}
@@ -60,18 +60,18 @@ pub record MontageStands (s : List ℕ) (r : Chosen) : Type 0 where
   pub inside : montageAt r + 32 + 256 * length (r .this .recording .montage) ≤ length s
 
 -- a part that is not the recording's own has what it takes over
-taken-over : {A : Type 0} (P : List A → Type 0) (own : Bool) (l : List A) (ms : List R.Maker) → PartOk P (some []) own l ms → own ≡ false → l ≡ []
-taken-over P true l ms k e = false-true (sym e)
-taken-over P false l ms k e = let h = k .0 in cc
+taken-over : (label : Label) {A : Type 0} (P : List A → Type 0) (own : Bool) (l : List A) (ms : List R.Maker) → PartOk label P (some []) own l ms → own ≡ false → l ≡ []
+taken-over label P true l ms k e = false-true (sym e)
+taken-over label P false l ms k e = let h = k .0 in cc
 
 -- the subs of a recording's channels, in either form
 pub channels-calibrated : (label : Label) (n : ℕ) → R.channelsGroup label n .sub .calibrated ≡ not (eqb (R.channelsGroup label n .sub .code) 325)
 unfolding R.channelsGroup
-channels-calibrated label n = by-form (λ l. R.channelsGroup l n .sub .calibrated ≡ not (eqb (R.channelsGroup l n .sub .code) 325)) refl refl label
+channels-calibrated label n = by-form (λ l. R.channelsGroup l n .sub .calibrated ≡ not (eqb (R.channelsGroup l n .sub .code) 325)) label refl refl
 
-channels-format : (label : Label) (n : ℕ) → R.channelsGroup label n .sub .format ≡ R.between 1 4
+channels-format : (label : Label) (n : ℕ) → R.channelsGroup label n .sub .format ≡ R.between 1 (R.allowed label .format)
 unfolding R.channelsGroup
-channels-format label n = by-form (λ l. R.channelsGroup l n .sub .format ≡ R.between 1 4) refl refl label
+channels-format label n = by-form (λ l. R.channelsGroup l n .sub .format ≡ R.between 1 (R.allowed l .format)) label refl refl
 
 -- in an accepted file
 module _ (s : List ℕ) (b : Bytes s) {v : R.File} {t : List Event} (h : R.judge s ≡ passed v [] t) where
@@ -109,7 +109,7 @@ module _ (s : List ℕ) (b : Bytes s) {v : R.File} {t : List Event} (h : R.judge
 
     -- a recording without a 350 of its own has no montage
     pub montage-none : r .this .recording .ownMontage ≡ false → r .this .recording .montage ≡ []
-    montage-none = let k = recording-well in taken-over (MontageOk (v .heading .label) (r .this .recording .channels)) (r .this .recording .ownMontage) (r .this .recording .montage) (r .this .recording .makers₅) (k .1 .montage)
+    montage-none = let k = recording-well in taken-over (v .heading .label) (MontageOk (v .heading .label) (r .this .recording .channels)) (r .this .recording .ownMontage) (r .this .recording .montage) (r .this .recording .makers₅) (k .1 .montage)
 
     pub montage-stands : r .this .recording .ownMontage ≡ true → MontageStands s r
     montage-stands own =
@@ -140,5 +140,5 @@ sub-seen {k} {s} {p} {j} x = sub-read (R.orderOf s) s p k (x .room) j (x .seen)
 pub format-is : (label : Label) (n : ℕ) {s : List ℕ} {p j : ℕ} {c : R.Channel} → ChannelSeen (R.channelsGroup label n .sub) s p j c → formatIn (channelReading c) ≡ c .format
 format-is label n {c} x =
     let z = sub-seen x in
-    let m = between-in 1 4 _ (rw (channels-format label n) at (z .format)) in
-    rw (signed-pos 4 (c .format) (omega (arith, m .1, ap (λ (y : R.Channel). y .format) (z .is))))
+    let m = between-in 1 (R.allowed label .format) _ (rw (channels-format label n) at (z .format)) in
+    rw (signed-pos 4 (c .format) (omega (arith, m .1, four-formats (label .version), ap (λ (y : R.Channel). y .format) (z .is))))

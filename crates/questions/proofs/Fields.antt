@@ -100,4 +100,4 @@ module _ (o : Order) (s : List ℕ) (p : ℕ) where
   unfolding montage
   montage-counted label es room h =
       yields o 0 s (montage label es room h) (p + 16) Counted
-      (by-form (λ l. Yields o 0 s (p + 16) (montage l es room h) Counted) tt (yields-counted (R.montageGroup (length es)) room h) label)
+      (by-form (λ l. Yields o 0 s (p + 16) (montage l es room h) Counted) label tt (yields-counted (R.montageGroup (length es)) room h))

@@ -14,6 +14,7 @@ use Rattle.words.specs.Numbers.{bytesAt, numberAt}
 use Rattle.words.specs.declared.Order.{Order}
 use Rattle.walk.specs.See.{goes, see}
 use Rattle.rules.specs.Rules as R
+use Rattle.rules.specs.declared.Label.{Label}
 use Rattle.rules.specs.Reading.{Value, valueOf}
 use Rattle.descriptions.specs.declared.Places.{Places}
 use Rattle.records.proofs.Facts.{between-in}
@@ -129,9 +130,9 @@ pub clock-refused : (s : List ℕ) (i j : ℕ) {n p : ℕ} → frameOf s i j ≡
 clock-refused s i j h = rw h
 
 pub clock-told : {s : List ℕ} {i j : ℕ} {o : Order} {q : Places} {at : ℕ} {f : ChosenFrame} → FrameStands s i j o q at f → (d : Time) →
-    ((size t : ℕ) (cs : List R.Channel) (room n : ℕ) (g : R.Frame) (e : ℕ) → see o 0 s at (R.frame size t cs room n) ≡ goes g e → d ≡ timeOf g) → value d ≡ clockOf s i j
+    ((label : Label) (size t : ℕ) (cs : List R.Channel) (room n : ℕ) (g : R.Frame) (e : ℕ) → see o 0 s at (R.frame label size t cs room n) ≡ goes g e → d ≡ timeOf g) → value d ≡ clockOf s i j
 clock-told {q} {f} h d told =
-    rw (h .is) (ap value (told (q .frame) (q .seconds) (f .of .this .recording .channels) (h .room) _ (h .seen .value) (h .seen .end) (h .seen .is) ∙ ap timeOf (h .seen .kept)))
+    rw (h .is) (ap value (told (h .label) (q .frame) (q .seconds) (f .of .this .recording .channels) (h .room) _ (h .seen .value) (h .seen .end) (h .seen .is) ∙ ap timeOf (h .seen .kept)))
 
 -- Samples
 

@@ -27,15 +27,18 @@ use Rattle.questions.specs.declared.channels.Wired.{Wired}
 use Rattle.questions.specs.declared.headers.Header.{Header}
 use Rattle.questions.specs.declared.items.Entry.{Entry}
 
--- the number of a form's digits
+-- the number of a version's digits, and of a form's
+abbrev pub versionNumber : Label → ℕ
+versionNumber label = R.countIs (R.decimal 0 (R.versioned (label .version)))
+
 abbrev pub formNumber : Label → ℕ
 formNumber label = R.countIs (R.decimal 0 (R.formed (label .form)))
 
--- the header of a file in this order, with these values and K recordings; the version is the number of its digits
+-- the header of a file in this order, with these values and K recordings
 abbrev pub headerIn : Order → R.Heading → ℕ → Header
 headerIn o g k = record {
   spelling = g .spelling;
-  version = R.countIs (R.decimal 0 R.version);
+  version = versionNumber (g .label);
   form = formNumber (g .label);
   order = o;
   script = g .script;

@@ -8,7 +8,7 @@ ghost use mathlib.Core.Path.{_≡_};
 ghost use Rattle.questions.specs.Contracts.{HeaderAnswer, FactsAnswer, ChannelAnswer, MontageCountAnswer, MontageAnswer};
 ghost use Rattle.questions.specs.Contracts.{PatientItemAnswer, EventItemAnswer};
 ghost use Rattle.questions.specs.Contracts.{ClockAnswer, CountAnswer, SampleAnswer, ViewAnswer};
-ghost use Rattle.questions.specs.Questions.{formNumber, viewOf, PartIs};
+ghost use Rattle.questions.specs.Questions.{versionNumber, formNumber, viewOf, PartIs};
 use crate::channels::ChannelTold;
 use crate::channels::MontageCountTold;
 use crate::channels::MontageTold;
@@ -26,6 +26,7 @@ use rules::FileHeader;
 use rules::Form;
 use rules::Label;
 use rules::Refusal;
+use rules::Version;
 use samples::ClockTold;
 use samples::CountTold;
 use samples::FrameFound;
@@ -43,6 +44,19 @@ fn form_number(label: Label) -> u32
     }
 }
 
+// The number of a version's digits.
+fn version_number(label: Label) -> u32
+    ensures { λ r. ⌜ r ≡ versionNumber label ⌝ }
+{
+    let version = label.version;
+    match version {
+        Version::V100 => FileHeader::V100_NUMBER,
+        Version::V110 => FileHeader::V110_NUMBER,
+        Version::V200 => FileHeader::V200_NUMBER,
+        Version::V300 => FileHeader::V300_NUMBER,
+    }
+}
+
 // What the file header says.
 pub fn header(file: &[u8]) -> HeaderTold
     ensures { λ a. ⌜ HeaderAnswer (now (file .entry)) a ⌝ }
@@ -57,7 +71,7 @@ pub fn header(file: &[u8]) -> HeaderTold
     let order = h.order;
     HeaderTold::Header(Header {
         spelling,
-        version: FileHeader::VERSION_NUMBER,
+        version: version_number(label),
         form: form_number(label),
         order,
         script: heading.script,

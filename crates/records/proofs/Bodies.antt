@@ -9,6 +9,7 @@ use Rattle.words.specs.declared.Order.{Order}
 use Rattle.walk.specs.Walk.{Walk, give, _>>=_, _>>_}
 use Rattle.walk.specs.See.{Verdict, stops, goes, Stays, see, onward, ends}
 use Rattle.walk.proofs.Seen.{see-bind, see-after, see-body, body-length}
+use Rattle.rules.specs.declared.Label.{Label}
 use Rattle.rules.specs.Rules.{Channel, sampleBytes, fixed, frameRule, frameBody, frame}
 use Rattle.rules.specs.Rules as R
 use Rattle.records.specs.declared.Tested.{Tested}
@@ -51,14 +52,14 @@ pub fixed-opened : {A : Type 0} (o : Order) (b : ℕ) (s : List ℕ) (r : R.Rule
 unfolding fixed
 fixed-opened o b s r w room at = body-opened o b s r (λ _. w) room at
 
-frame-fixed : (size t : ℕ) (cs : List Channel) (room i : ℕ) → frame size t cs room i ≡ fixed (frameRule size (24 + sampleBytes t cs) i) (frameBody size t cs) room
+frame-fixed : (label : Label) (size t : ℕ) (cs : List Channel) (room i : ℕ) → frame label size t cs room i ≡ fixed (frameRule label size (24 + sampleBytes t cs) i) (frameBody size t cs) room
 unfolding frame fixed
-frame-fixed size t cs room i = refl
+frame-fixed label size t cs room i = refl
 
-pub frame-opened : (o : Order) (b : ℕ) (s : List ℕ) (size t : ℕ) (cs : List Channel) (room i at : ℕ) →
-    see o b s at (frame size t cs room i) ≡ onward (see o b s at (opened (frameRule size (24 + sampleBytes t cs) i) room)) (λ h e. see o b s e (frameBody size t cs))
-frame-opened o b s size t cs room i at =
-    ap (see o b s at) (frame-fixed size t cs room i) ∙ fixed-opened o b s (frameRule size (24 + sampleBytes t cs) i) (frameBody size t cs) room at
+pub frame-opened : (o : Order) (label : Label) (b : ℕ) (s : List ℕ) (size t : ℕ) (cs : List Channel) (room i at : ℕ) →
+    see o b s at (frame label size t cs room i) ≡ onward (see o b s at (opened (frameRule label size (24 + sampleBytes t cs) i) room)) (λ h e. see o b s e (frameBody size t cs))
+frame-opened o label b s size t cs room i at =
+    ap (see o b s at) (frame-fixed label size t cs room i) ∙ fixed-opened o b s (frameRule label size (24 + sampleBytes t cs) i) (frameBody size t cs) room at
 
 -- the body of the record of n bytes at p, which stops at q, is read in the part behind its head
 pub body-long : (p q n : ℕ) (s : List ℕ) → q ≡ p + n → 16 ≤ n → q ≤ length s → 16 + length (take (q - (p + 16)) (drop (p + 16) s)) ≡ n

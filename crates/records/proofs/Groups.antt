@@ -11,13 +11,13 @@ use Rattle.records.specs.Says.{groupOf, isGroup, subCode, shapeOf, CodeT
 
 pub told-group : (g : Group) → CodeTells (groupOf g)
 unfolding isGroup subCode shapeOf
-told-group (Group.Channels n) = record { group = refl; code = refl; shape = record { calibrated = refl; wired = refl } }
-told-group (Group.Electrodes n) = record { group = refl; code = refl; shape = record { calibrated = refl; wired = refl } }
+told-group (Group.Channels v n) = record { group = refl; code = refl; shape = record { calibrated = refl; wired = refl } }
+told-group (Group.Electrodes v n) = record { group = refl; code = refl; shape = record { calibrated = refl; wired = refl } }
 told-group (Group.Montage n) = record { group = refl; code = refl; shape = record { calibrated = refl; wired = refl } }
 
 pub told-channels : (label : Label) (n : ℕ) → CodeTells (R.channelsGroup label n)
 unfolding R.channelsGroup
-told-channels label n = by-form (λ l. CodeTells (R.channelsGroup l n)) (told-group (Group.Channels n)) (told-group (Group.Electrodes n)) label
+told-channels label n = by-form (λ l. CodeTells (R.channelsGroup l n)) label (told-group (Group.Channels (label .version) n)) (told-group (Group.Electrodes (label .version) n))
 
 pub told-montage : (n : ℕ) → CodeTells (R.montageGroup n)
 told-montage n = told-group (Group.Montage n)

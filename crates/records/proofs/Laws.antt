@@ -11,7 +11,9 @@ use Rattle.words.specs.declared.Order.{Order}
 use Rattle.walk.specs.See.{Verdict, see, over, ends, onward, stops, goes}
 use Rattle.walk.proofs.Seen.{and-left}
 use Rattle.rules.specs.Rules as R
+use Rattle.rules.specs.declared.Label.{Label}
 use Rattle.rules.specs.declared.Head.{Head}
+use Rattle.rules.proofs.Cases.{most-low}
 use Rattle.rules.specs.declared.Kind.{Kind}
 use Rattle.rules.specs.declared.Kind.the-variants as Kind
 use Rattle.records.specs.Says.{headroom, headOf, fitsOf, serialOf, asRule, ruleOf, Spans, Fitting, Admits, AdmittedBy, admitted, tested}
@@ -29,25 +31,25 @@ admitted-at e x o b s = rw e at (x .seen o b s)
 
 -- no kind's multiplier is larger than 128, and a length that fits is the kind's
 most-small : (k : Kind) → ruleOf k .most ≤ 128
-most-small (Kind.Recording i) = omega arith
+most-small (Kind.Recording label i) = most-low label
 most-small Kind.Basic = omega arith
 most-small (Kind.Channels code) = omega arith
 most-small (Kind.Channel code i) = omega arith
 most-small (Kind.Items code) = omega arith
-most-small Kind.Frames = omega arith
-most-small (Kind.Frame size filled i) = omega arith
-most-small Kind.Maker = omega arith
+most-small (Kind.Frames label) = most-low label
+most-small (Kind.Frame label size filled i) = most-low label
+most-small (Kind.Maker label) = most-low label
 most-small Kind.Any = omega arith
 
 spans : (k : Kind) (multiplier n : ℕ) → ruleOf k .fits multiplier n ≡ true → Spans k n
-spans (Kind.Recording i) m n e = leb-true 16 n e
+spans (Kind.Recording label i) m n e = leb-true 16 n e
 spans Kind.Basic m n e = sym (eqb-true 128 n e)
 spans (Kind.Channels code) m n e = leb-true 32 n e
 spans (Kind.Channel code i) m n e = sym (eqb-true 256 n e)
 spans (Kind.Items code) m n e = leb-true 24 n e
-spans Kind.Frames m n e = leb-true 32 n e
-spans (Kind.Frame size filled i) m n e = eqb-true n size (and-left (eqb n size) (R.padded m (n - filled)) e)
-spans Kind.Maker m n e = leb-true 16 n e
+spans (Kind.Frames label) m n e = leb-true 32 n e
+spans (Kind.Frame label size filled i) m n e = eqb-true n size (and-left (eqb n size) (R.padded m (n - filled)) e)
+spans (Kind.Maker label) m n e = leb-true 16 n e
 spans Kind.Any m n e = leb-true 16 n e
 
 -- a rule of the code that is the kind's
@@ -70,29 +72,29 @@ tested-give Tested.Fine x r = refl
 tested-give (Tested.Stop q) x r = refl
 
 -- the search for the next record goes on at p, with fuel that is still enough
-pub record Fueled (o : Order) (b : ℕ) (s : List ℕ) (from p fuel : ℕ) : Type 0 where
+pub record Fueled (o : Order) (label : Label) (b : ℕ) (s : List ℕ) (from p fuel : ℕ) : Type 0 where
   pub left : ℕ
   pub enough : length s < p + left
-  pub same : over headroom (see o b s (b + from) (R.next fuel (length s - from))) ≡ over headroom (see o b s (b + p) (R.next left (length s - p)))
+  pub same : over headroom (see o b s (b + from) (R.next label fuel (length s - from))) ≡ over headroom (see o b s (b + p) (R.next label left (length s - p)))
 
-module _ {o : Order} {b : ℕ} {s : List ℕ} {from p fuel : ℕ} (x : Fueled o b s from p fuel) (fit : p ≤ length s) where
+module _ {o : Order} {label : Label} {b : ℕ} {s : List ℕ} {from p fuel : ℕ} (x : Fueled o label b s from p fuel) (fit : p ≤ length s) where
   some-left : x .left ≡ suc (x .left - 1)
   some-left = omega (arith, x .enough)
 
-  pub fueled-stop : {n q : ℕ} → see o b s (b + p) (R.head (length s - p)) ≡ stops n q → over headroom (see o b s (b + from) (R.next fuel (length s - from))) ≡ stops n q
-  fueled-stop h = x .same ∙ rw some-left (next-stop o b (b + p) (length s - p) (x .left - 1) s h)
+  pub fueled-stop : {n q : ℕ} → see o b s (b + p) (R.head (length s - p)) ≡ stops n q → over headroom (see o b s (b + from) (R.next label fuel (length s - from))) ≡ stops n q
+  fueled-stop h = x .same ∙ rw some-left (next-stop o label b (b + p) (length s - p) (x .left - 1) s h)
 
   -- k: where the code's head says that it stands
   module _ {h : R.Head} {e : ℕ} (found : see o b s (b + p) (R.head (length s - p)) ≡ goes h e) (k : ℕ) (is : k ≡ p) where
-    pub fueled-done : R.makerCode (h .code) ≡ false → over headroom (see o b s (b + from) (R.next fuel (length s - from))) ≡ goes (record { head = h; room = length s - k }) e
-    fueled-done m = x .same ∙ rw (some-left, is) (next-done o b (b + p) (length s - p) (x .left - 1) s found m)
+    pub fueled-done : R.makerCode (h .code) ≡ false → over headroom (see o b s (b + from) (R.next label fuel (length s - from))) ≡ goes (record { head = h; room = length s - k }) e
+    fueled-done m = x .same ∙ rw (some-left, is) (next-done o label b (b + p) (length s - p) (x .left - 1) s found m)
 
-    pub fueled-refused : {n q : ℕ} → R.makerCode (h .code) ≡ true → see o b s e (R.admit (length s - k) 128 (leb 16) (λ _. true) h) ≡ stops n q → over headroom (see o b s (b + from) (R.next fuel (length s - from))) ≡ stops n q
-    fueled-refused m a = x .same ∙ rw some-left (next-refused o b (b + p) (length s - p) (x .left - 1) s found m (rw is at a))
+    pub fueled-refused : {n q : ℕ} → R.makerCode (h .code) ≡ true → see o b s e (R.admit (length s - k) (R.mostOf label) (leb 16) (λ _. true) h) ≡ stops n q → over headroom (see o b s (b + from) (R.next label fuel (length s - from))) ≡ stops n q
+    fueled-refused m a = x .same ∙ rw some-left (next-refused o label b (b + p) (length s - p) (x .left - 1) s found m (rw is at a))
 
-    pub fueled-more : R.makerCode (h .code) ≡ true → see o b s e (R.admit (length s - k) 128 (leb 16) (λ _. true) h) ≡ goes tt e →
-        (q : ℕ) → e ≡ b + (p + 16) → q ≡ p + R.span h → 16 ≤ R.span h → Fueled o b s from q fuel
+    pub fueled-more : R.makerCode (h .code) ≡ true → see o b s e (R.admit (length s - k) (R.mostOf label) (leb 16) (λ _. true) h) ≡ goes tt e →
+        (q : ℕ) → e ≡ b + (p + 16) → q ≡ p + R.span h → 16 ≤ R.span h → Fueled o label b s from q fuel
     fueled-more m a q d u v =
         let i : e + (R.span h - 16) ≡ b + q = omega arith in
         let j : length s - p - R.span h ≡ length s - q = omega arith in
-        record { left = x .left - 1; enough = omega (arith, x .enough); same = x .same ∙ ap (λ (n : ℕ). over headroom (see o b s (b + p) (R.next n (length s - p)))) some-left ∙ next-more o b (b + p) (length s - p) (x .left - 1) s found m (rw is at a) ∙ ap (λ (y : ℕ). over headroom (see o b s y (R.next (x .left - 1) (length s - p - R.span h)))) i ∙ ap (λ (y : ℕ). over headroom (see o b s (b + q) (R.next (x .left - 1) y))) j }
+        record { left = x .left - 1; enough = omega (arith, x .enough); same = x .same ∙ ap (λ (n : ℕ). over headroom (see o b s (b + p) (R.next label n (length s - p)))) some-left ∙ next-more o label b (b + p) (length s - p) (x .left - 1) s found m (rw is at a) ∙ ap (λ (y : ℕ). over headroom (see o b s y (R.next label (x .left - 1) (length s - p - R.span h)))) i ∙ ap (λ (y : ℕ). over headroom (see o b s (b + q) (R.next label (x .left - 1) y))) j }

@@ -5,7 +5,7 @@ use mathlib.Core.Bool.{Bool, true, false, _&&_}
 use mathlib.Core.List.{List, [], _∷_}
 use Prim.Native.Nat.{ℕ, _+_, _-_, _≤_}
 use native.Mathlib.Omega.{arith}
-use borrow.Author.Tests.{leb-true}
+use borrow.Author.Tests.{leb-true, le-leb}
 use lib.Dec.{leb, ltb, eqb}
 use Rattle.words.specs.declared.Order.{Order}
 use Rattle.walk.specs.See.{Verdict, stops, goes, gate, see}
@@ -39,13 +39,13 @@ module _ (o : Order) (b : ℕ) (s : List ℕ) where
   unfolding admit see tell _>>=_ _>>_
   tell-admit at room most fits serial h g = through _ _ _ _ _ _ g (λ g₁. through _ _ _ _ _ _ g₁ (λ g₂. through _ _ _ _ _ _ g₂ (λ _. refl)))
 
--- what an admitted head says; it is admitted with any serial
+-- what an admitted head says; it is admitted with any serial, and where a larger multiplier may stand
 pub record Passes (o : Order) (b : ℕ) (s : List ℕ) (at room most : ℕ) (fits serial : ℕ → Bool) (h : Head) (e : ℕ) : Type 0 where
   pub stays : e ≡ at
   pub length : fits (span h) ≡ true
   pub number : serial (h .serial) ≡ true
   pub inside : span h ≤ room
-  pub any : see o b s at (admit room most fits (λ _. true) h) ≡ goes tt at
+  pub any : (more : ℕ) → most ≤ more → see o b s at (admit room more fits (λ _. true) h) ≡ goes tt at
 
 pub admit-passed : (o : Order) (b : ℕ) (s : List ℕ) (at room most : ℕ) (fits serial : ℕ → Bool) (h : Head) {e : ℕ} →
     see o b s at (admit room most fits serial h) ≡ goes tt e → Passes o b s at room most fits serial h e
@@ -60,7 +60,7 @@ admit-passed o b s at room most fits serial h g =
       length = and-left (fits (span h)) _ y;
       number = g₃ .0;
       inside = leb-true (span h) room (and-right (fits (span h)) _ y);
-      any = simp (g₁ .0, g₂ .0, gate-true);
+      any = λ more l. simp (le-leb (h .multiplier) more (omega (arith, leb-true (h .multiplier) most (g₁ .0))), g₂ .0, gate-true);
     }
 
 -- what an admitted head says, and its row; then what stands behind the head

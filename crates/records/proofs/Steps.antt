@@ -17,7 +17,8 @@ use Rattle.walk.specs.See.{Yields, gate, ends, Verdict, stops, goes, Goes, see,
 use Rattle.walk.specs.Walk.{laid, Text, Walk, give, number, _>>=_, _>>_}
 use Rattle.walk.proofs.Laid.{laid-padding}
 use Rattle.walk.proofs.Seen.{yields-bind, yields-then, places, back, add-sub-add, eqb-add, then-gate, over-gate, over-goes, see-bind, then-skip, over-then, went, stopped, stays-goes, walks, see-read, over-give}
-use Rattle.rules.specs.Rules.{itemsBody, Head, head, admit, span, makerCode, next, zeros, padding, more, series, Item, item, itemSize, itemBytes, itemList, between, dated, daysIn, isMains, basicBody, Channel, width, samplesIn, samplesOf, sampleBytes, numberList, samples, coded, fixed, Sub, Group, anything, fieldIf, channelBody, channel, channels, frames, channelsBody, items}
+use Rattle.rules.specs.declared.Label.{Label}
+use Rattle.rules.specs.Rules.{mostOf, itemsBody, Head, head, admit, span, makerCode, next, zeros, padding, more, series, Item, item, itemSize, itemBytes, itemList, between, dated, daysIn, isMains, basicBody, Channel, width, samplesIn, samplesOf, sampleBytes, numberList, samples, coded, fixed, Sub, Group, anything, fieldIf, channelBody, channel, channels, frames, channelsBody, items}
 use Rattle.rules.proofs.Room.{stays-item, stays-itemList}
 use Rattle.records.specs.Says.{Kept, headroom}
 
@@ -262,24 +263,24 @@ module _ (o : Order) (b : ℕ) (s : List ℕ) where
       (λ l. rw (see-bind o b s (at + n * w) (samples t cs) (λ r. give (l ∷ r)))
       (then-skip (see o b s (at + n * w) (samples t cs)) (λ r e. see o b s e (give (l ∷ r))) (at + n * w + sampleBytes t cs) (goes tt (at + (n * w + sampleBytes t cs))) (ends-samples t cs (at + n * w)) (λ r. simp walks))))
 
-module _ (o : Order) (b at room f : ℕ) (s : List ℕ) where
-  pub next-stop : {n p : ℕ} → see o b s at (head room) ≡ stops n p → over headroom (see o b s at (next (suc f) room)) ≡ stops n p
+module _ (o : Order) (label : Label) (b at room f : ℕ) (s : List ℕ) where
+  pub next-stop : {n p : ℕ} → see o b s at (head room) ≡ stops n p → over headroom (see o b s at (next label (suc f) room)) ≡ stops n p
   unfolding next
   next-stop h = simp (walks, h)
 
   module _ {h : Head} {e : ℕ} (found : see o b s at (head room) ≡ goes h e) where
-    pub next-done : makerCode (h .code) ≡ false → over headroom (see o b s at (next (suc f) room)) ≡ goes (record { head = h; room = room }) e
+    pub next-done : makerCode (h .code) ≡ false → over headroom (see o b s at (next label (suc f) room)) ≡ goes (record { head = h; room = room }) e
     unfolding next
     next-done m = simp (walks, found, m)
 
-    pub next-refused : {n p : ℕ} → makerCode (h .code) ≡ true → see o b s e (admit room 128 (leb 16) (λ _. true) h) ≡ stops n p → over headroom (see o b s at (next (suc f) room)) ≡ stops n p
+    pub next-refused : {n p : ℕ} → makerCode (h .code) ≡ true → see o b s e (admit room (mostOf label) (leb 16) (λ _. true) h) ≡ stops n p → over headroom (see o b s at (next label (suc f) room)) ≡ stops n p
     unfolding next
     next-refused m a = simp (walks, found, m, a)
 
-    pub next-more : makerCode (h .code) ≡ true → see o b s e (admit room 128 (leb 16) (λ _. true) h) ≡ goes tt e →
-        over headroom (see o b s at (next (suc f) room)) ≡ over headroom (see o b s (e + (span h - 16)) (next f (room - span h)))
+    pub next-more : makerCode (h .code) ≡ true → see o b s e (admit room (mostOf label) (leb 16) (λ _. true) h) ≡ goes tt e →
+        over headroom (see o b s at (next label (suc f) room)) ≡ over headroom (see o b s (e + (span h - 16)) (next label f (room - span h)))
     unfolding next
-    next-more m a = simp (walks, found, m, a) (over-give headroom (more _) (see o b s (e + (span h - 16)) (next f (room - span h))))
+    next-more m a = simp (walks, found, m, a) (over-give headroom (more _) (see o b s (e + (span h - 16)) (next label f (room - span h))))
 
 -- the rest of a record whose head is read: it is admitted, and the body follows
 pub channels-split : (g : Group) (room : ℕ) (h : Head) → channels g room h ≡ (admit room 0 (leb 32) (eqb 0) h >> channelsBody g (span h))

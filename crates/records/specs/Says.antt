@@ -11,6 +11,7 @@ use Rattle.walk.specs.Walk.{pick, Walk, give, _>>=_, _>>_}
 use Rattle.walk.specs.See.{Verdict, stops, goes, gate, see, over, ends}
 use Rattle.rules.specs.declared.Refusal.{Refusal}
 use Rattle.rules.specs.Rules as R
+use Rattle.rules.specs.declared.Label.{Label}
 use Rattle.rules.specs.declared.Head.{Head}
 use Rattle.rules.specs.declared.Group.{Group}
 use Rattle.rules.specs.declared.Group.the-variants as Group
@@ -58,8 +59,8 @@ Kept o s p (c ∷ cs) = (c .flags ≡ numberAt o 4 s (p + 20)) × (c .format ≡
 
 -- the records that hold subs, as the rules have them
 abbrev pub groupOf : Group → R.Group
-groupOf (Group.Channels n) = R.channelGroup n
-groupOf (Group.Electrodes n) = R.electrodeGroup n
+groupOf (Group.Channels v n) = R.channelGroup v n
+groupOf (Group.Electrodes v n) = R.electrodeGroup v n
 groupOf (Group.Montage n) = R.montageGroup n
 
 -- what the code of such a record tells of its subs: that it holds any, their code, and which fields they have
@@ -146,32 +147,32 @@ serialOf (Serial.Is i) = eqb i
 abbrev pub asRule : Rule → R.Rule
 asRule r = record { code = codesOf (r .code); most = r .most; fits = fitsOf (r .fits); serial = serialOf (r .serial) }
 
--- a maker's rule, with these codes
-abbrev pub loose : (ℕ → Bool) → R.Rule
-loose codes = record { code = codes; most = 128; fits = λ _. leb 16; serial = λ _. true }
+-- a maker's rule, with these codes and this largest multiplier
+abbrev pub loose : (ℕ → Bool) → ℕ → R.Rule
+loose codes most = record { code = codes; most = most; fits = λ _. leb 16; serial = λ _. true }
 
 -- the rule of each kind
 abbrev pub ruleOf : Kind → R.Rule
-ruleOf (Kind.Recording i) = R.recordingRule i
+ruleOf (Kind.Recording label i) = R.recordingRule label i
 ruleOf Kind.Basic = R.basicRule
 ruleOf (Kind.Channels code) = R.channelsRule code
 ruleOf (Kind.Channel code i) = R.channelRule code i
 ruleOf (Kind.Items code) = R.itemsRule code
-ruleOf Kind.Frames = R.framesRule
-ruleOf (Kind.Frame size filled i) = R.frameRule size filled i
-ruleOf Kind.Maker = R.makerRule
+ruleOf (Kind.Frames label) = R.framesRule label
+ruleOf (Kind.Frame label size filled i) = R.frameRule label size filled i
+ruleOf (Kind.Maker label) = R.makerRule label
 ruleOf Kind.Any = R.anyRule
 
 -- what a record of each kind measures
 abbrev pub Spans : Kind → ℕ → Type 0
-Spans (Kind.Recording i) n = 16 ≤ n
+Spans (Kind.Recording label i) n = 16 ≤ n
 Spans Kind.Basic n = n ≡ 128
 Spans (Kind.Channels code) n = 32 ≤ n
 Spans (Kind.Channel code i) n = n ≡ 256
 Spans (Kind.Items code) n = 24 ≤ n
-Spans Kind.Frames n = 32 ≤ n
-Spans (Kind.Frame size filled i) n = n ≡ size
-Spans Kind.Maker n = 16 ≤ n
+Spans (Kind.Frames label) n = 32 ≤ n
+Spans (Kind.Frame label size filled i) n = n ≡ size
+Spans (Kind.Maker label) n = 16 ≤ n
 Spans Kind.Any n = 16 ≤ n
 
 -- a step goes on at byte q of a part that stands at `base`, or stops
@@ -289,8 +290,8 @@ pub record HeadAt (o : Order) (base : ℕ) (s : List ℕ) (p : ℕ) (a : Headed)
   pub stands : HeadPlaced p (length s) a
 
 -- the head of the first record from byte `from` on that is no maker's own
-pub record NextHead (o : Order) (base : ℕ) (s : List ℕ) (from : ℕ) (a : Headed) : Type 0 where
-  pub seen : (fuel : ℕ) → length s < from + fuel → over headroom (see o base s (base + from) (R.next fuel (length s - from))) ≡ nexted base (length s) a
+pub record NextHead (o : Order) (label : Label) (base : ℕ) (s : List ℕ) (from : ℕ) (a : Headed) : Type 0 where
+  pub seen : (fuel : ℕ) → length s < from + fuel → over headroom (see o base s (base + from) (R.next label fuel (length s - from))) ≡ nexted base (length s) a
   pub stands : HeadFound from (length s) a
 
 -- a head, admitted by its kind's rule in a part of n bytes. The walk reads nothing, so it is the same over any bytes

@@ -29,6 +29,8 @@ use rules::Montage;
 use rules::MontageChannel;
 use rules::Refusal;
 use rules::Shape;
+use rules::Version;
+use versions::allows;
 use words::Order;
 use words::number4;
 
@@ -71,8 +73,8 @@ pub fn group_code(g: Group) -> u32
     ensures { λ r. ⌜ r ≡ groupOf g .code ⌝ }
 {
     match g {
-        Group::Channels(_) => Channels::CODE,
-        Group::Electrodes(_) => Electrodes::CODE,
+        Group::Channels(_, _) => Channels::CODE,
+        Group::Electrodes(_, _) => Electrodes::CODE,
         Group::Montage(_) => Montage::CODE,
     }
 }
@@ -82,8 +84,8 @@ fn counts_ok(g: Group, m: u32) -> bool
     ensures { λ r. ⌜ r ≡ groupOf g .counts m ⌝ }
 {
     match g {
-        Group::Channels(n) => m == n,
-        Group::Electrodes(n) => m == n,
+        Group::Channels(_, n) => m == n,
+        Group::Electrodes(_, n) => m == n,
         Group::Montage(_electrodes) => true,
     }
 }
@@ -93,28 +95,29 @@ fn number_ok(g: Group, n: u32) -> bool
     ensures { λ r. ⌜ r ≡ groupOf g .sub .number n ⌝ }
 {
     match g {
-        Group::Channels(_) => true,
-        Group::Electrodes(_) => n < Head::LIMIT,
+        Group::Channels(_, _) => true,
+        Group::Electrodes(_, _) => n < Head::LIMIT,
         Group::Montage(_) => true,
     }
 }
 
-fn is_type(n: u32) -> bool
-    ensures { λ r. ⌜ r ≡ R.isType n ⌝ }
+fn is_type(v: Version, n: u32) -> bool
+    ensures { λ r. ⌜ r ≡ R.isType v n ⌝ }
 {
-    if n <= 18 {
-        return true;
+    if n == 20 {
+        let allowed = allows(v);
+        return allowed.twenty;
     }
-    n == 20
+    n <= 18
 }
 
 fn type_ok(g: Group, n: u32) -> bool
     ensures { λ r. ⌜ r ≡ groupOf g .sub .type n ⌝ }
 {
     match g {
-        Group::Channels(_) => is_type(n),
-        Group::Electrodes(_) => {
-            if is_type(n) {
+        Group::Channels(v, _) => is_type(v, n),
+        Group::Electrodes(v, _) => {
+            if is_type(v, n) {
                 return true;
             }
             n == Electrode::TYPE
@@ -123,12 +126,19 @@ fn type_ok(g: Group, n: u32) -> bool
     }
 }
 
+fn is_format(v: Version, n: u32) -> bool
+    ensures { λ r. ⌜ r ≡ R.between 1 (R.allows v .format) n ⌝ }
+{
+    let allowed = allows(v);
+    between(Channel::SHORTS, allowed.format, n)
+}
+
 fn format_ok(g: Group, n: u32) -> bool
     ensures { λ r. ⌜ r ≡ groupOf g .sub .format n ⌝ }
 {
     match g {
-        Group::Channels(_) => between(Channel::SHORTS, Channel::FLOATS, n),
-        Group::Electrodes(_) => between(Channel::SHORTS, Channel::FLOATS, n),
+        Group::Channels(v, _) => is_format(v, n),
+        Group::Electrodes(v, _) => is_format(v, n),
         Group::Montage(_) => true,
     }
 }
@@ -149,8 +159,8 @@ fn rate_ok(g: Group, flags: u32, kind: u32, rate: u32) -> bool
     ensures { λ r. ⌜ r ≡ groupOf g .sub .rate flags kind rate ⌝ }
 {
     match g {
-        Group::Channels(_) => is_rate(flags, kind, rate),
-        Group::Electrodes(_) => is_rate(flags, kind, rate),
+        Group::Channels(_, _) => is_rate(flags, kind, rate),
+        Group::Electrodes(_, _) => is_rate(flags, kind, rate),
         Group::Montage(_) => true,
     }
 }

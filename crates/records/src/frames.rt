@@ -19,6 +19,7 @@ use crate::stops_at;
 use rules::Frame;
 use rules::Head;
 use rules::Kind;
+use rules::Label;
 use rules::Refusal;
 use words::Order;
 
@@ -42,12 +43,21 @@ fn frame_body(o: Order, s: &[u8], at: usize, filled: usize) -> Tested
 }
 
 // The record 145 at byte p of the part s, with the serial i, the length `size`, and samples that end at byte `filled` of it: where it stops.
-fn frame_at(o: Order, s: &[u8], base: usize, p: usize, i: u32, size: usize, filled: usize) -> Step
+fn frame_at(
+    o: Order,
+    label: Label,
+    s: &[u8],
+    base: usize,
+    p: usize,
+    i: u32,
+    size: usize,
+    filled: usize,
+) -> Step
     requires { ⌜ FilledFrames base (now s) p size filled ⌝ }
     ensures { λ a. ⌜ FramesOver o base (now (s .entry)) p filled
-        (λ t cs. R.frame size t cs (length (now (s .entry)) - p) i) (Advances p size (length (now (s .entry)))) a ⌝ }
+        (λ t cs. R.frame label size t cs (length (now (s .entry)) - p) i) (Advances p size (length (now (s .entry)))) a ⌝ }
 {
-    let opened = open(o, s, base, p, Kind::Frame(size, filled, i));
+    let opened = open(o, s, base, p, Kind::Frame(label, size, filled, i));
     let Opened::On(_, end) = opened else {
         return Step::Stop(of_open(opened));
     };
@@ -58,6 +68,7 @@ fn frame_at(o: Order, s: &[u8], base: usize, p: usize, i: u32, size: usize, fill
 // So many records 145 from byte `from` of the part s on: where they end.
 pub fn frames_from(
     o: Order,
+    label: Label,
     s: &[u8],
     base: usize,
     from: usize,
@@ -67,12 +78,12 @@ pub fn frames_from(
 ) -> Step
     requires { ⌜ FilledFrames base (now s) from size filled ⌝ }
     ensures { λ a. ⌜ FramesOver o base (now (s .entry)) from filled
-        (λ t cs. R.series count 1 size (length (now (s .entry)) - from) (R.frame size t cs)) (Advances from (size * count) (length (now (s .entry)))) a ⌝ }
+        (λ t cs. R.series count 1 size (length (now (s .entry)) - from) (R.frame label size t cs)) (Advances from (size * count) (length (now (s .entry)))) a ⌝ }
 {
     let mut p = from;
     let mut i: u32 = 0;
     while i < count {
-        let step = frame_at(o, s, base, p, i + 1, size, filled);
+        let step = frame_at(o, label, s, base, p, i + 1, size, filled);
         let Step::On(next) = step else {
             return step;
         };

@@ -28,6 +28,7 @@ use rules::Kind;
 use rules::Maker;
 use rules::Recording;
 use rules::Refusal;
+use versions::most_of;
 use words::Order;
 
 // The rule on a record's code.
@@ -114,12 +115,12 @@ fn least_rule(length: usize, code: u32, most: u32, serial: u32) -> Rule
 }
 
 // A maker's rule, but for the code: any record but the delimiter meets it.
-fn loose_rule(code: Code) -> Rule
-    ensures { λ r. ⌜ asRule r ≡ loose (codesOf code) ⌝ }
+fn loose_rule(code: Code, most: u32) -> Rule
+    ensures { λ r. ⌜ asRule r ≡ loose (codesOf code) most ⌝ }
 {
     Rule {
         code,
-        most: Head::MOST,
+        most,
         fits: Fits::AtLeast(Maker::LEAST),
         serial: Serial::Any,
     }
@@ -130,20 +131,22 @@ fn rule_of(kind: Kind) -> Rule
     ensures { λ r. ⌜ asRule r ≡ ruleOf kind ⌝ }
 {
     match kind {
-        Kind::Recording(i) => least_rule(Recording::LEAST, Recording::CODE, Head::MOST, i),
+        Kind::Recording(label, i) => {
+            least_rule(Recording::LEAST, Recording::CODE, most_of(label), i)
+        }
         Kind::Basic => exact_rule(Basic::LENGTH, Basic::CODE, 0),
         Kind::Channels(code) => least_rule(Channels::LEAST, code, 0, 0),
         Kind::Channel(code, i) => exact_rule(Channel::LENGTH, code, i),
         Kind::Items(code) => least_rule(Items::LEAST, code, 0, 0),
-        Kind::Frames => least_rule(Frames::LEAST, Frames::CODE, Head::MOST, 0),
-        Kind::Frame(size, filled, i) => Rule {
+        Kind::Frames(label) => least_rule(Frames::LEAST, Frames::CODE, most_of(label), 0),
+        Kind::Frame(label, size, filled, i) => Rule {
             code: Code::Is(Frame::CODE),
-            most: Head::MOST,
+            most: most_of(label),
             fits: Fits::Frame(size, filled),
             serial: Serial::Is(i),
         },
-        Kind::Maker => loose_rule(Code::Makers),
-        Kind::Any => loose_rule(Code::Any),
+        Kind::Maker(label) => loose_rule(Code::Makers, most_of(label)),
+        Kind::Any => loose_rule(Code::Any, Head::MOST),
     }
 }
 

@@ -10,6 +10,7 @@ use crate::kinds::admit;
 use crate::of_step;
 use rules::Head;
 use rules::Kind;
+use rules::Label;
 use rules::Maker;
 use words::Order;
 
@@ -23,9 +24,9 @@ pub fn maker_code(n: u32) -> bool
 }
 
 // The head of the first record from byte `from` on that is no maker's own.
-pub fn next_head(o: Order, s: &[u8], base: usize, from: usize) -> Headed
+pub fn next_head(o: Order, label: Label, s: &[u8], base: usize, from: usize) -> Headed
     requires { ⌜ PartAt base (now s) from ⌝ }
-    ensures { λ a. ⌜ NextHead o base (now (s .entry)) from a ⌝ }
+    ensures { λ a. ⌜ NextHead o label base (now (s .entry)) from a ⌝ }
 {
     let mut p = from;
     loop {
@@ -36,7 +37,7 @@ pub fn next_head(o: Order, s: &[u8], base: usize, from: usize) -> Headed
         if !maker_code(h.code) {
             return found;
         }
-        let room = admit(h, base, s.len(), Kind::Maker);
+        let room = admit(h, base, s.len(), Kind::Maker(label));
         let Step::On(end) = room else {
             return Headed::Stop(of_step(room));
         };

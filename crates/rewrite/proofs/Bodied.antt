@@ -22,7 +22,7 @@ use Rattle.walk.proofs.Tracing.{render-append, written-none}
 use Rattle.walk.proofs.Went.{goes-same}
 use Rattle.rules.specs.Canonical.{numerals, framesHead, framesWritten, makerEvents, delimiterEvents, content, recordingHead}
 use Rattle.rules.specs.declared.Label.{Label}
-use Rattle.rules.specs.Rules.{Head, Next, head, span, framesBody, frames, next, Recording, Placed, descriptions}
+use Rattle.rules.specs.Rules.{mostOf, Head, Next, head, span, framesBody, frames, next, Recording, Placed, descriptions}
 use Rattle.rules.specs.declared.Channels.{Channels}
 use Rattle.rules.specs.declared.Head as At
 use Rattle.rules.proofs.Renew.{record-size}
@@ -78,13 +78,13 @@ delimiter-bytes Big = refl
 whole : {o : Order} {label : Label} {b : ℕ} {s : List ℕ} {x : Placed} (v : Accepted o label b s x) → (32 ≤ span (v .top)) × (v .at + span (v .top) ≤ length s)
 unfolding frames
 whole {o} {label} {b} {s} {x} v =
-    let d = admit-went o b s (b + (v .at + 16)) (length s - v .at) 128 (leb 32) (eqb 0) (v .top) (require (v .own || eqb (length (x .recording .channels)) (v .before .basic .channels)) 14 (v .back) >> framesBody (v .before .basic) (x .recording .channels) (v .top)) (v .went) in
+    let d = admit-went o b s (b + (v .at + 16)) (length s - v .at) (mostOf label) (leb 32) (eqb 0) (v .top) (require (v .own || eqb (length (x .recording .channels)) (v .before .basic .channels)) 14 (v .back) >> framesBody label (v .before .basic) (x .recording .channels) (v .top)) (v .went) in
     (leb-true 32 (span (v .top)) (d .length), omega (arith, d .inside, v .inside))
 
 -- a body that the walk accepted, where reserve is cleared: all that is written of it is the canonical content
 module _ (w : Way) {b : ℕ} {s : List ℕ} {x : Placed} (v : Accepted (w .from) (w .label) b s x) (bytes : Bytes s) (clear : w .keep ≡ false) where
   abbrev known : Known
-  known = record { basic = v .before .basic; own = v .own; channels = x .recording .channels; back = v .back }
+  known = record { label = w .label; basic = v .before .basic; own = v .own; channels = x .recording .channels; back = v .back }
 
   anew-bare : {A : Type 0} (at : ℕ) (u : Walk A) → anew w (said (w .from) b s at u) ≡ render (w .to) (bare (w .from) b s at u)
   unfolding said
@@ -102,21 +102,21 @@ module _ (w : Way) {b : ℕ} {s : List ℕ} {x : Placed} (v : Accepted (w .from)
       (onto (w .from) b s known _++_ (Renews w b s (x .recording)) (Closes w b s) (anew w) ys (λ l m. rw (anew-then w l m) (append-assoc (anew w l) (anew w m) ys)) (rw (written-none (w .keep) (w .to))) (λ p h l i. other (i .inner) (i .other) refl) later (d .links))
 
   -- the makers' records behind the 140
-  left-bare : bare (w .from) b s (b + (v .at + span (v .top))) (next (v .fuel) (length s - (v .at + span (v .top)))) ≡ makerEvents (v .after .makers) ++ numerals (v .after .head)
+  left-bare : bare (w .from) b s (b + (v .at + span (v .top))) (next (w .label) (v .fuel) (length s - (v .at + span (v .top)))) ≡ makerEvents (v .after .makers) ++ numerals (v .after .head)
   left-bare =
       let q : ℕ = v .at + span (v .top) in
       let i : b + length s - (b + q) ≡ length s - q = omega arith in
-      rw i at (next-bare (w .from) b s bytes (v .fuel) (b + q) {n = v .after} {e = v .end} (omega arith) (omega (arith, whole v .1)) (omega (arith, v .enough)) (rw i (v .behind)))
+      rw i at (next-bare (w .from) b s bytes (w .label) (v .fuel) (b + q) {n = v .after} {e = v .end} (omega arith) (omega (arith, whole v .1)) (omega (arith, v .enough)) (rw i (v .behind)))
 
   pub renewal : Renewal w b s (x .recording) 0 (render (w .to) (content (w .label) (x .recording)))
   renewal =
       let o : Order = w .to in
       let q : ℕ = v .at + span (v .top) in
-      let d₁ = tables-leads (w .from) b s known (w .label) (v .held) (16 + length s) refl (v .begins) in
+      let d₁ = tables-leads (w .from) b s known (v .held) (16 + length s) refl (v .begins) in
       let d₂ = next-leads (w .from) b s known (v .fuel) q (v .after) (v .end) (whole v .1) (v .behind) in
       let i : v .at ≡ d₁ .to = omega (arith, d₁ .end) in
       let z : List ℕ = render o delimiterEvents in
-      let c₂ = leads-written q (b + q) (next (v .fuel) (length s - q)) d₂ (makerEvents (v .after .makers)) left-bare z
+      let c₂ = leads-written q (b + q) (next (w .label) (v .fuel) (length s - q)) d₂ (makerEvents (v .after .makers)) left-bare z
       (last (record { head = v .after .head; stands = d₂ .stands .heads; code = ap (λ (h : Head). h .code) (v .closes); is = delimiter-bytes o })) in
       let c₁ : Renewal w b s (x .recording) (v .at) (render o (signalsEvents (x .recording)) ++ (render o (makerEvents (v .after .makers)) ++ z)) =
       more (v .top) _ _ (v .stands) (signals (is140 (v .code) (record { value = v .value; end = _; is = v .went; says = refl })) (v .code) refl) c₂ refl in
@@ -137,7 +137,7 @@ module _ (w : Way) {b : ℕ} {s : List ℕ} {x : Placed} (v : Accepted (w .from)
   ends : f .end ≤ length s
   ends = omega (arith, whole v .1, stop, same-at)
 
-  in-signals : see (w .from) (b + f .at + 16) (signalsIn s f) (b + f .at + 16) (framesBody (v .before .basic) (x .recording .channels) (v .top)) ≡ goes (v .value) (b + f .end)
+  in-signals : see (w .from) (b + f .at + 16) (signalsIn s f) (b + f .at + 16) (framesBody (w .label) (v .before .basic) (x .recording .channels) (v .top)) ≡ goes (v .value) (b + f .end)
   in-signals = in-body v (f .at) (is .at) (record { at = f .at; size = v .top .size; code = v .top .code; serial = v .top .serial; multiplier = v .top .multiplier }) found refl (f .end) stop ends (whole v .0)
 
   fills : span (v .top) ≡ 16 + length (signalsIn s f)

@@ -65,9 +65,9 @@ module _ {o : Order} {label : Label} {s : List ℕ} {p i : ℕ} {before : Before
   events-more = let m : 1 + length done ≡ i + 1 = omega arith in rw m at (events-last label 1 done x)
 
   -- the file header and the recordings that are passed are counted
-  pub counted-next : {sum : ℕ} (m : ℕ) (a : Measured) → MeasuredAt o s p q a → m ≡ lengthIn a → sum ≡ lengthAnew label done → sum + m ≡ lengthAnew label (done ++ (x ∷ []))
+  pub counted-next : {sum : ℕ} (m : ℕ) (a : Measured) → MeasuredAt o label s p q a → m ≡ lengthIn a → sum ≡ lengthAnew label done → sum + m ≡ lengthAnew label (done ++ (x ∷ []))
   counted-next m a g e h =
-      let z : lengthIn a ≡ size (eventsOne label (i + 1) x) = given-size label a (i + 1) x (g .told label held (i + 1) x (accepted n)) in
+      let z : lengthIn a ≡ size (eventsOne label (i + 1) x) = given-size label a (i + 1) x (g .told held (i + 1) x (accepted n)) in
       omega (arith, h, e, z, ap size events-more, size-append (eventsOf label 1 done) (eventsOne label (i + 1) x))
 
   -- and stand behind the header

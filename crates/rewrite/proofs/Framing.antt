@@ -21,7 +21,8 @@ use Rattle.walk.proofs.Seen.{part-bytes, stays-goes, and-left}
 use Rattle.walk.proofs.Tracing.{render-append}
 use Rattle.walk.proofs.Went.{gate-went, went-first, goes-same}
 use Rattle.rules.specs.Canonical.{blanks, zeroes, numerals, rowOf, plainHead, recordOf, sampleEvents, frameWritten, frameSize, frameEvents, framesBytes, framesHead, framesWritten}
-use Rattle.rules.specs.Rules.{Head, head, span, admit, coded, between, padOk, padding, series, Basic, Channel, width, samplesIn, sampleBytes, numberList, samples, Frame, frameBody, frame, Frames, framesBody}
+use Rattle.rules.specs.declared.Label.{Label}
+use Rattle.rules.specs.Rules.{mostOf, Head, head, span, admit, coded, between, padOk, padding, series, Basic, Channel, width, samplesIn, sampleBytes, numberList, samples, Frame, frameBody, frame, Frames, framesBody}
 use Rattle.rules.specs.declared.Channels.{Channels}
 use Rattle.rules.proofs.Room.{stays-frame}
 use Rattle.records.specs.Says.{ChannelsStand}
@@ -134,7 +135,7 @@ gives-padded : {A : Type 0} (o : Order) (b : ℕ) (s : List ℕ) (at n : ℕ) (a
 unfolding see _>>_
 gives-padded o b s at n a g = sym (goes-same (went-first o b s at (padding n) (λ _. give a) g .kept) .0)
 
-module _ (o : Order) (b : ℕ) (s : List ℕ) (t : ℕ) (ch : List Channel) where
+module _ (o : Order) (label : Label) (b : ℕ) (s : List ℕ) (t : ℕ) (ch : List Channel) where
   -- what the walk over a frame's body gives
   record BodyIn (q : ℕ) (f : Frame) : Type 0 where
     hour : f .hour ≡ numberAt o 2 s q
@@ -159,14 +160,14 @@ module _ (o : Order) (b : ℕ) (s : List ℕ) (t : ℕ) (ch : List Channel) wher
       record { hour = ap (λ (z : Frame). z .hour) i; minute = ap (λ (z : Frame). z .minute) i; second = ap (λ (z : Frame). z .second) i; channels = ap (λ (z : Frame). z .channels) i }
 
   module _ (filled size : ℕ) (is : filled ≡ 24 + sampleBytes t ch) (fits : filled ≤ size) where
-    frame-in : (p room i : ℕ) {f : Frame} {e : ℕ} → p + room ≤ length s → see o b s (b + p) (frame size t ch room i) ≡ goes f e → FrameIn o t ch (take filled (drop p s)) f
+    frame-in : (p room i : ℕ) {f : Frame} {e : ℕ} → p + room ≤ length s → see o b s (b + p) (frame label size t ch room i) ≡ goes f e → FrameIn o t ch (take filled (drop p s)) f
     unfolding frame
     frame-in p room i l g =
         let ok : Head → ℕ → Bool = λ h n. eqb n size && padOk h (n - (24 + sampleBytes t ch)) in
-        let x = went-first o b s (b + p) (head room) (λ h. coded h 145 >> (admit room 128 (ok h) (eqb i) h >> frameBody size t ch)) g in
+        let x = went-first o b s (b + p) (head room) (λ h. coded h 145 >> (admit room (mostOf label) (ok h) (eqb i) h >> frameBody size t ch)) g in
         let h : Head = x .value in
-        let c = require-went o b s (x .end) (eqb (h .code) 145) 9 12 (admit room 128 (ok h) (eqb i) h >> frameBody size t ch) (x .kept) in
-        let d = admit-went o b s (x .end) room 128 (ok h) (eqb i) h (frameBody size t ch) (c .1) in
+        let c = require-went o b s (x .end) (eqb (h .code) 145) 9 12 (admit room (mostOf label) (ok h) (eqb i) h >> frameBody size t ch) (x .kept) in
+        let d = admit-went o b s (x .end) room (mostOf label) (ok h) (eqb i) h (frameBody size t ch) (c .1) in
         let j : x .end ≡ b + (p + 16) = head-went o b s (b + p) room (x .is) ∙ omega arith in
         let y = body-in size (p + 16) (rw j at (d .rest)) in
         let z : span h ≡ size = eqb-true (span h) size (and-left (eqb (span h) size) _ (d .length)) in
@@ -179,13 +180,13 @@ module _ (o : Order) (b : ℕ) (s : List ℕ) (t : ℕ) (ch : List Channel) wher
           samples = λ c. sees-samples o c (take filled (drop p s)) t ch 24 ∙ rw (n, part-samples o s p filled t ch 24 (omega arith), y .channels, a, is);
         }
 
-    frames-in : (n i room p : ℕ) {fs : List Frame} {e : ℕ} → p + room ≤ length s → see o b s (b + p) (series n i size room (frame size t ch)) ≡ goes fs e → (length fs ≡ n) × FramesIn o t ch filled size s p fs
+    frames-in : (n i room p : ℕ) {fs : List Frame} {e : ℕ} → p + room ≤ length s → see o b s (b + p) (series n i size room (frame label size t ch)) ≡ goes fs e → (length fs ≡ n) × FramesIn o t ch filled size s p fs
     unfolding series see
     frames-in zero i room p l g = rw (← goes-same g .0) (refl, tt)
     frames-in (suc n) i room p l g =
-        let v : Walk (List Frame) = series n (suc i) size (room - size) (frame size t ch) in
-        let x = went-first o b s (b + p) (frame size t ch room i) (λ a. v >>= λ r. give (a ∷ r)) g in
-        let z : (x .end ≡ b + p + size) × (x .end ≤ b + p + room) = stays-goes o b s (b + p + room) (omega arith) (frame size t ch room i) (b + p) _ (omega arith) (stays-frame size t ch (omega arith) i (b + p) room) (x .is) in
+        let v : Walk (List Frame) = series n (suc i) size (room - size) (frame label size t ch) in
+        let x = went-first o b s (b + p) (frame label size t ch room i) (λ a. v >>= λ r. give (a ∷ r)) g in
+        let z : (x .end ≡ b + p + size) × (x .end ≤ b + p + room) = stays-goes o b s (b + p + room) (omega arith) (frame label size t ch room i) (b + p) _ (omega arith) (stays-frame label size t ch (omega arith) i (b + p) room) (x .is) in
         let y = went-first o b s (x .end) v (λ r. give (x .value ∷ r)) (x .kept) in
         let j : x .end ≡ b + (p + size) = omega (arith, z .0) in
         let r = frames-in n (suc i) (room - size) (p + size) (omega (arith, z .0, z .1)) (ap (λ (q : ℕ). see o b s q v) (sym j) ∙ y .is) in
@@ -193,14 +194,14 @@ module _ (o : Order) (b : ℕ) (s : List ℕ) (t : ℕ) (ch : List Channel) wher
 
   -- the body of a 140 whose three numbers are known, in a part that it fills
   frames-stand : (filled size count : ℕ) (c : Basic) (hd : Head) (f : Frames) (e : ℕ) → filled ≡ 24 + sampleBytes t ch → FramesSay o s t size count → span hd ≡ 16 + length s →
-      see o b s b (framesBody c ch hd) ≡ goes f e → (length (f .frames) ≡ count) × FramesIn o t ch filled size s 16 (f .frames)
+      see o b s b (framesBody label c ch hd) ≡ goes f e → (length (f .frames) ≡ count) × FramesIn o t ch filled size s 16 (f .frames)
   unfolding framesBody between see _>>=_ _>>_
   frames-stand filled size count c hd f e i says whole g =
       let z₀ : b - b ≡ 0 = omega arith in
       let z₁ : b + 4 - b ≡ 4 = omega arith in
       let z₂ : b + 4 + 4 - b ≡ 8 = omega arith in
       let z₃ : b + 4 + 4 + 4 + 4 ≡ b + 16 = omega arith in
-      let v : Walk (List Frame) = series count 1 size (span hd - 32) (frame size t ch) in
+      let v : Walk (List Frame) = series count 1 size (span hd - 32) (frame label size t ch) in
       let made : List Frame → Frames = λ fs. record { seconds = t; frames = fs; size = size; padded = count * (size - (24 + sampleBytes t ch)) + (span hd - (32 + count * size)) } in
       let g₁ = gate-went _ _ _ _ (rw (z₀, z₁, z₂, z₃, says .seconds, says .size, says .count) at g) in
       let g₂ = gate-went _ _ _ _ (g₁ .1) in
@@ -309,7 +310,7 @@ module _ (w : Way) (file : List ℕ) (cs : Channels) (t filled size count : ℕ)
         length d₀ ≡ n → FramesAnew w file s d₀ (put k (length d - k) d zs) cs t filled size count
     unfolding framesWritten
     framing-end d₀ zs g l h long clear b c ch hd f e here is says whole went z =
-        let y = frames-stand (w .from) b s t ch filled size count c hd f e is says whole went in
+        let y = frames-stand (w .from) (w .label) b s t ch filled size count c hd f e is says whole went in
         let x = q .left ch (f .frames) clear here is (y .0) (y .1) in
         let u = all-there ch (render (w .to) (opened t ch (f .frames))) (x .rest) (x .many) g (x .is) in
         let v : length (f .frames) * frameSize t ch ≡ filled * i = rw (y .0, ← is, u .0) (mul-comm count filled) in

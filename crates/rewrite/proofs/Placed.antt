@@ -81,12 +81,12 @@ room-behind d k n f g = body-length k (k + n) d (omega arith) g ∙ omega arith
 
 -- the recording from byte p of the file on, of the measure f: the code wrote its head, and its body as a part of the file
 module _ (w : Way) (file : List ℕ) (p i : ℕ) (q : Places) (f : Measure) where
-  pub recording-written : (out ys zs : List ℕ) (k n m : ℕ) → n ≡ 16 → 16 + m ≡ f .whole .length → k ≤ length out → MeasuredAt (w .from) file p q (Measured.On f) →
+  pub recording-written : (out ys zs : List ℕ) (k n m : ℕ) → n ≡ 16 → 16 + m ≡ f .whole .length → k ≤ length out → MeasuredAt (w .from) (w .label) file p q (Measured.On f) →
       ys ≡ render (w .to) (C.numerals (record { size = f .whole .size; code = 10; serial = i; multiplier = f .whole .multiplier })) →
       BodyAnew w file (bodyIn file p q) zs (subsAt (q .channels) (q .count)) f (p + 16) →
       w .keep ≡ false → (held : Option R.Held) (x : R.Placed) → AcceptedAt (w .from) (w .label) file p i q held x →
       Pastes out (put (k + 16) m (put k n out ys) zs) k (k + f .whole .length) (render (w .to) (C.recordingEvents (w .label) i (x .recording ∷ [])))
   recording-written out ys zs k n m e₁ e₂ l t first later clear held x y =
       let v = within (w .from) (w .label) file p (q .end) held i (y .went) in
-      let s = t .told (w .label) held i x y in
+      let s = t .told held i x y in
       recording-placed (w .to) (w .label) i (x .recording) (f .whole) (s .whole) out ys zs k n m e₁ e₂ l first (later x (record { clear = clear; head = v .top; held = held; end = q .end; fills = v .fills; went = v .body; channels = y .channels; reads = t .reads; is = s }))

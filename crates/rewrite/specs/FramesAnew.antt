@@ -49,7 +49,7 @@ abbrev pub FramesAnew : Way → List ℕ → List ℕ → List ℕ → List ℕ 
 FramesAnew w file s d d′ cs t filled size count =
     w .keep ≡ false → (b : ℕ) (c : R.Basic) (ch : List R.Channel) (hd : R.Head) (f : R.Frames) (e : ℕ) → ChannelsStand (w .from) file cs ch →
     filled ≡ 24 + R.sampleBytes t ch → FramesSay (w .from) s t size count → R.span hd ≡ 16 + length s →
-    see (w .from) b s b (R.framesBody c ch hd) ≡ goes f e → 16 + length d ≡ R.span (C.framesHead t ch (f .frames)) →
+    see (w .from) b s b (R.framesBody (w .label) c ch hd) ≡ goes f e → 16 + length d ≡ R.span (C.framesHead t ch (f .frames)) →
     d′ ≡ render (w .to) (C.framesWritten t ch (f .frames))
 
 -- where the walk accepts the body s of a recording, which stands at `base`, as x, and f is its measure

@@ -48,12 +48,12 @@ abbrev pub bodyIn : List ℕ → ℕ → Places → List ℕ
 bodyIn file p q = take (q .end - (p + 16)) (drop (p + 16) file)
 
 -- what `measure_at` answers of it
-pub record MeasuredAt (o : Order) (file : List ℕ) (p : ℕ) (q : Places) (a : Measured) : Type 0 where
+pub record MeasuredAt (o : Order) (label : Label) (file : List ℕ) (p : ℕ) (q : Places) (a : Measured) : Type 0 where
   -- whatever the bytes are
   pub bounds : Each a (MeasureBounds (q .end - (p + 16)))
   pub reads : Each a (MeasureIn o (p + 16) (bodyIn file p q))
   -- where the walk accepts it, there is a measure, and it is the recording's
-  pub told : (label : Label) (held : Option R.Held) (i : ℕ) (x : R.Placed) → AcceptedAt o label file p i q held x → Given a (λ f. MeasureOf label f x)
+  pub told : (held : Option R.Held) (i : ℕ) (x : R.Placed) → AcceptedAt o label file p i q held x → Given a (λ f. MeasureOf label f x)
 
 -- s is a recording's body, which stands at `base`, and d has room for the canonical form that its measure f says, and no more
 pub record BodyFits (file s d : List ℕ) (cs : Channels) (f : Measure) (base : ℕ) : Type 0 where

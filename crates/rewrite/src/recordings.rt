@@ -33,12 +33,13 @@ use rules::Heading;
 use rules::Label;
 use rules::Recording;
 use rules::Spelling;
+use rules::Version;
 use words::Order;
 
 // The measure of the recording from byte p on, which has these places.
-fn measure_at(o: Order, file: &[u8], p: usize, q: Places) -> Measured
+fn measure_at(o: Order, label: Label, file: &[u8], p: usize, q: Places) -> Measured
     requires { ⌜ StandsIn (length (now file)) p q ⌝ }
-    ensures { λ a. ⌜ MeasuredAt o (now (file .entry)) p q a ⌝ }
+    ensures { λ a. ⌜ MeasuredAt o label (now (file .entry)) p q a ⌝ }
 {
     let base = p + Head::LENGTH;
     let end = q.end;
@@ -55,7 +56,7 @@ fn measure_at(o: Order, file: &[u8], p: usize, q: Places) -> Measured
         subs: q.channels + Channels::SUBS,
         count: q.count,
     };
-    measure_of(o, file, cs, q.frames - base, &file[base..end], base)
+    measure_of(o, label, file, cs, q.frames - base, &file[base..end], base)
 }
 
 // The length that a measure asks for.
@@ -93,6 +94,19 @@ fn name(spelling: Spelling, d: &mut [u8])
     }
 }
 
+// The six bytes of a version.
+fn version_digits(version: Version, d: &mut [u8])
+    requires { ⌜ length (now d) ≡ 6 ⌝ }
+    ensures { λ _. ⌜ now (d .exit) ≡ R.versioned version ⌝ }
+{
+    match version {
+        Version::V100 => copy_run(b"000100", d),
+        Version::V110 => copy_run(b"000110", d),
+        Version::V200 => copy_run(b"000200", d),
+        Version::V300 => copy_run(b"000300", d),
+    }
+}
+
 // The form, in its two digits.
 fn form_digits(form: Form, d: &mut [u8])
     requires { ⌜ length (now d) ≡ 2 ⌝ }
@@ -112,9 +126,10 @@ fn header(to: Order, heading: Heading, count: u32, d: &mut [u8])
     let script = heading.script;
     let spelling = heading.spelling;
     let label = heading.label;
+    let version = label.version;
     let form = label.form;
     name(spelling, &mut d[..FileHeader::VERSION]);
-    copy_run(b"000300", &mut d[FileHeader::VERSION..FileHeader::FORM]);
+    version_digits(version, &mut d[FileHeader::VERSION..FileHeader::FORM]);
     form_digits(form, &mut d[FileHeader::FORM..FileHeader::ORDER]);
     d[FileHeader::ORDER] = letter(to);
     d[FileHeader::SCRIPT] = script as u8;
@@ -169,7 +184,8 @@ fn recording(w: Way, file: &[u8], p: usize, i: u32, q: Places, out: &mut [u8], k
 {
     let o = w.from;
     let to = w.to;
-    let measured = measure_at(o, file, p, q);
+    let label = w.label;
+    let measured = measure_at(o, label, file, p, q);
     let Measured::On(f) = measured else {
         return k;
     };
@@ -211,7 +227,7 @@ pub fn file_length(o: Order, label: Label, file: &[u8], count: u32) -> usize
         let Recorded::On(q) = step else {
             return sum;
         };
-        sum += measured_length(measure_at(o, file, p, q));
+        sum += measured_length(measure_at(o, label, file, p, q));
         p = q.end;
         before = Before::These(q);
         i += 1;

@@ -19,18 +19,19 @@ use Rattle.walk.specs.Tell.{tell}
 use Rattle.walk.proofs.Apart.{false-true}
 use Rattle.walk.proofs.Seen.{and-left, stays-goes}
 use Rattle.walk.proofs.Went.{gate-went}
-use Rattle.walk.proofs.Told.{Silent, silent}
-use Rattle.rules.specs.Rules.{Head, Held, Placed, head, span, makerCode, basicBody, channels, channelsBody, items, itemsBody, patientCode, eventCode, frames, framesBody, delimiter, padding, recordingBody}
+use Rattle.walk.proofs.Told.{silent}
+use Rattle.rules.specs.Rules.{mostOf, Head, Held, Placed, head, span, makerCode, basicBody, channels, channelsBody, items, itemsBody, patientCode, eventCode, frames, framesBody, delimiter, padding, recordingBody}
 use Rattle.rules.specs.declared.Head as At
 use Rattle.rules.specs.declared.Label.{Label}
 use Rattle.rules.proofs.Room.{stays-head}
+use Rattle.rules.proofs.Silent.{silent-basicBody, silent-padding}
 use Rattle.records.specs.Says.{headOf, isGroup}
 use Rattle.records.proofs.Opened.{tell-head, admit-went}
 use Rattle.children.specs.Children.{Said, said, _then_, Known, knownOf, Reads, Inner, is100, isSubs, is130, is200, is140, isMaker, Chain, Closed, RecordAt, NoRecord}
 use Rattle.children.proofs.Chained.{body-chain}
 use Rattle.children.proofs.Visiting.{chain-parted, chain-closed}
 use Rattle.rows.specs.Listing.{channelRows, frameRows, heldRows, HasRoom, Wrote}
-use Rattle.rows.proofs.Lists.{silent-padding, items-lists, channels-lists, frames-lists}
+use Rattle.rows.proofs.Lists.{items-lists, channels-lists, frames-lists}
 use Rattle.rows.proofs.Written.{wrote-join, wrote-nothing}
 
 module _ (o : Order) (b : ℕ) (s : List ℕ) (p code : ℕ) where
@@ -45,10 +46,6 @@ module _ (o : Order) (b : ℕ) (s : List ℕ) (p code : ℕ) where
   pub held-none : isGroup code ≡ false → (code ≡ 140 → ⊥) → heldRows o b s p code ≡ []
   unfolding heldRows
   held-none n₁ n₂ = rw (n₁, ne-eqb code 140 n₂)
-
-pub silent-basicBody : Silent basicBody
-unfolding basicBody _>>=_ _>>_
-silent-basicBody = λ _ _ _ _ _ _ _ _ _ _ _ _. tt
 
 -- the record at byte p with the head h is its row and those of the records that it holds, for which it has room
 pub record Rowed (o : Order) (b : ℕ) (s : List ℕ) (p : ℕ) (h : Head) (rs : List Row) : Type 0 where
@@ -88,8 +85,8 @@ module _ (o : Order) (b : ℕ) (s : List ℕ) (p : ℕ) (fit : p ≤ length s) w
   inner-rows {h} (is130 q r) = items-rowed patientCode h q refl (λ z. omega arith) r
   inner-rows {h} (is200 q r) = items-rowed eventCode h q refl (λ z. omega arith) r
   inner-rows {k} {h} (is140 q r) =
-      let d = frames-lists o b s (p + 16) (k .basic) (k .own) (k .channels) (k .back) (length s - p) h (omega arith) (r .is) in
-      let n = eqb-true 0 (h .serial) (admit-went o b s (b + (p + 16)) (length s - p) 128 (leb 32) (eqb 0) h (require (k .own || eqb (length (k .channels)) (k .basic .channels)) 14 (k .back) >> framesBody (k .basic) (k .channels) h) (r .is) .number) in
+      let d = frames-lists o b s (p + 16) (k .label) (k .basic) (k .own) (k .channels) (k .back) (length s - p) h (omega arith) (r .is) in
+      let n = eqb-true 0 (h .serial) (admit-went o b s (b + (p + 16)) (length s - p) (mostOf (k .label)) (leb 32) (eqb 0) h (require (k .own || eqb (length (k .channels)) (k .basic .channels)) 14 (k .back) >> framesBody (k .label) (k .basic) (k .channels) h) (r .is) .number) in
       let i : b + (p + 16 + 16) ≡ b + p + 32 = omega arith in
       let j₁ : p + 16 + 4 ≡ p + 20 = omega arith in
       let j₂ : p + 16 + 8 ≡ p + 24 = omega arith in
@@ -98,8 +95,8 @@ module _ (o : Order) (b : ℕ) (s : List ℕ) (p : ℕ) (fit : p ≤ length s) w
         fits = record { channels = λ z. false-true (sym (ap isGroup q) ∙ z); frames = λ _. record { least = e .0; inside = omega (arith, e .1, mul-comm (numberAt o 4 s (p + 20)) (numberAt o 4 s (p + 24))) } };
         rows = rw (reads-rows r, e .2, ← n, held-140 o b s p (h .code) q, start, i);
       }
-  inner-rows {h} (isMaker q r) =
-      let d = admit-went o b s (b + (p + 16)) (length s - p) 128 (leb 16) (λ _. true) h (text (span h - 16)) (r .is) in
+  inner-rows {k} {h} (isMaker q r) =
+      let d = admit-went o b s (b + (p + 16)) (length s - p) (mostOf (k .label)) (leb 16) (λ _. true) h (text (span h - 16)) (r .is) in
       let n : 1024 ≤ h .code = leb-true 1024 (h .code) (and-left (leb 1024 (h .code)) _ q) in
       let m : isGroup (h .code) ≡ false = rw (ne-eqb (h .code) 120 (λ z. omega arith), ne-eqb (h .code) 320 (λ z. omega arith), ne-eqb (h .code) 350 (λ z. omega arith)) in
       other h _ m (λ z. omega arith) (rw (reads-rows r, d .rows, silent o b s (b + (p + 16)) (text (span h - 16)) (λ _. tt)))
@@ -129,7 +126,7 @@ pub record Listed (o : Order) (b : ℕ) (s : List ℕ) (w : Bool) (out out₁ : 
 module _ {o : Order} {b : ℕ} {s : List ℕ} {w : Bool} {out : List ℤ} {k : ℕ} where
   pub listed-none : (label : Label) (held : Option Held) (h : Head) (x : Placed) (e : ℕ) → span h ≡ 16 + length s → see o b s b (recordingBody label held h) ≡ goes x e → Listed o b s w out out k k 0 (tell o b s b (recordingBody label held h))
   unfolding said
-  listed-none label held h x e n g = record { done = []; left = said o b s b (recordingBody label held h); known = knownOf x; chain = body-chain o label b s held h n g; all = refl; wrote = wrote-nothing w out k }
+  listed-none label held h x e n g = record { done = []; left = said o b s b (recordingBody label held h); known = knownOf label x; chain = body-chain o label b s held h n g; all = refl; wrote = wrote-nothing w out k }
 
   module _ {out₁ : List ℤ} {k₁ p : ℕ} {rs : List Row} (fit : p ≤ length s) (g : Listed o b s w out out₁ k k₁ p rs) where
     pub listed-all : {out₂ : List ℤ} {k₂ : ℕ} → NoRecord o b s p → Wrote w out₁ out₂ k₁ k₂ (record { start = b + p; size = 16; code = 0; serial = 0 } ∷ []) → Wrote w out out₂ k k₂ rs

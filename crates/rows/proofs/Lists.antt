@@ -15,58 +15,14 @@ use Rattle.walk.specs.Tell.{tell}
 use Rattle.walk.specs.Walk.{Row, Walk, give, _>>=_, _>>_, require}
 use Rattle.walk.proofs.Seen.{stays-goes, and-left}
 use Rattle.walk.proofs.Went.{gate-went, went-first}
-use Rattle.walk.proofs.Told.{tell-bind, tell-give, Silent, silent, silent-bind, silent-then}
-use Rattle.rules.specs.Rules.{Head, head, admit, span, coded, fixed, zeros, padding, series, Channel, channel, channelBody, channelsBody, channels, Basic, Sub, Group, fieldIf, Item, Frame, item, itemSize, itemList, itemsBody, items, numberList, samples, sampleBytes, samplesIn, width, frameBody, frame, frames, framesBody, Frames, padOk, between}
-use Rattle.rules.proofs.Cases.{by-shape}
+use Rattle.walk.proofs.Told.{tell-bind, tell-give, Silent, silent, silent-then}
+use Rattle.rules.specs.declared.Label.{Label}
+use Rattle.rules.specs.Rules.{mostOf, Head, head, admit, span, coded, fixed, padding, series, Channel, channel, channelBody, channelsBody, channels, Basic, Sub, Group, Item, Frame, itemsBody, items, sampleBytes, frameBody, frame, frames, framesBody, Frames, padOk, between}
 use Rattle.rules.proofs.Room.{stays-channel, stays-frame}
+use Rattle.rules.proofs.Silent.{silent-padding, silent-frameBody, silent-channelBody, silent-itemsBody}
 use Rattle.records.proofs.Facts.{both-true, both-false}
 use Rattle.records.proofs.Opened.{opened, admit-went, require-went, not-admitted}
 use Rattle.rows.specs.Listing.{seriesRows}
-
-silent-zeros : (bs : List ℕ) → Silent (zeros bs)
-unfolding zeros
-silent-zeros [] = tt
-silent-zeros (x ∷ bs) = silent-zeros bs
-
-pub silent-padding : (n : ℕ) → Silent (padding n)
-unfolding padding
-silent-padding n = silent-zeros
-
-silent-numbers : (w n : ℕ) → Silent (numberList w n)
-unfolding numberList _>>=_
-silent-numbers w zero = tt
-silent-numbers w (suc n) = λ v. silent-bind (numberList w n) _ (silent-numbers w n) (λ _. tt)
-
-silent-samples : (t : ℕ) (cs : List Channel) → Silent (samples t cs)
-unfolding samples
-silent-samples t [] = tt
-silent-samples t (c ∷ cs) = silent-bind (numberList (width (c .format)) (samplesIn t c)) _ (silent-numbers (width (c .format)) (samplesIn t c)) (λ _. silent-bind (samples t cs) _ (silent-samples t cs) (λ _. tt))
-
-pub silent-frameBody : (size t : ℕ) (cs : List Channel) → Silent (frameBody size t cs)
-unfolding frameBody _>>=_ _>>_
-silent-frameBody size t cs = λ _ _ _. silent-bind (samples t cs) _ (silent-samples t cs) (λ _. silent-bind (padding (size - (24 + sampleBytes t cs))) _ (silent-padding (size - (24 + sampleBytes t cs))) (λ _. tt))
-
-pub silent-channelBody : (k : Sub) → Silent (channelBody k)
-unfolding channelBody fieldIf _>>=_ _>>_
-silent-channelBody =
-    by-shape (λ k. Silent (channelBody k))
-    (λ k _ _ _ _ _ _ _ _ _ _ _ _ _ _ _ _ _ _. tt)
-    (λ k _ _ _ _ _ _ _ _ _ _ _ _ _ _ _ _. tt)
-    (λ k _ _ _ _ _ _ _ _ _ _ _ _ _ _ _ _. tt)
-    (λ k _ _ _ _ _ _ _ _ _ _ _ _ _ _. tt)
-
-silent-item : (ok : ℕ → Bool) (room : ℕ) → Silent (item ok room)
-unfolding item _>>=_ _>>_
-silent-item ok room = λ _ _ _. tt
-
-silent-itemList : (ok : ℕ → Bool) (n room : ℕ) → Silent (itemList ok n room)
-unfolding itemList
-silent-itemList ok zero room = tt
-silent-itemList ok (suc n) room = silent-bind (item ok room) _ (silent-item ok room) (λ i. silent-bind (itemList ok n (room - itemSize i)) _ (silent-itemList ok n (room - itemSize i)) (λ _. tt))
-
-pub silent-itemsBody : (ok : ℕ → Bool) (n : ℕ) → Silent (itemsBody ok n)
-unfolding itemsBody _>>=_ _>>_
-silent-itemsBody ok n = λ m. silent-bind (itemList ok m (n - 24)) _ (silent-itemList ok m (n - 24)) (λ _. tt)
 
 -- a record of a length and a serial that its head has to have, whose body lists nothing, is one row
 pub one-row : {A : Type 0} (o : Order) (b : ℕ) (s : List ℕ) (code most step i : ℕ) (fits : Head → ℕ → Bool) (serial : ℕ → Bool) (body : Walk A) →
@@ -97,10 +53,10 @@ channel-lists : (o : Order) (b : ℕ) (s : List ℕ) (k : Sub) (at room i : ℕ)
 unfolding fixed
 channel-lists o b s k at room i a e g = one-row o b s (k .code) 0 256 i (λ _. eqb 256) (eqb i) (channelBody k) (λ h z. sym (eqb-true 256 (span h) z)) (λ n z. sym (eqb-true i n z)) (silent-channelBody k) at room g
 
-frame-lists : (o : Order) (b : ℕ) (s : List ℕ) (size t : ℕ) (cs : List Channel) (at room i : ℕ) (a : Frame) (e : ℕ) → see o b s at (frame size t cs room i) ≡ goes a e → tell o b s at (frame size t cs room i) ≡ record { start = at; size = size; code = 145; serial = i } ∷ []
+frame-lists : (o : Order) (label : Label) (b : ℕ) (s : List ℕ) (size t : ℕ) (cs : List Channel) (at room i : ℕ) (a : Frame) (e : ℕ) → see o b s at (frame label size t cs room i) ≡ goes a e → tell o b s at (frame label size t cs room i) ≡ record { start = at; size = size; code = 145; serial = i } ∷ []
 unfolding frame
-frame-lists o b s size t cs at room i a e g =
-    one-row o b s 145 128 size i (λ h n. eqb n size && padOk h (n - (24 + sampleBytes t cs))) (eqb i) (frameBody size t cs) (λ h k. eqb-true (span h) size (and-left (eqb (span h) size) _ k)) (λ n k. sym (eqb-true i n k)) (silent-frameBody size t cs) at room g
+frame-lists o label b s size t cs at room i a e g =
+    one-row o b s 145 (mostOf label) size i (λ h n. eqb n size && padOk h (n - (24 + sampleBytes t cs))) (eqb i) (frameBody size t cs) (λ h k. eqb-true (span h) size (and-left (eqb (span h) size) _ k)) (λ n k. sym (eqb-true i n k)) (silent-frameBody size t cs) at room g
 
 -- a 130 or a 200 is one row
 pub items-lists : (o : Order) (b : ℕ) (s : List ℕ) (ok : ℕ → Bool) (at room : ℕ) (h : Head) {l : List Item} {e : ℕ} → see o b s at (items ok room h) ≡ goes l e →
@@ -146,18 +102,18 @@ module _ (o : Order) (b : ℕ) (s : List ℕ) (p : ℕ) where
   abbrev count : ℕ
   count = numberAt o 4 s (p + 8)
 
-  abbrev framed : List Channel → Head → Walk (List Frame)
-  framed cs h = series count 1 size (span h - 32) (frame size seconds cs)
+  abbrev framed : Label → List Channel → Head → Walk (List Frame)
+  framed label cs h = series count 1 size (span h - 32) (frame label size seconds cs)
 
-  record FramesListed (cs : List Channel) (h : Head) (rs : List Row) : Type 0 where
+  record FramesListed (label : Label) (cs : List Channel) (h : Head) (rs : List Row) : Type 0 where
     long : 24 + sampleBytes seconds cs ≤ size
     fits : 32 + count * size ≤ span h
-    went : Goes (see o b s (b + p + 4 + 4 + 4 + 4) (framed cs h)) (λ _ _. Unit {0})
-    rows : rs ≡ tell o b s (b + p + 4 + 4 + 4 + 4) (framed cs h)
+    went : Goes (see o b s (b + p + 4 + 4 + 4 + 4) (framed label cs h)) (λ _ _. Unit {0})
+    rows : rs ≡ tell o b s (b + p + 4 + 4 + 4 + 4) (framed label cs h)
 
-  framesBody-lists : (c : Basic) (cs : List Channel) (h : Head) {f : Frames} {e : ℕ} → see o b s (b + p) (framesBody c cs h) ≡ goes f e → FramesListed cs h (tell o b s (b + p) (framesBody c cs h))
+  framesBody-lists : (label : Label) (c : Basic) (cs : List Channel) (h : Head) {f : Frames} {e : ℕ} → see o b s (b + p) (framesBody label c cs h) ≡ goes f e → FramesListed label cs h (tell o b s (b + p) (framesBody label c cs h))
   unfolding framesBody between see tell _>>=_ _>>_
-  framesBody-lists c cs h g =
+  framesBody-lists label c cs h g =
       let z₀ : b + p - b ≡ p = omega arith in
       let z₁ : b + p + 4 - b ≡ p + 4 = omega arith in
       let z₂ : b + p + 4 + 4 - b ≡ p + 8 = omega arith in
@@ -167,34 +123,34 @@ module _ (o : Order) (b : ℕ) (s : List ℕ) (p : ℕ) where
       let g₃ = gate-went _ _ _ _ (g₂ .1) in
       let g₄ = gate-went _ _ _ _ (g₃ .1) in
       let g₅ = gate-went _ _ _ _ (g₄ .1) in
-      let x = went-first o b s (b + p + 4 + 4 + 4 + 4) (framed cs h) k (g₅ .1) in
+      let x = went-first o b s (b + p + 4 + 4 + 4 + 4) (framed label cs h) k (g₅ .1) in
       record {
         long = leb-true _ _ (and-left _ _ (and-left _ _ (g₃ .0)));
         fits = leb-true _ _ (and-left _ _ (g₅ .0));
         went = record { value = x .value; end = x .end; is = x .is; kept = tt };
         rows =
             rw (z₀, z₁, z₂, g₁ .0, g₂ .0, g₃ .0, g₄ .0, g₅ .0)
-            (tell-bind o b s (b + p + 4 + 4 + 4 + 4) (framed cs h) k (x .is) ∙ rw (silent o b s (x .end) (k (x .value)) (silent-then (padding (span h - (32 + count * size))) _ (silent-padding (span h - (32 + count * size))) tt)) (append-nil _));
+            (tell-bind o b s (b + p + 4 + 4 + 4 + 4) (framed label cs h) k (x .is) ∙ rw (silent o b s (x .end) (k (x .value)) (silent-then (padding (span h - (32 + count * size))) _ (silent-padding (span h - (32 + count * size))) tt)) (append-nil _));
       }
 
   -- a 140 is one row, and one for each frame
-  pub frames-lists : (c : Basic) (own : Bool) (cs : List Channel) (back room : ℕ) (h : Head) {f : Frames} {e : ℕ} → p + room ≤ length s + 16 → see o b s (b + p) (frames c own cs back room h) ≡ goes f e →
+  pub frames-lists : (label : Label) (c : Basic) (own : Bool) (cs : List Channel) (back room : ℕ) (h : Head) {f : Frames} {e : ℕ} → p + room ≤ length s + 16 → see o b s (b + p) (frames label c own cs back room h) ≡ goes f e →
       (24 ≤ size) × (32 + count * size ≤ span h) ×
-      (tell o b s (b + p) (frames c own cs back room h) ≡ record { start = b + p - 16; size = span h; code = h .code; serial = 0 } ∷ seriesRows count 1 (b + (p + 16)) size 145)
+      (tell o b s (b + p) (frames label c own cs back room h) ≡ record { start = b + p - 16; size = span h; code = h .code; serial = 0 } ∷ seriesRows count 1 (b + (p + 16)) size 145)
   unfolding frames
-  frames-lists c own cs back room h f k =
-      let d = admit-went o b s (b + p) room 128 (leb 32) (eqb 0) h (require (own || eqb (length cs) (c .channels)) 14 back >> framesBody c cs h) k in
-      let t = require-went o b s (b + p) (own || eqb (length cs) (c .channels)) 14 back (framesBody c cs h) (d .rest) in
-      let x = framesBody-lists c cs h (t .1) in
+  frames-lists label c own cs back room h f k =
+      let d = admit-went o b s (b + p) room (mostOf label) (leb 32) (eqb 0) h (require (own || eqb (length cs) (c .channels)) 14 back >> framesBody label c cs h) k in
+      let t = require-went o b s (b + p) (own || eqb (length cs) (c .channels)) 14 back (framesBody label c cs h) (d .rest) in
+      let x = framesBody-lists label c cs h (t .1) in
       let z : b + p + 4 + 4 + 4 + 4 ≡ b + (p + 16) = omega arith in
-      let r = series-lists o b s size 145 (frame size seconds cs) (frame-lists o b s size seconds cs) (stays-frame size seconds cs (x .long)) count 1 (span h - 32) (b + p + 4 + 4 + 4 + 4) (omega arith) (omega (arith, d .inside, x .fits)) (x .went .is) in
+      let r = series-lists o b s size 145 (frame label size seconds cs) (frame-lists o label b s size seconds cs) (stays-frame label size seconds cs (x .long)) count 1 (span h - 32) (b + p + 4 + 4 + 4 + 4) (omega arith) (omega (arith, d .inside, x .fits)) (x .went .is) in
       (omega (arith, x .long), x .fits, d .rows ∙ rw (t .2, x .rows, r, z, eqb-true 0 (h .serial) (d .number)))
 
 -- a 140 whose head is not admitted
-pub frames-refused : (o : Order) (b : ℕ) (s : List ℕ) (c : Basic) (own : Bool) (cs : List Channel) (back at room : ℕ) (h : Head) {m q : ℕ} {f : Frames} {e : ℕ} →
-    see o b s at (admit room 128 (leb 32) (eqb 0) h) ≡ stops m q → see o b s at (frames c own cs back room h) ≡ goes f e → ⊥
+pub frames-refused : (o : Order) (label : Label) (b : ℕ) (s : List ℕ) (c : Basic) (own : Bool) (cs : List Channel) (back at room : ℕ) (h : Head) {m q : ℕ} {f : Frames} {e : ℕ} →
+    see o b s at (admit room (mostOf label) (leb 32) (eqb 0) h) ≡ stops m q → see o b s at (frames label c own cs back room h) ≡ goes f e → ⊥
 unfolding frames
-frames-refused o b s c own cs back at room h k g = not-admitted o b s at room 128 (leb 32) (eqb 0) h (require (own || eqb (length cs) (c .channels)) 14 back >> framesBody c cs h) k g
+frames-refused o label b s c own cs back at room h k g = not-admitted o b s at room (mostOf label) (leb 32) (eqb 0) h (require (own || eqb (length cs) (c .channels)) 14 back >> framesBody label c cs h) k g
 
 -- the code's test of the frames' length and count, r, where it holds and where it does not
 module _ (size count n : ℕ) (r : Bool) (is : r ≡ leb 24 size && leb (32 + size * count) n) where

@@ -17,12 +17,12 @@ use Rattle.walk.specs.Walk.{Event, numeral, piece, blank, row, Row, rows, size,
 use Rattle.walk.proofs.Apart.{false-true}
 use Rattle.walk.proofs.Laws.{by-parts, by-split, by-check, checked, taken, plays-gave, traced}
 use Rattle.rules.specs.declared.Form.the-variants as Form
-use Rattle.rules.specs.Rules.{between, padding, padded, makerCode, zeros, delimiter, basicBody, Head, head, span, admit, basic, Label, Group, channelsGroup, montageSub, montageGroup, Channel, channel, channels, montage, Item, item, itemBytes, items, patientCode, eventCode, Frame, frame, frames, numberList, width, samplesIn, sampleBytes, FileHeader, Next, next, Part, part, Held, heldChannels, heldPatient, Placed, recording, recordings, File, fileHeader, file, orderOf, judge, signals}
+use Rattle.rules.specs.Rules.{eventTable, mostOf, between, padding, padded, makerCode, zeros, delimiter, basicBody, Head, head, span, admit, basic, Label, Group, channelsGroup, montageSub, montageGroup, Channel, channel, channels, montage, Item, item, itemBytes, items, patientCode, eventCode, Frame, frame, frames, numberList, width, samplesIn, sampleBytes, FileHeader, Next, next, Part, part, Held, heldChannels, heldPatient, Placed, recording, recordings, File, fileHeader, file, orderOf, judge, signals}
 use Rattle.rules.specs.Places.{bytesBefore}
 use Rattle.rules.proofs.Steps.{body-steps}
 use Rattle.rules.proofs.Canon.{recordings-ok}
 use Rattle.rules.proofs.Places.{numbers-found, Found, found-run, found-whole, found-first, found-second, found-at, head-size, admit-size, join, gave-nothing, fixed-size, channels-bytes, items-bytes, channel-found, montage-is, frames-found, frame-found, samples-found, items-in, zeros-none, piece-size}
-use Rattle.rules.proofs.Renew.{if-case, pick-case, admit-ok, basic-size, next-ok, channels-ok, items-ok, frames-ok}
+use Rattle.rules.proofs.Renew.{table-part, if-case, pick-case, admit-ok, basic-size, next-ok, channels-ok, items-ok, frames-ok}
 use Rattle.rules.proofs.Turn.{accepted, is-render}
 
 -- the rows of events that follow others
@@ -55,21 +55,21 @@ module _ {A : Type 0} {w : ℕ → Head → Walk A} {a : A} where
 maker-sum : (room s x r : ℕ) → x + r ≡ room - s + 16 → s ≤ room → 16 ≤ s → 16 + (0 + (s - 16 + (x + 0))) + r ≡ room + 16
 maker-sum room s x r h k l = omega arith
 
-pub next-bytes : (fuel room : ℕ) {t : List Event} {n : Next} → Plays t (next fuel room) n → size t + n .room ≡ room + 16
+pub next-bytes : (label : Label) (fuel room : ℕ) {t : List Event} {n : Next} → Plays t (next label fuel room) n → size t + n .room ≡ room + 16
 unfolding next size _>>=_ _>>_ between padding padded makerCode
-next-bytes zero room p = absurd (traced p .trace)
-next-bytes (suc fuel) room {t} {n} p =
+next-bytes label zero room p = absurd (traced p .trace)
+next-bytes label (suc fuel) room {t} {n} p =
     by-parts (head room) _ p λ h u₁ v₁ e₁ h₀ p.
     pick-case (makerCode (h .code)) _ _ p
     (λ c p.
-    by-parts (admit room 128 (leb 16) (λ _. true) h) _ p λ _ u₂ v₂ e₂ a₀ p.
+    by-parts (admit room (mostOf label) (leb 16) (λ _. true) h) _ p λ _ u₂ v₂ e₂ a₀ p.
     let r = taken p in
-    by-parts (next fuel (room - span h)) _ (r .then) λ m u₃ v₃ e₃ n₀ p.
-    let d = admit-ok room 128 (leb 16) (λ _. true) h a₀ in
+    by-parts (next label fuel (room - span h)) _ (r .then) λ m u₃ v₃ e₃ n₀ p.
+    let d = admit-ok room (mostOf label) (leb 16) (λ _. true) h a₀ in
     let s₃ : size v₂ ≡ span h - 16 + (size u₃ + 0) = ap size (r .split) ∙ piece-size (r .bytes) (span h - 16) (size (r .others)) (size u₃ + 0) (r .width) (join u₃ v₃ e₃ refl (gave-nothing p)) in
-    let s₁ : size t ≡ 16 + (0 + (span h - 16 + (size u₃ + 0))) = join u₁ v₁ e₁ (head-size room h₀) (join u₂ v₂ e₂ (admit-size room 128 (leb 16) (λ _. true) h a₀) s₃) in
+    let s₁ : size t ≡ 16 + (0 + (span h - 16 + (size u₃ + 0))) = join u₁ v₁ e₁ (head-size room h₀) (join u₂ v₂ e₂ (admit-size room (mostOf label) (leb 16) (λ _. true) h a₀) s₃) in
     let q : n .room ≡ m .room = ap (λ (x : Next). x .room) (plays-gave p) in
-    rw (s₁, q) (maker-sum room (span h) (size u₃) (m .room) (next-bytes fuel (room - span h) n₀) (d .room) (leb-true 16 (span h) (d .fits))))
+    rw (s₁, q) (maker-sum room (span h) (size u₃) (m .room) (next-bytes label fuel (room - span h) n₀) (d .room) (leb-true 16 (span h) (d .fits))))
     (λ c p.
     let s₁ : size t ≡ 16 + 0 = join u₁ v₁ e₁ (head-size room h₀) (gave-nothing p) in
     let q : n .room ≡ room = ap (λ (x : Next). x .room) (plays-gave p) in
@@ -80,7 +80,7 @@ next-bytes (suc fuel) room {t} {n} p =
 part-sum : (u v r m room s : ℕ) → u + 16 ≡ s → v + m ≡ room - s + 16 → s ≤ room → r ≡ m → u + (v + 0) + r ≡ room
 part-sum u v r m room s h k l e = omega arith
 
-module _ {A : Type 0} (body : ℕ → Head → Walk A) (code fuel : ℕ) (held : Option A) (n : Next) where
+module _ (label : Label) {A : Type 0} (body : ℕ → Head → Walk A) (code fuel : ℕ) (held : Option A) (n : Next) where
   part-absent : {t : List Event} {x : Part A} →
       Plays t (elim held [ none ↦ refuse 9 12 | some a ↦ give (record { own = false; value = a; next = record { makers = []; head = n .head; room = n .room } }) ]) x →
       (size t + x .next .room ≡ n .room) × (x .own ≡ true → ⊥)
@@ -101,18 +101,18 @@ module _ {A : Type 0} (body : ℕ → Head → Walk A) (code fuel : ℕ) (held :
     pub found : x .own ≡ true → Rest t body (x .value) 0
 
   pub part-at : ((room : ℕ) (h : Head) (u : List Event) (a : A) → Plays u (body room h) a → (size u + 16 ≡ span h) × (span h ≤ room)) →
-      {t : List Event} {x : Part A} → Plays t (part fuel code body held n) x → PartAt t x
+      {t : List Event} {x : Part A} → Plays t (part label fuel code body held n) x → PartAt t x
   unfolding part
   part-at f {t} p =
       if-case (eqb (n .head .code) code) _ _ p
       (λ _ p.
       by-parts (body (n .room) (n .head)) _ p λ a u v e b₀ p.
-      by-parts (next fuel (n .room - span (n .head))) _ p λ m y z e₁ n₀ p.
+      by-parts (next label fuel (n .room - span (n .head))) _ p λ m y z e₁ n₀ p.
       let g = f (n .room) (n .head) u a b₀ in
       let s : size t ≡ size u + (size y + 0) = join u v e refl (join y z e₁ refl (gave-nothing p)) in
       rw (plays-gave p)
       (record {
-        bytes = rw s (part-sum (size u) (size y) (m .room) (m .room) (n .room) (span (n .head)) (g .0) (next-bytes fuel (n .room - span (n .head)) n₀) (g .1) refl);
+        bytes = rw s (part-sum (size u) (size y) (m .room) (m .room) (n .room) (span (n .head)) (g .0) (next-bytes label fuel (n .room - span (n .head)) n₀) (g .1) refl);
         found = λ _. record { room = n .room; head = n .head; found = found-first v (found-whole b₀) e };
       }))
       (λ _ p. let a = part-absent p in record { bytes = a .0; found = λ o. absurd (a .1 o) })
@@ -139,7 +139,7 @@ pub record InRecording (label : Label) (t : List Event) (x : Placed) : Type 0 wh
   pub montage : x .recording .ownMontage ≡ true → Rest t (montage label (x .recording .channels)) (x .recording .montage) (x .layout .at350 + 16)
   pub back : ℕ
   pub padded : ℕ
-  pub frames : Rest t (frames (x .recording .basic) (x .recording .ownChannels) (x .recording .channels) back)
+  pub frames : Rest t (frames label (x .recording .basic) (x .recording .ownChannels) (x .recording .channels) back)
       (record { seconds = x .recording .seconds; frames = x .recording .frames; size = x .layout .frame; padded = padded }) (x .layout .at140 + 16)
 
 spot : (p room bytes : ℕ) → p + room ≡ bytes + 16 → 16 ≤ p → p ≡ bytes - room + 16
@@ -161,34 +161,34 @@ pub recording-found : (label : Label) (held : Option Held) (room i : ℕ) {t : L
 unfolding recording signals size _>>=_ _>>_ between padding padded makerCode
 recording-found label held room i p =
     by-parts (head room) _ p λ h u₁ _ e₁ h₀ p.
-    by-parts (admit room 128 (leb 16) (eqb i) h) _ (checked p .then) λ _ u₂ _ e₂ a₀ p.
+    by-parts (admit room (mostOf label) (leb 16) (eqb i) h) _ (checked p .then) λ _ u₂ _ e₂ a₀ p.
     by-parts (basic (span h - 16)) _ (rw body-steps at p) λ b u₃ v₃ e₃ b₀ p.
-    by-parts (next (span h) (span h - 144)) _ p λ n u₄ _ e₄ n₀ p.
-    by-parts (part (span h) (channelsGroup label (b .channels) .code) (channels (channelsGroup label (b .channels))) (heldChannels held) n) _ p λ c u₅ v₅ e₅ c₀ p.
-    by-parts (part (span h) 130 (items patientCode) (heldPatient held) (c .next)) _ p λ q u₆ v₆ e₆ q₀ p.
-    by-parts (part (span h) 200 (items eventCode) (some []) (q .next)) _ p λ s u₇ v₇ e₇ s₀ p.
-    by-parts (part (span h) 350 (montage label (c .value)) (some []) (s .next)) _ p λ e u₈ v₈ e₈ m₀ p.
-    by-parts (frames b (c .own) (c .value) (span h - e .next .room - 20) (e .next .room) (e .next .head)) _ (checked p .then) λ f u₉ v₉ e₉ f₀ p.
-    by-parts (next (span h) (e .next .room - span (e .next .head))) _ p λ d u₁₀ v₁₀ e₁₀ d₀ p.
+    by-parts (next label (span h) (span h - 144)) _ p λ n u₄ _ e₄ n₀ p.
+    by-parts (part label (span h) (channelsGroup label (b .channels) .code) (channels (channelsGroup label (b .channels))) (heldChannels held) n) _ p λ c u₅ v₅ e₅ c₀ p.
+    by-parts (part label (span h) 130 (items patientCode) (heldPatient held) (c .next)) _ p λ q u₆ v₆ e₆ q₀ p.
+    by-parts (eventTable label (span h) (q .next)) _ p λ s u₇ v₇ e₇ s₀ p.
+    by-parts (part label (span h) 350 (montage label (c .value)) (some []) (s .next)) _ p λ e u₈ v₈ e₈ m₀ p.
+    by-parts (frames label b (c .own) (c .value) (span h - e .next .room - 20) (e .next .room) (e .next .head)) _ (checked p .then) λ f u₉ v₉ e₉ f₀ p.
+    by-parts (next label (span h) (e .next .room - span (e .next .head))) _ p λ d u₁₀ v₁₀ e₁₀ d₀ p.
     by-parts (delimiter (d .head)) _ p λ _ u₁₁ v₁₁ e₁₁ l₀ p. by-check p λ _ p. by-check p λ _ p.
     let r = taken p in
     by-parts (zeros (r .bytes)) _ (r .then) λ _ u₁₂ v₁₂ e₁₂ z₀ p.
     let h₁ = head-size room h₀ in
-    let a₁ = admit-size room 128 (leb 16) (eqb i) h a₀ in
+    let a₁ = admit-size room (mostOf label) (leb 16) (eqb i) h a₀ in
     let b₁ = fixed-size 128 100 0 112 basicBody (λ t c q. basic-size q) (span h - 16) b₀ in
     let n₁ = next-ok (span h) (span h - 144) n₀ in
-    let c₁ = part-at (channels (channelsGroup label (b .channels))) (channelsGroup label (b .channels) .code) (span h) (heldChannels held) n (channels-rest (channelsGroup label (b .channels))) c₀ in
-    let q₁ = part-at (items patientCode) 130 (span h) (heldPatient held) (c .next) (items-rest patientCode) q₀ in
-    let s₁ = part-at (items eventCode) 200 (span h) (some []) (q .next) (items-rest eventCode) s₀ in
-    let m₁ = part-at (montage label (c .value)) 350 (span h) (some []) (s .next) (montage-rest label (c .value)) m₀ in
-    let k₁ : total (size u₁ ∷ size u₂ ∷ size u₃ ∷ size u₄ ∷ []) + n .room ≡ span h + 16 = step₁ (size u₁) (size u₂) (size u₃) (size u₄) (n .room) (span h) _ h₁ a₁ b₁ (next-bytes (span h) (span h - 144) n₀) (n₁ .left) (n₁ .enough) in
+    let c₁ = part-at label (channels (channelsGroup label (b .channels))) (channelsGroup label (b .channels) .code) (span h) (heldChannels held) n (channels-rest (channelsGroup label (b .channels))) c₀ in
+    let q₁ = part-at label (items patientCode) 130 (span h) (heldPatient held) (c .next) (items-rest patientCode) q₀ in
+    let s₁ = part-at label (items eventCode) 200 (span h) (some []) (q .next) (items-rest eventCode) (table-part label (span h) (q .next) s₀ .1) in
+    let m₁ = part-at label (montage label (c .value)) 350 (span h) (some []) (s .next) (montage-rest label (c .value)) m₀ in
+    let k₁ : total (size u₁ ∷ size u₂ ∷ size u₃ ∷ size u₄ ∷ []) + n .room ≡ span h + 16 = step₁ (size u₁) (size u₂) (size u₃) (size u₄) (n .room) (span h) _ h₁ a₁ b₁ (next-bytes label (span h) (span h - 144) n₀) (n₁ .left) (n₁ .enough) in
     let k₂ : total (size u₁ ∷ size u₂ ∷ size u₃ ∷ size u₄ ∷ size u₅ ∷ []) + c .next .room ≡ span h + 16 = further (size u₁ ∷ size u₂ ∷ size u₃ ∷ size u₄ ∷ []) (size u₅) (n .room) (c .next .room) (span h + 16) k₁ (c₁ .bytes) in
     let k₃ : total (size u₁ ∷ size u₂ ∷ size u₃ ∷ size u₄ ∷ size u₅ ∷ size u₆ ∷ []) + q .next .room ≡ span h + 16 = further (size u₁ ∷ size u₂ ∷ size u₃ ∷ size u₄ ∷ size u₅ ∷ []) (size u₆) (c .next .room) (q .next .room) (span h + 16) k₂ (q₁ .bytes) in
     let k₄ : total (size u₁ ∷ size u₂ ∷ size u₃ ∷ size u₄ ∷ size u₅ ∷ size u₆ ∷ size u₇ ∷ []) + s .next .room ≡ span h + 16 = further (size u₁ ∷ size u₂ ∷ size u₃ ∷ size u₄ ∷ size u₅ ∷ size u₆ ∷ []) (size u₇) (q .next .room) (s .next .room) (span h + 16) k₃ (s₁ .bytes) in
     let k₅ : total (size u₁ ∷ size u₂ ∷ size u₃ ∷ size u₄ ∷ size u₅ ∷ size u₆ ∷ size u₇ ∷ size u₈ ∷ []) + e .next .room ≡ span h + 16 = further (size u₁ ∷ size u₂ ∷ size u₃ ∷ size u₄ ∷ size u₅ ∷ size u₆ ∷ size u₇ ∷ []) (size u₈) (s .next .room) (e .next .room) (span h + 16) k₄ (m₁ .bytes) in
     let f₁ = frames-found (record { hour = 0; minute = 0; second = 0; channels = [] }) b (c .own) (c .value) (span h - e .next .room - 20) (e .next .room) (e .next .head) f₀ .bytes in
     let f₂ = frames-ok b (c .own) (c .value) (span h - e .next .room - 20) (e .next .room) (e .next .head) f₀ .2 in
-    let d₁ = next-bytes (span h) (e .next .room - span (e .next .head)) d₀ in
+    let d₁ = next-bytes label (span h) (e .next .room - span (e .next .head)) d₀ in
     let d₂ = next-ok (span h) (e .next .room - span (e .next .head)) d₀ .enough in
     let y₁ : size (r .others) ≡ 0 + 0 = join u₁₂ v₁₂ e₁₂ (zeros-none (r .bytes) z₀) (gave-nothing p) in
     let y₂ : size v₁₁ ≡ d .room - 16 + (0 + 0) = ap size (r .split) ∙ piece-size (r .bytes) (d .room - 16) (size (r .others)) (0 + 0) (r .width) y₁ in
@@ -319,7 +319,7 @@ module _ (s : List ℕ) (b : Bytes s) {v : File} {r : List ℕ} {t : List Event}
 
     -- frame j, from 0
     pub frame-at : (f : Frame) (j : ℕ) → j < length (getD (v .recordings) k d .recording .frames) →
-        (room : ℕ) × Found t (frame (getD (v .recordings) k d .layout .frame) (getD (v .recordings) k d .recording .seconds) (getD (v .recordings) k d .recording .channels) room (1 + j))
+        (room : ℕ) × Found t (frame (v .heading .label) (getD (v .recordings) k d .layout .frame) (getD (v .recordings) k d .recording .seconds) (getD (v .recordings) k d .recording .channels) room (1 + j))
         (getD (getD (v .recordings) k d .recording .frames) j f)
         (32 + bytesBefore k (v .recordings) + (getD (v .recordings) k d .layout .at140 + 16 + (16 + getD (v .recordings) k d .layout .frame * j)))
     frame-at f j m =
@@ -337,7 +337,7 @@ module _ (s : List ℕ) (b : Bytes s) {v : File} {r : List ℕ} {t : List Event}
         (24 + sampleBytes (getD (v .recordings) k d .recording .seconds) (take c (getD (v .recordings) k d .recording .channels))))
     samples-at f e j c m n =
         let x = frame-at f j m in
-        let y = frame-found _ _ _ _ _ (x .1 .plays) .samples in
+        let y = frame-found (v .heading .label) _ _ _ _ _ (x .1 .plays) .samples in
         found-inside (x .1) (found-inside y (samples-found e _ (getD (v .recordings) k d .recording .channels) (y .plays) c n))
 
     -- sample i of channel c in frame j, all from 0

@@ -14,19 +14,14 @@ use Rattle.walk.specs.Plays.{Plays, gives, checks, reads}
 use Rattle.walk.specs.Walk.{Event, size, _>>=_, _>>_}
 use Rattle.walk.proofs.Laws.{plays-bind, plays-give, size-append, zeros-length, by-split, by-check, by-read, plays-gave}
 use Rattle.rules.specs.Canonical.{multiplierFor, most, zeroes, recordOf, framesBytes, content, recordingHead, recordingEvents, digits, headerEvents, anew}
-use Rattle.rules.specs.Rules.{between, padding, padded, makerCode, sameBytes, version, formed, formOf, allSpaces, decimal, countOf, countFits, countIs, isScript, spelled, spellingOf, Label, Heading, FileHeader, fileHeader, span, Recording, Held, contentLimit, Placed, recording, recordings, File, Contents, contents, file, channels}
+use Rattle.rules.specs.Rules.{mostOf, between, padding, padded, makerCode, sameBytes, versioned, versionOf, isForm, formed, formOf, allSpaces, decimal, countOf, countFits, countIs, isScript, spelled, spellingOf, Label, Heading, FileHeader, fileHeader, span, Recording, Held, contentLimit, Placed, recording, recordings, File, Contents, contents, file, channels}
+use Rattle.rules.proofs.Cases.{most-low}
 use Rattle.rules.proofs.Renew.{and-true, and-both, record-size}
 use Rattle.rules.proofs.Renewed.{RecordingOk, recording-ok, Anew, recording-from}
-use Rattle.rules.proofs.Sized.{sized, Sized, pad-under}
-use Rattle.rules.proofs.Named.{spells, forms}
+use Rattle.rules.proofs.Sized.{sized, Sized, served}
+use Rattle.rules.proofs.Named.{spells, versions, forms, formed-as}
 
 -- A recording
-
-close-at : (T x : ℕ) → T ≤ contentLimit + x → x ≤ 128 → T ≤ 128 * most
-close-at T x h k = omega arith
-
-pub total-low : (label : Label) (held : Option Held) (r : Recording) → RecordingOk label held r → 16 + size (content label r) ≤ 128 * most
-total-low label held r k = close-at (16 + size (content label r)) _ (k .limited) (omega (arith, pad-under (framesBytes (r .seconds) (r .channels) (r .frames)) 128 (omega arith) (k .frames .total)))
 
 -- its events, written anew
 abbrev pub recordingWritten : Label → ℕ → Recording → List Event
@@ -37,9 +32,9 @@ pub recording-plays : (label : Label) (held : Option Held) (r : Recording) → R
 recording-plays label held r k i room b s =
     let T : ℕ = 16 + size (content label r) in
     let z : Sized T = sized T in
-    let l : multiplierFor T ≤ 128 = z .low 128 (total-low label held r k) in
+    let l : multiplierFor T ≤ mostOf label = served T (mostOf label) (k .long) in
     recording-from label held r k (recordingHead label i r) (span (recordingHead label i r) - T) (omega (arith, z .serves)) (z .close) i room
-    (record { size = omega (arith, z .small); code = omega arith; serial = b; multiplier = omega arith }) refl
+    (record { size = omega (arith, z .small); code = omega arith; serial = b; multiplier = omega (arith, most-low label) }) refl
     (record { low = l; small = omega (arith, z .small); fits = le-leb 16 (span (recordingHead label i r)) (omega (arith, z .serves)); room = s; serial = eq-eqb i i refl })
 
 pub recording-size : (label : Label) (i : ℕ) (r : Recording) → size (recordingWritten label i r) ≡ span (recordingHead label i r)
@@ -105,15 +100,16 @@ count-fits (some k) h = h
 
 pub record HeaderOk (g : Heading) (k : ℕ) : Type 0 where
   pub byte : g .script < 256
-  pub letter : isScript (g .script) ≡ true
+  pub form : isForm (g .label .version) (formed (g .label .form)) ≡ true
+  pub letter : isScript (g .label .version) (g .script) ≡ true
   pub count : between 1 64 k ≡ true
 
 pub header-ok : (n : ℕ) {t : List Event} {f : FileHeader} → Plays t (fileHeader n) f → HeaderOk (f .heading) (f .count)
 unfolding fileHeader _>>=_ _>>_
 header-ok n p =
-    by-check p λ _ p. by-read p λ _ _ _ _ p. by-check p λ _ p. by-read p λ _ _ _ _ p. by-check p λ _ p. by-read p λ _ _ _ _ p. by-check p λ _ p. by-read p λ _ _ _ _ p. by-check p λ _ p.
+    by-check p λ _ p. by-read p λ _ _ _ _ p. by-check p λ _ p. by-read p λ v _ _ _ p. by-check p λ _ p. by-read p λ form _ _ _ p. by-check p λ f p. by-read p λ _ _ _ _ p. by-check p λ _ p.
     by-read p λ script _ l b p. by-check p λ s p. by-read p λ digits _ _ _ p. by-check p λ c p. by-read p λ _ _ _ _ p. by-check p λ _ p.
-    rw (plays-gave p) (record { byte = byte-of script l b; letter = s; count = count-fits (countOf digits) c })
+    rw (plays-gave p) (record { byte = byte-of script l b; form = rw (← formed-as (versionOf v) form f) f; letter = s; count = count-fits (countOf digits) c })
 
 digit : (v b : ℕ) (bs : List ℕ) → 48 ≤ b → b ≤ 57 → decimal v (b ∷ bs) ≡ decimal (10 * v + (b - 48)) bs
 unfolding decimal between padding padded makerCode
@@ -169,29 +165,31 @@ digits-ok k h = go (ltb k 10) refl
 
 header-read : (g : Heading) (k n : ℕ) → HeaderOk g k → Digits k (digits k) → 32 ≤ n →
     Plays (headerEvents g k) (fileHeader n)
-    (record { heading = record { spelling = spellingOf (spelled (g .spelling)); label = record { form = formOf (formed (g .label .form)) }; script = g .script }; count = countIs (countOf (digits k)) })
-unfolding headerEvents fileHeader version sameBytes allSpaces _>>=_ _>>_ between padding padded makerCode
+    (record { heading = record { spelling = spellingOf (spelled (g .spelling)); label = record { version = versionOf (versioned (g .label .version)); form = formOf (formed (g .label .form)) }; script = g .script }; count = countIs (countOf (digits k)) })
+unfolding headerEvents fileHeader sameBytes allSpaces _>>=_ _>>_ between padding padded makerCode
 header-read g k n o d l =
     let c : countFits (countOf (digits k)) ≡ true = rw (d .count) (o .count) in
     let w = spells (g .spelling) in
     let f = forms (g .label .form) in
-    let b₂ : Bytes version = omega arith in
+    let f₁ : isForm (versionOf (versioned (g .label .version))) (formed (g .label .form)) ≡ true = rw (versions (g .label .version) .same) (o .form) in
+    let s₁ : isScript (versionOf (versioned (g .label .version))) (g .script) ≡ true = rw (versions (g .label .version) .same) (o .letter) in
+    let v = versions (g .label .version) in
     let b₄ : Bytes (76 ∷ []) = omega arith in
     let b₅ : Bytes (replicate 10 32) = omega arith in
     let b₆ : Bytes (g .script ∷ []) = (o .byte, tt) in
-    checks (le-leb 32 n l) (reads (w .long) (w .bytes) (checks (w .one) (reads refl b₂ (checks refl (reads (f .long) (f .bytes) (checks (f .one) (reads refl b₄ (checks refl
-    (reads refl b₆ (checks (o .letter) (reads (d .long) (d .bytes) (checks c (reads refl b₅ (checks refl gives))))))))))))))
+    checks (le-leb 32 n l) (reads (w .long) (w .bytes) (checks (w .one) (reads (v .long) (v .bytes) (checks (v .one) (reads (f .long) (f .bytes) (checks f₁ (reads refl b₄ (checks refl
+    (reads refl b₆ (checks s₁ (reads (d .long) (d .bytes) (checks c (reads refl b₅ (checks refl gives))))))))))))))
 
 pub header-plays : (g : Heading) (k n : ℕ) → HeaderOk g k → 32 ≤ n → Plays (headerEvents g k) (fileHeader n) (record { heading = g; count = k })
 unfolding between padding padded makerCode
 header-plays g k n o l =
     let d = digits-ok k (leb-true k 64 (and-true (leb 1 k) _ (o .count) .1)) in
     let m : countIs (countOf (digits k)) ≡ k = ap countIs (d .count) in
-    rw (m, spells (g .spelling) .same, forms (g .label .form) .same) at (header-read g k n o d l)
+    rw (m, spells (g .spelling) .same, versions (g .label .version) .same, forms (g .label .form) .same) at (header-read g k n o d l)
 
 pub header-size : (g : Heading) (k : ℕ) → HeaderOk g k → size (headerEvents g k) ≡ 32
-unfolding headerEvents version size between padding padded makerCode
-header-size g k o = omega (arith, spells (g .spelling) .long, forms (g .label .form) .long, digits-ok k (leb-true k 64 (and-true (leb 1 k) _ (o .count) .1)) .long)
+unfolding headerEvents size between padding padded makerCode
+header-size g k o = omega (arith, spells (g .spelling) .long, versions (g .label .version) .long, forms (g .label .form) .long, digits-ok k (leb-true k 64 (and-true (leb 1 k) _ (o .count) .1)) .long)
 
 -- The file
 

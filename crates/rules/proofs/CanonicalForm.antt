@@ -17,19 +17,20 @@ use Rattle.walk.proofs.Laws.{by-parts, plays-gave, size-cleared}
 use Rattle.rules.specs.Canonical.{sizedHead, blanks, zeroes, numerals, rowOf, plainHead, recordOf, frameWritten, frameSize, frameEvents, framesBytes, framesHead, makerEvents, content, recordingHead, recordingEvents, digits, headerEvents, anew, canonical, rewritten, Canonical}
 use Rattle.rules.specs.CanonicalForm.{most, SizedAs, sizeAt, multiplierAt, lengthAt, signalsAt, makersLength, signalsTotal, recordingTotal, RecordingForm, RecordingsForm, CanonicalForm}
 use Rattle.rules.specs.Reading.{Reading, reading}
-use Rattle.rules.specs.Rules.{spelled, version, formed, series, Head, span, lengthOf, Label, Channel, sampleBytes, Frame, frame, Maker, Recording, Held, Placed, recording, recordings, between, Heading, fileHeader, File, Contents, contents, file, orderOf, judge}
+use Rattle.rules.specs.Rules.{mostOf, spelled, versioned, formed, series, Head, span, lengthOf, Label, Channel, sampleBytes, Frame, frame, Maker, Recording, Held, Placed, recording, recordings, between, Heading, fileHeader, File, Contents, contents, file, orderOf, judge}
+use Rattle.rules.proofs.Cases.{most-low}
 use Rattle.rules.proofs.Asked.{recording-found}
-use Rattle.rules.proofs.Canon.{readings, recordingWritten, PlayedAnew, EachAnew, recordings-ok, file-ok, file-plays, total-low}
+use Rattle.rules.proofs.Canon.{readings, recordingWritten, PlayedAnew, EachAnew, recordings-ok, file-ok, file-plays}
 use Rattle.rules.proofs.Chosen.{Opens, frameFilled, frame-chosen, front, shaped, Chosen, recording-chosen, shaped-anew, content-total}
 use Rattle.rules.proofs.Digits.{headerWith, header-chosen, digits-only, leading}
 use Rattle.rules.proofs.Here.{Here, here-as, here-first, here-then, here-byte, here-size, here-multiplier}
-use Rattle.rules.proofs.Named.{spells, forms}
+use Rattle.rules.proofs.Named.{spells, versions, forms}
 use Rattle.rules.proofs.Places.{frame-found}
 use Rattle.rules.proofs.Renew.{and-true, All, record-size, MakerOk, makers-size, FrameOk, frame-body-size}
 use Rattle.rules.proofs.Renewed.{RecordingOk, recording-ok}
 use Rattle.rules.proofs.Reserve.{of-recording, reserve-zero}
 use Rattle.rules.proofs.Rewrite.{reading-words, rewrite-canonical, rewrite-bytes, canonical-unique, rewrite-itself, rewrite-same}
-use Rattle.rules.proofs.Sized.{sized, sized-as, sized-unique}
+use Rattle.rules.proofs.Sized.{sized, longest, served, sized-as, sized-unique}
 use Rattle.rules.proofs.Turn.{accepted, is-render, judge-render}
 use Rattle.rules.proofs.Written.{parts, ends, gave-none, plain-is}
 
@@ -37,22 +38,22 @@ use Rattle.rules.proofs.Written.{parts, ends, gave-none, plain-is}
 
 module _ (o : Order) (s : List ℕ) (t : ℕ) (cs : List Channel) where
   -- frames with multiplier 0 that end with their samples are known
-  frames-known : (n : ℕ) → n ≡ frameSize t cs → (m i room p : ℕ) {u : List Event} {fs : List Frame} → Plays u (series m i n room (frame n t cs)) fs → Here o s p (cleared u) →
+  frames-known : (label : Label) (n : ℕ) → n ≡ frameSize t cs → (m i room p : ℕ) {u : List Event} {fs : List Frame} → Plays u (series m i n room (frame label n t cs)) fs → Here o s p (cleared u) →
       ((k : ℕ) → k < m → numberAt o 4 s (p + k * n + 12) ≡ 0) → cleared u ≡ frameEvents t cs i fs
   unfolding series frameEvents recordOf frameWritten
-  frames-known n e zero i room p q w z = rw (plays-gave q) (gave-none q)
-  frames-known n e (suc m) i room p q w z =
-      by-parts (frame n t cs room i) _ q λ f u v e₁ f₀ q.
-      by-parts (series m (suc i) n (room - n) (frame n t cs)) _ q λ fs x y e₂ s₀ q.
-      let c = frame-chosen n t cs room i f₀ in
+  frames-known label n e zero i room p q w z = rw (plays-gave q) (gave-none q)
+  frames-known label n e (suc m) i room p q w z =
+      by-parts (frame label n t cs room i) _ q λ f u v e₁ f₀ q.
+      by-parts (series m (suc i) n (room - n) (frame label n t cs)) _ q λ fs x y e₂ s₀ q.
+      let c = frame-chosen label n t cs room i f₀ in
       let j = parts u v e₁ refl (ends x y e₂ refl (gave-none q)) in
       let w₁ : Here o s p (cleared u ++ cleared x) = here-as j w in
       let w₂ = here-as (c .events) (here-first (cleared u) (cleared x) w₁) in
       let d : p + zero * n + 12 ≡ p + 12 = omega arith in
       let g : c .head .multiplier ≡ 0 = sym (here-multiplier (c .head) _ w₂ (omega (arith, c .opens .low))) ∙ (ap (numberAt o 4 s) (sym d) ∙ z zero (omega arith)) in
       let h : c .head ≡ plainHead (frameSize t cs) 145 i = plain-is (c .head) (frameSize t cs) 145 i (omega arith) (c .long ∙ e) (c .opens .code) (c .opens .serial) in
-      let l : size (cleared u) ≡ n = size-cleared u ∙ omega (arith, frame-found n t cs room i f₀ .bytes) in
-      let r = frames-known n e m (suc i) (room - n) (p + n) s₀ (here-then (cleared u) (cleared x) w₁ (ap (λ (b : ℕ). p + b) l)) (λ k b. let a : p + n + k * n + 12 ≡ p + suc k * n + 12 = omega arith in ap (numberAt o 4 s) a ∙ z (suc k) (omega arith)) in
+      let l : size (cleared u) ≡ n = size-cleared u ∙ omega (arith, frame-found label n t cs room i f₀ .bytes) in
+      let r = frames-known label n e m (suc i) (room - n) (p + n) s₀ (here-then (cleared u) (cleared x) w₁ (ap (λ (b : ℕ). p + b) l)) (λ k b. let a : p + n + k * n + 12 ≡ p + suc k * n + 12 = omega arith in ap (numberAt o 4 s) a ∙ z (suc k) (omega arith)) in
       let none : n - (24 + sampleBytes t cs) ≡ 0 = omega arith in
       let y : cleared u ≡ recordOf (plainHead (frameSize t cs) 145 i) (frameWritten cs f) = c .events ∙ (λ j. recordOf (h j) (frameFilled cs f (none j))) in
       rw (plays-gave q) (j ∙ (λ k. y k ++ r k))
@@ -71,10 +72,10 @@ module _ (o : Order) (s : List ℕ) (t : ℕ) (cs : List Channel) where
 
 -- A recording
 
-makers-length : (ms : List Maker) → All MakerOk ms → makersLength ms ≡ size (makerEvents ms)
+makers-length : (label : Label) (ms : List Maker) → All (MakerOk label) ms → makersLength ms ≡ size (makerEvents ms)
 unfolding makersLength makerEvents size
-makers-length [] k = refl
-makers-length (m ∷ ms) k = ap (λ (n : ℕ). span (m .head) + n) (makers-length ms (k .1)) ∙ sym (makers-size m ms (k .0))
+makers-length label [] k = refl
+makers-length label (m ∷ ms) k = ap (λ (n : ℕ). span (m .head) + n) (makers-length label ms (k .1)) ∙ sym (makers-size m ms (k .0))
 
 -- what is read where the 10 and the 140 stand, and where the frames stand
 record Stood (s : List ℕ) (at at140 : ℕ) (h g : Head) (frames : List Event) : Type 0 where
@@ -102,8 +103,8 @@ stood label s at r h g n frames pad w a b =
 sized-head : (n c i : ℕ) (h : Head) → Opens c i h → SizedAs n (h .size) (h .multiplier) → h ≡ sizedHead n c i
 sized-head n c i h k a = let z = sized-unique n a (sized-as n) in λ j. record { size = z .0 j; code = k .code j; serial = k .serial j; multiplier = z .1 j }
 
-sized-opens : (n c i : ℕ) → n ≤ 128 * most → Opens c i (sizedHead n c i)
-sized-opens n c i l = let z = sized n in record { low = z .low 128 l; small = omega (arith, z .small); code = refl; serial = refl }
+sized-opens : (label : Label) (n c i : ℕ) → n ≤ longest (mostOf label) → Opens c i (sizedHead n c i)
+sized-opens label n c i l = record { low = omega (arith, served n (mostOf label) l, most-low label); small = omega (arith, sized n .small); code = refl; serial = refl }
 
 sized-like : {n n′ s s′ m m′ : ℕ} → n ≡ n′ → s ≡ s′ → m ≡ m′ → SizedAs n s m → SizedAs n′ s′ m′
 sized-like e f g k = rw (← e, ← f, ← g) k
@@ -120,7 +121,7 @@ module _ (label : Label) (s : List ℕ) (at i : ℕ) (held : Option Held) (x : P
 
   -- the total length of the 10
   total-is : x .layout .at140 ≡ 16 + size (front label r) → lengthAt s (signalsAt at x) ≡ span g₀ → recordingTotal s at x ≡ 16 + size (content label r)
-  total-is e f = (λ j. e j + f j + makers-length (r .makers₆) (k .makers₆) j + 16) ∙ sym (content-total label r (k .frames))
+  total-is e f = (λ j. e j + f j + makers-length label (r .makers₆) (k .makers₆) j + 16) ∙ sym (content-total label r (k .frames))
 
   recording-known : {t : List Event} → Chosen label i t x → Here (orderOf s) s at (cleared t) → RecordingForm s at x → cleared t ≡ recordingWritten label i r
   recording-known c w f =
@@ -131,7 +132,7 @@ module _ (label : Label) (s : List ℕ) (at i : ℕ) (held : Option Held) (x : P
       let l : lengthAt s (signalsAt at x) ≡ span g₀ = (λ j. lengthOf (d .size140 j) (d .multiplier140 j)) ∙ ap (λ (h : Head). span h) g in
       let h : c .head ≡ recordingHead label i r = sized-head _ 10 i (c .head) (c .opens) (sized-like (total-is (c .at140) l) (d .size) (d .multiplier) (f .recording)) in
       let q : cleared (c .frames) ≡ frameEvents (r .seconds) (r .channels) 1 (r .frames) =
-      frames-known (orderOf s) s (r .seconds) (r .channels) (x .layout .frame) (f .filled) (length (r .frames)) 1 (c .room) (at + x .layout .at140 + 32) (c .plays) (d .here) (f .plain) in
+      frames-known (orderOf s) s (r .seconds) (r .channels) label (x .layout .frame) (f .filled) (length (r .frames)) 1 (c .room) (at + x .layout .at140 + 32) (c .plays) (d .here) (f .plain) in
       let p : c .pad ≡ span (recordingHead label i r) - (16 + size (content label r)) =
       pad-is (span (recordingHead label i r)) (16 + size (front label r)) (span g₀) (size (makerEvents (r .makers₆))) (c .pad) (16 + size (content label r))
       (ap (λ (b : Head). span b) (sym h) ∙ (c .total ∙ ap (λ (b : Head). 16 + size (front label r) + span b + size (makerEvents (r .makers₆)) + 16 + c .pad) g)) (content-total label r (k .frames)) in
@@ -166,7 +167,7 @@ recording-form label s at i x a w =
     (sym (c .events) ∙ (of-recording label h r pad ∙ shaped-anew label h r pad)) in
     let d : Stood s at (x .layout .at140) h g (frameEvents (r .seconds) (r .channels) 1 (r .frames)) =
     rw (c .at140) (stood label s at r h g (frameSize (r .seconds) (r .channels)) (frameEvents (r .seconds) (r .channels) 1 (r .frames)) pad (here-as (shaped-anew label h r pad) w)
-    (sized-opens _ 10 i (total-low label (a .held) r k)) (sized-opens _ 140 0 (k .frames .total))) in
+    (sized-opens label _ 10 i (k .long)) (sized-opens label _ 140 0 (k .frames .total))) in
     let l : lengthAt s (signalsAt at x) ≡ span g = λ j. lengthOf (d .size140 j) (d .multiplier140 j) in
     record {
       plain = λ j m. ap (λ (y : ℕ). numberAt (orderOf s) 4 s (signalsAt at x + 32 + j * y + 12)) n ∙ frames-plain (orderOf s) s (r .seconds) (r .channels) (r .frames) (k .frames .each) 1 (signalsAt at x + 32) (d .here) j m;
@@ -210,17 +211,17 @@ here-all s t e = record { behind = []; is = e ∙ sym (append-nil (render (order
 -- the first digit of K, and the first recording
 module _ (s : List ℕ) (g : Heading) (d : List ℕ) (t : List Event) (long : length d ≡ 4) (w : Here (orderOf s) s 0 (headerWith g d ++ t)) where
   digit-at : getD s 18 0 ≡ getD d 0 0
-  unfolding size version
-  digit-at = first d long (here-then (piece Text (spelled (g .spelling)) ∷ piece Text version ∷ piece Text (formed (g .label .form)) ∷ piece Letter (76 ∷ []) ∷ piece Text (g .script ∷ []) ∷ []) _ w
-      (omega (arith, spells (g .spelling) .long, forms (g .label .form) .long)))
+  unfolding size
+  digit-at = first d long (here-then (piece Text (spelled (g .spelling)) ∷ piece Text (versioned (g .label .version)) ∷ piece Text (formed (g .label .form)) ∷ piece Letter (76 ∷ []) ∷ piece Text (g .script ∷ []) ∷ []) _ w
+      (omega (arith, spells (g .spelling) .long, versions (g .label .version) .long, forms (g .label .form) .long)))
     where
       first : (b : List ℕ) → length b ≡ 4 → {u : List Event} → Here (orderOf s) s 18 (piece Text b ∷ u) → getD s 18 0 ≡ getD b 0 0
       first [] h v = absurd (omega arith)
       first (b ∷ bs) h {u} v = here-byte b bs u v
 
   recordings-at : Here (orderOf s) s 32 t
-  unfolding size version
-  recordings-at = here-then (headerWith g d) t w (omega (arith, spells (g .spelling) .long, forms (g .label .form) .long))
+  unfolding size
+  recordings-at = here-then (headerWith g d) t w (omega (arith, spells (g .spelling) .long, versions (g .label .version) .long, forms (g .label .form) .long))
 
 -- events that are in canonical form are those of the contents written anew
 file-known : (s : List ℕ) (n : ℕ) {t : List Event} {v : File} → Plays t (file n) v → s ≡ render (orderOf s) t → CanonicalForm s v t → t ≡ anew (contents v)

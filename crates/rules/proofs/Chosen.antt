@@ -14,7 +14,8 @@ use Rattle.walk.specs.Plays.{Plays}
 use Rattle.walk.specs.Walk.{Padding, Event, numeral, piece, row, size, cleared, give, _>>=_, _>>_}
 use Rattle.walk.proofs.Laws.{by-parts, by-check, taken, plays-gave, traced, size-append, size-cleared, zeros-length}
 use Rattle.rules.specs.Canonical.{blanks, zeroes, numerals, rowOf, plainHead, recordOf, basicFields, channelsHead, channelsWritten, itemsHead, itemsWritten, sampleEvents, frameSize, frameEvents, framesHead, framesWritten, makerEvents, optional, delimiterHead, delimiterEvents, channelsGroupOf, montageGroupOf, content}
-use Rattle.rules.specs.Rules.{padding, zeros, series, limit, Head, head, span, admit, Basic, Label, Channel, sampleBytes, samples, Frame, frame, frameBody, Frames, frames, framesBody, next, Recording, Held, countBack, delimiter, Placed, descriptions, signals, recordingBody, recording}
+use Rattle.rules.specs.Rules.{mostOf, padding, zeros, series, limit, Head, head, span, admit, Basic, Label, Channel, sampleBytes, samples, Frame, frame, frameBody, Frames, frames, framesBody, next, Recording, Held, countBack, delimiter, Placed, descriptions, signals, recordingBody, recording}
+use Rattle.rules.proofs.Cases.{most-low}
 use Rattle.rules.proofs.Asked.{recording-found}
 use Rattle.rules.proofs.Places.{frames-found}
 use Rattle.rules.proofs.Renew.{and-true, Admitted, admit-ok, series-ok, next-ok, FramesOk, frames-ok, frames-size, record-size}
@@ -37,8 +38,8 @@ pub record Opens (c i : ℕ) (h : Head) : Type 0 where
   pub code : h .code ≡ c
   pub serial : h .serial ≡ i
 
-opens : (room : ℕ) (fits : ℕ → Bool) (c i : ℕ) (h : Head) → Admitted room 128 fits (eqb i) h → eqb (h .code) c ≡ true → Opens c i h
-opens room fits c i h a k = record { low = a .low; small = a .small; code = eqb-true (h .code) c k; serial = sym (eqb-true i (h .serial) (a .serial)) }
+opens : (label : Label) (room : ℕ) (fits : ℕ → Bool) (c i : ℕ) (h : Head) → Admitted room (mostOf label) fits (eqb i) h → eqb (h .code) c ≡ true → Opens c i h
+opens label room fits c i h a k = record { low = omega (arith, a .low, most-low label); small = a .small; code = eqb-true (h .code) c k; serial = sym (eqb-true i (h .serial) (a .serial)) }
 
 -- A frame
 
@@ -60,17 +61,17 @@ frame-inside n t cs p =
     let q = padding-last (n - (24 + sampleBytes t cs)) _ p in
     rw (q .0) (number-first e₁ (number-first e₂ (number-first e₃ (blank-first e₄ w (parts a b e (samples-written t cs s₀) (q .1))))))
 
-pub frame-chosen : (n t : ℕ) (cs : List Channel) (room i : ℕ) {u : List Event} {f : Frame} → Plays u (frame n t cs room i) f → FrameChosen n t cs i u f
+pub frame-chosen : (label : Label) (n t : ℕ) (cs : List Channel) (room i : ℕ) {u : List Event} {f : Frame} → Plays u (frame label n t cs room i) f → FrameChosen n t cs i u f
 unfolding frame recordOf _>>=_ _>>_
-frame-chosen n t cs room i p =
+frame-chosen label n t cs room i p =
     by-parts (head room) _ p λ h u₁ v₁ e₁ h₀ p. by-check p λ c p.
-    by-parts (admit room 128 _ (eqb i) h) _ p λ _ u₂ v₂ e₂ a₀ p.
-    let k = admit-ok room 128 _ (eqb i) h a₀ in
+    by-parts (admit room (mostOf label) _ (eqb i) h) _ p λ _ u₂ v₂ e₂ a₀ p.
+    let k = admit-ok room (mostOf label) _ (eqb i) h a₀ in
     record {
       head = h;
-      opens = opens room _ 145 i h k c;
+      opens = opens label room _ 145 i h k c;
       long = eqb-true (span h) n (and-true (eqb (span h) n) _ (k .fits) .0);
-      events = parts u₁ v₁ e₁ (head-written room h₀) (parts u₂ v₂ e₂ (admit-written room 128 _ (eqb i) h a₀) (frame-inside n t cs p));
+      events = parts u₁ v₁ e₁ (head-written room h₀) (parts u₂ v₂ e₂ (admit-written room (mostOf label) _ (eqb i) h a₀) (frame-inside n t cs p));
     }
 
 -- 140
@@ -80,19 +81,19 @@ abbrev pub signalsFields : Head → ℕ → ℕ → List Frame → List Event �
 signalsFields h t n fs frames = numeral 4 t ∷ numeral 4 n ∷ numeral 4 (length fs) ∷ blanks 4 ∷ (frames ++ (zeroes (span h - (32 + length fs * n)) ∷ []))
 
 -- the events u are these, from those of the frames
-pub record SignalsChosen (cs : List Channel) (h : Head) (u : List Event) (x : Frames) : Type 0 where
+pub record SignalsChosen (label : Label) (cs : List Channel) (h : Head) (u : List Event) (x : Frames) : Type 0 where
   pub frames : List Event
   pub room : ℕ
-  pub plays : Plays frames (series (length (x .frames)) 1 (x .size) room (frame (x .size) (x .seconds) cs)) (x .frames)
+  pub plays : Plays frames (series (length (x .frames)) 1 (x .size) room (frame label (x .size) (x .seconds) cs)) (x .frames)
   pub events : cleared u ≡ signalsFields h (x .seconds) (x .size) (x .frames) (cleared frames)
 
-signals-inside : (b : Basic) (cs : List Channel) (h : Head) {u : List Event} {x : Frames} → Plays u (framesBody b cs h) x → SignalsChosen cs h u x
+signals-inside : {label : Label} (b : Basic) (cs : List Channel) (h : Head) {u : List Event} {x : Frames} → Plays u (framesBody label b cs h) x → SignalsChosen label cs h u x
 unfolding framesBody _>>=_ _>>_
-signals-inside b cs h p =
+signals-inside {label} b cs h p =
     by-counted p λ t _ e₁ p. by-check p λ _ p. by-check p λ _ p. by-counted p λ n _ e₂ p. by-check p λ _ p. by-counted p λ m _ e₃ p. by-check p λ _ p. by-check p λ _ p. by-skipped p λ _ _ e₄ w p.
-    by-parts (series m 1 n (span h - 32) (frame n t cs)) _ p λ fs u v e s₀ p.
+    by-parts (series m 1 n (span h - 32) (frame label n t cs)) _ p λ fs u v e s₀ p.
     let q = padding-last (span h - (32 + m * n)) _ p in
-    let l : length fs ≡ m = series-ok (λ _. Unit {0}) (frame n t cs) (λ _ _ _ _ _. tt) m 1 n (span h - 32) s₀ .0 in
+    let l : length fs ≡ m = series-ok (λ _. Unit {0}) (frame label n t cs) (λ _ _ _ _ _. tt) m 1 n (span h - 32) s₀ .0 in
     rw (q .0) (record {
       frames = u;
       room = span h - 32;
@@ -134,7 +135,7 @@ pub record Chosen (label : Label) (i : ℕ) (t : List Event) (x : Placed) : Type
   -- the frames
   pub frames : List Event
   pub room : ℕ
-  pub plays : Plays frames (series (length (x .recording .frames)) 1 (x .layout .frame) room (frame (x .layout .frame) (x .recording .seconds) (x .recording .channels))) (x .recording .frames)
+  pub plays : Plays frames (series (length (x .recording .frames)) 1 (x .layout .frame) room (frame label (x .layout .frame) (x .recording .seconds) (x .recording .channels))) (x .recording .frames)
   -- the padding behind the delimiter
   pub pad : ℕ
   pub events : cleared t ≡ shaped label (x .recording) head signals (x .layout .frame) (cleared frames) pad
@@ -158,11 +159,11 @@ pub recording-chosen : (label : Label) (held : Option Held) (room i : ℕ) {t : 
 unfolding recording recordingBody signals frames front recordOf _>>=_ _>>_
 recording-chosen label held room i {t} {x} p₀ =
     by-parts (head room) _ p₀ λ h u₁ v₁ e₁ h₀ p. by-check p λ c₁ p.
-    by-parts (admit room 128 (leb 16) (eqb i) h) _ p λ _ u₂ v₂ e₂ a₀ p.
+    by-parts (admit room (mostOf label) (leb 16) (eqb i) h) _ p λ _ u₂ v₂ e₂ a₀ p.
     by-parts (descriptions label held (span h)) _ p λ d u₃ v₃ e₃ d₀ p. by-check p λ c₂ p.
-    by-parts (frames (d .basic) (d .channels .own) (d .channels .value) (countBack (span h) (d .montage .next .room)) (d .montage .next .room) (d .montage .next .head)) _ p λ f u₄ v₄ e₄ f₀ p.
-    by-parts (admit (d .montage .next .room) 128 (leb 32) (eqb 0) (d .montage .next .head)) _ f₀ λ _ u₅ v₅ e₅ g₀ f₁. by-check f₁ λ _ f₁.
-    by-parts (next (span h) (d .montage .next .room - span (d .montage .next .head))) _ p λ n u₆ v₆ e₆ n₀ p.
+    by-parts (frames label (d .basic) (d .channels .own) (d .channels .value) (countBack (span h) (d .montage .next .room)) (d .montage .next .room) (d .montage .next .head)) _ p λ f u₄ v₄ e₄ f₀ p.
+    by-parts (admit (d .montage .next .room) (mostOf label) (leb 32) (eqb 0) (d .montage .next .head)) _ f₀ λ _ u₅ v₅ e₅ g₀ f₁. by-check f₁ λ _ f₁.
+    by-parts (next label (span h) (d .montage .next .room - span (d .montage .next .head))) _ p λ n u₆ v₆ e₆ n₀ p.
     by-parts (delimiter (n .head)) _ p λ _ u₇ v₇ e₇ l₀ p. by-check p λ _ p. by-check p λ _ p.
     let y = padding-last (n .room - 16) _ p in
     let g : Head = d .montage .next .head in
@@ -172,10 +173,10 @@ recording-chosen label held room i {t} {x} p₀ =
     let s = signals-inside (d .basic) (d .channels .value) g f₁ in
     let l = delimiter-chosen (n .head) l₀ in
     let S : List Event = rowOf g ∷ signalsFields g (f .seconds) (f .size) (f .frames) (cleared (s .frames)) in
-    let s₁ : cleared u₄ ≡ S = parts u₅ v₅ e₅ (admit-written left 128 (leb 32) (eqb 0) g g₀) (s .events) in
+    let s₁ : cleared u₄ ≡ S = parts u₅ v₅ e₅ (admit-written left (mostOf label) (leb 32) (eqb 0) g g₀) (s .events) in
     let w : cleared t ≡ recordOf h (F ++ (numerals g ++ (S ++ (M ++ (delimiterEvents ++ (zeroes (n .room - 16) ∷ [])))))) =
-    parts u₁ v₁ e₁ (head-written room h₀) (parts u₂ v₂ e₂ (admit-written room 128 (leb 16) (eqb i) h a₀) (parts u₃ v₃ e₃ (tables-written label held (span h) d₀) (parts u₄ v₄ e₄ s₁
-    (parts u₆ v₆ e₆ (next-written (span h) (left - span g) n₀) (parts u₇ v₇ e₇ (l .1) (y .1)) ∙ delimited M (zeroes (n .room - 16) ∷ []) (n .head) (l .0))) ∙ append-assoc F (numerals g) _)) in
+    parts u₁ v₁ e₁ (head-written room h₀) (parts u₂ v₂ e₂ (admit-written room (mostOf label) (leb 16) (eqb i) h a₀) (parts u₃ v₃ e₃ (tables-written label held (span h) d₀) (parts u₄ v₄ e₄ s₁
+    (parts u₆ v₆ e₆ (next-written label (span h) (left - span g) n₀) (parts u₇ v₇ e₇ (l .1) (y .1)) ∙ delimited M (zeroes (n .room - 16) ∷ []) (n .head) (l .0))) ∙ append-assoc F (numerals g) _)) in
     let b₁ : span h ≡ 16 + (size F + (16 + (size S + (size M + (16 + (n .room - 16)))))) =
     sym (recording-found label held room i p₀ .bytes ∙ ap (λ (z : Placed). z .layout .bytes) (y .0)) ∙ (sym (size-cleared t) ∙ (ap size w ∙ shaped-size h g F S M (n .room - 16))) in
     let b₂ : size S + 16 ≡ span g = ap (λ (m : ℕ). m + 16) (ap size (sym s₁) ∙ size-cleared u₄) ∙ frames-found (record { hour = 0; minute = 0; second = 0; channels = [] }) (d .basic) (d .channels .own) (d .channels .value) _ left g f₀ .bytes in
@@ -183,9 +184,9 @@ recording-chosen label held room i {t} {x} p₀ =
     let j = chosen-sums (span h) (size F) (size S) (span g) (size M) (n .room) left b₁ b₂ (b₃ .left) (b₃ .enough) (frames-ok (d .basic) (d .channels .own) (d .channels .value) _ left g f₀ .2) in
     rw (y .0) (record {
       head = h;
-      opens = opens room (leb 16) 10 i h (admit-ok room 128 (leb 16) (eqb i) h a₀) c₁;
+      opens = opens label room (leb 16) 10 i h (admit-ok room (mostOf label) (leb 16) (eqb i) h a₀) c₁;
       signals = g;
-      opens140 = opens left (leb 32) 140 0 g (admit-ok left 128 (leb 32) (eqb 0) g g₀) c₂;
+      opens140 = opens label left (leb 32) 140 0 g (admit-ok left (mostOf label) (leb 32) (eqb 0) g g₀) c₂;
       frames = s .frames;
       room = s .room;
       plays = s .plays;
@@ -212,7 +213,7 @@ shaped-anew label h r pad =
     ap (recordOf h) (ap (λ (t : List Event). t ++ (zeroes pad ∷ [])) (content-front label r) ∙
     in-shape (front label r) (framesWritten (r .seconds) (r .channels) (r .frames)) (makerEvents (r .makers₆)) delimiterEvents (zeroes pad ∷ []) (framesHead (r .seconds) (r .channels) (r .frames)))
 
-pub content-total : (label : Label) (r : Recording) → FramesOk (r .basic) (r .ownChannels) (r .channels) (r .seconds) (r .frames) →
+pub content-total : (label : Label) (r : Recording) → FramesOk label (r .basic) (r .ownChannels) (r .channels) (r .seconds) (r .frames) →
     16 + size (content label r) ≡ 16 + size (front label r) + span (framesHead (r .seconds) (r .channels) (r .frames)) + size (makerEvents (r .makers₆)) + 16
 unfolding delimiterEvents size
 content-total label r k =

@@ -14,16 +14,16 @@ use Rattle.walk.specs.Walk.{Letter, Text, Event, piece, _>>=_, _>>_}
 use Rattle.walk.proofs.Apart.{false-true}
 use Rattle.walk.proofs.Laws.{traced}
 use Rattle.rules.specs.Canonical.{digits}
-use Rattle.rules.specs.Rules.{between, spelled, spellingOf, version, formed, formOf, allSpaces, isDigit, decimal, countOf, countFits, countIs, Heading, FileHeader, fileHeader}
+use Rattle.rules.specs.Rules.{between, spelled, spellingOf, versioned, versionOf, formed, formOf, allSpaces, isDigit, decimal, countOf, countFits, countIs, Heading, FileHeader, fileHeader}
 use Rattle.rules.proofs.Canon.{one-digit, two-digits}
 use Rattle.rules.proofs.Renew.{and-true}
-use Rattle.rules.proofs.Named.{same-is, spelled-as, formed-as}
+use Rattle.rules.proofs.Named.{spelled-as, versioned-as, formed-as}
 
 -- The header's events
 
 -- with these digits
 abbrev pub headerWith : Heading → List ℕ → List Event
-headerWith g d = piece Text (spelled (g .spelling)) ∷ piece Text version ∷ piece Text (formed (g .label .form)) ∷ piece Letter (76 ∷ []) ∷ piece Text (g .script ∷ []) ∷ piece Text d ∷ piece Text (replicate 10 32) ∷ []
+headerWith g d = piece Text (spelled (g .spelling)) ∷ piece Text (versioned (g .label .version)) ∷ piece Text (formed (g .label .form)) ∷ piece Letter (76 ∷ []) ∷ piece Text (g .script ∷ []) ∷ piece Text d ∷ piece Text (replicate 10 32) ∷ []
 
 pub record HeaderChosen (t : List Event) (f : FileHeader) : Type 0 where
   pub digits : List ℕ
@@ -42,7 +42,7 @@ unfolding allSpaces
 spaces-are [] h = refl
 spaces-are (x ∷ a) h = let k = and-true (eqb x 32) (allSpaces a) h in λ i. eqb-true x 32 (k .0) i ∷ spaces-are a (k .1) i
 
-header-is : (g : Heading) (id v f l s d e : List ℕ) → id ≡ spelled (g .spelling) → v ≡ version → f ≡ formed (g .label .form) → l ≡ 76 ∷ [] → s ≡ g .script ∷ [] → e ≡ replicate 10 32 →
+header-is : (g : Heading) (id v f l s d e : List ℕ) → id ≡ spelled (g .spelling) → v ≡ versioned (g .label .version) → f ≡ formed (g .label .form) → l ≡ 76 ∷ [] → s ≡ g .script ∷ [] → e ≡ replicate 10 32 →
     piece Text id ∷ piece Text v ∷ piece Text f ∷ piece Letter l ∷ piece Text s ∷ piece Text d ∷ piece Text e ∷ [] ≡ headerWith g d
 header-is g id v f l s d e h₁ h₂ h₃ h₄ h₅ h₆ = λ i. piece Text (h₁ i) ∷ piece Text (h₂ i) ∷ piece Text (h₃ i) ∷ piece Letter (h₄ i) ∷ piece Text (h₅ i) ∷ piece Text d ∷ piece Text (h₆ i) ∷ []
 
@@ -62,8 +62,8 @@ header-chosen n p =
       long = g .width;
       fits = g .then .holds;
       count = refl;
-      events = q .events ∙ header-is (record { spelling = spellingOf (a .bytes); label = record { form = formOf (c .bytes) }; script = getD (e .bytes) 0 0 }) (a .bytes) (b .bytes) (c .bytes) (d .bytes) (e .bytes) (g .bytes) (k .bytes)
-          (spelled-as (a .bytes) (a .then .holds)) (same-is (b .bytes) version (b .then .holds)) (formed-as (c .bytes) (c .then .holds))
+      events = q .events ∙ header-is (record { spelling = spellingOf (a .bytes); label = record { version = versionOf (b .bytes); form = formOf (c .bytes) }; script = getD (e .bytes) 0 0 }) (a .bytes) (b .bytes) (c .bytes) (d .bytes) (e .bytes) (g .bytes) (k .bytes)
+          (spelled-as (a .bytes) (a .then .holds)) (versioned-as (b .bytes) (b .then .holds)) (formed-as (versionOf (b .bytes)) (c .bytes) (c .then .holds))
           (one-is (d .bytes) (d .width) ∙ ap (λ (x : ℕ). x ∷ []) (eqb-true (getD (d .bytes) 0 0) 76 (d .then .holds))) (one-is (e .bytes) (e .width))
           (spaces-are (k .bytes) (k .then .holds) ∙ ap (λ (x : ℕ). replicate x 32) (k .width));
     })

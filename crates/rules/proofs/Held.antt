@@ -26,7 +26,7 @@ at-map d (p ∷ ps) (suc k) = at-map d ps k
 -- the subs are the same in every recording
 pub same-sub : (label : Label) (m n : ℕ) → channelsGroup label m .sub ≡ channelsGroup label n .sub
 unfolding channelsGroup
-same-sub label m n = by-form (λ l. channelsGroup l m .sub ≡ channelsGroup l n .sub) refl refl label
+same-sub label m n = by-form (λ l. channelsGroup l m .sub ≡ channelsGroup l n .sub) label refl refl
 
 module _ (s : List ℕ) (b : Bytes s) {v : File} {r : List ℕ} {t : List Event} (h : judge s ≡ passed v r t) (d : Placed) (k : ℕ) (l : k < length (v .recordings)) where
   abbrev heldBy : (Recording → Bool) → ℕ

@@ -58,17 +58,17 @@ module _ {A : Type 0} (label : Label) (own : Recording → Bool) (value : Record
   holds zero (r ∷ rs) g l = record { before = omega arith; owned = own-first r rs g; same = refl }
   holds (suc k) rs g l = holds-more k rs g l (holds k rs g (omega arith)) (own (getD rs (suc k) d)) refl
 
-absent : {A : Type 0} (P : A → Type 0) (h : Option A) (own : Bool) (a : A) (ms : List Maker) → PartOk P h own a ms → own ≡ false → h ≡ some a
-absent P h true a ms k e = false-true (sym e)
-absent P h false a ms k e = k .0
+absent : (label : Label) {A : Type 0} (P : A → Type 0) (h : Option A) (own : Bool) (a : A) (ms : List Maker) → PartOk label P h own a ms → own ≡ false → h ≡ some a
+absent label P h true a ms k e = false-true (sym e)
+absent label P h false a ms k e = k .0
 
 -- the channels that hold for a recording, and the patient items
 pub channels-hold : (label : Label) (d : Recording) (k : ℕ) (rs : List Recording) → RecordingsOk label none rs → k < length rs → Holds (λ r. r .ownChannels) (λ r. r .channels) d k rs
 channels-hold label d =
     holds label (λ r. r .ownChannels) (λ r. r .channels) heldChannels d refl (λ r. refl)
-    (λ x r k e. absent (ChannelsOk (channelsGroup label (r .basic .channels))) (heldChannels x) (r .ownChannels) (r .channels) (r .makers₂) (k .channels) e)
+    (λ x r k e. absent label (ChannelsOk (channelsGroup label (r .basic .channels))) (heldChannels x) (r .ownChannels) (r .channels) (r .makers₂) (k .channels) e)
 
 pub patient-holds : (label : Label) (d : Recording) (k : ℕ) (rs : List Recording) → RecordingsOk label none rs → k < length rs → Holds (λ r. r .ownPatient) (λ r. r .patient) d k rs
 patient-holds label d =
     holds label (λ r. r .ownPatient) (λ r. r .patient) heldPatient d refl (λ r. refl)
-    (λ x r k e. absent (ItemsOk patientCode) (heldPatient x) (r .ownPatient) (r .patient) (r .makers₃) (k .patient) e)
+    (λ x r k e. absent label (ItemsOk patientCode) (heldPatient x) (r .ownPatient) (r .patient) (r .makers₃) (k .patient) e)

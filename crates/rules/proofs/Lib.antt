@@ -1,6 +1,7 @@
 pub mod Cases
 pub mod Steps
 pub mod Room
+pub mod Silent
 pub mod Refusals
 pub mod Positions
 pub mod Turn

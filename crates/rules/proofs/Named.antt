@@ -1,7 +1,7 @@
--- Bytes that name one of two things: each text is told from the other, and no other bytes name either. The two spellings and the two forms.
+-- Bytes that name one of several things: each text is told from the others, and no other bytes name one. The spellings, the versions and the forms.
 -- Assumes nothing.
 use mathlib.Core.Path.{_≡_, refl}
-use mathlib.Core.Bool.{Bool, true, false}
+use mathlib.Core.Bool.{Bool, true, false, _&&_, _||_}
 use mathlib.Core.List.{List, [], _∷_}
 use Prim.Native.Nat.{ℕ}
 use native.Mathlib.Omega.{arith}
@@ -10,11 +10,13 @@ use lib.Dec.{eqb}
 use lib.ListN.{length}
 use Rattle.words.specs.Numbers.{Bytes}
 use Rattle.walk.proofs.Apart.{false-true}
-use Rattle.rules.specs.Rules.{sameBytes, isOneOf, oneOf, spelled, isSpelling, spellingOf, formed, isForm, formOf}
+use Rattle.rules.specs.Rules.{sameBytes, isOneOf, oneOf, spelled, isSpelling, spellingOf, versioned, isVersion, versionOf, allows, formed, isForm, formOf}
 use Rattle.rules.specs.declared.Form.{Form}
 use Rattle.rules.specs.declared.Form.the-variants as Form
 use Rattle.rules.specs.declared.Spelling.{Spelling}
 use Rattle.rules.specs.declared.Spelling.the-variants as Spelling
+use Rattle.rules.specs.declared.Version.{Version}
+use Rattle.rules.specs.declared.Version.the-variants as Version
 use Rattle.rules.proofs.Renew.{and-true, and-both}
 
 pub same-is : (a b : List ℕ) → sameBytes a b ≡ true → a ≡ b
@@ -29,45 +31,55 @@ unfolding sameBytes
 same-self [] = refl
 same-self (x ∷ a) = and-both (eqb x x) (sameBytes a a) (eq-eqb x x refl) (same-self a)
 
--- what one of the two is written with, n bytes
-pub record Named {A : Type 0} (text : A → List ℕ) (a b : A) (n : ℕ) (x : A) : Type 0 where
+-- what one of several is written with, n bytes
+pub record Named {A : Type 0} (text : A → List ℕ) (a : A) (others : List A) (n : ℕ) (x : A) : Type 0 where
   pub long : length (text x) ≡ n
   pub bytes : Bytes (text x)
-  pub one : isOneOf text a b (text x) ≡ true
-  pub same : oneOf text a b (text x) ≡ x
+  pub one : isOneOf text a others (text x) ≡ true
+  pub same : oneOf text a others (text x) ≡ x
 
-module _ {A : Type 0} (text : A → List ℕ) (a b : A) where
-  -- bytes that name one are the text of the one that they are read as
-  named-as : (bs : List ℕ) → isOneOf text a b bs ≡ true → bs ≡ text (oneOf text a b bs)
-  unfolding isOneOf oneOf
-  named-as bs h = go (sameBytes bs (text a)) refl
-    where
-      go : (c : Bool) → sameBytes bs (text a) ≡ c → bs ≡ text (oneOf text a b bs)
-      go true e = rw (oneOf, e) (same-is bs (text a) e)
-      go false e = rw (oneOf, e) (same-is bs (text b) (rw (isOneOf, e) at h))
-
-  names-first : (n : ℕ) → length (text a) ≡ n → Bytes (text a) → Named text a b n a
-  unfolding isOneOf oneOf
-  names-first n l s = let e = same-self (text a) in record { long = l; bytes = s; one = rw (isOneOf, e); same = rw (oneOf, e) }
-
-  names-second : (n : ℕ) → length (text b) ≡ n → Bytes (text b) → sameBytes (text b) (text a) ≡ false → Named text a b n b
-  unfolding isOneOf oneOf
-  names-second n l s d = record { long = l; bytes = s; one = rw (isOneOf, d) (same-self (text b)); same = rw (oneOf, d) }
+-- bytes that name one are the text of the one that they are read as
+named-as : {A : Type 0} (text : A → List ℕ) (a : A) (others : List A) (bs : List ℕ) → isOneOf text a others bs ≡ true → bs ≡ text (oneOf text a others bs)
+unfolding isOneOf oneOf
+named-as text a [] bs h = same-is bs (text a) h
+named-as text a (b ∷ others) bs h = go (named-as text b others bs) (sameBytes bs (text a)) refl
+  where
+    go : (isOneOf text b others bs ≡ true → bs ≡ text (oneOf text b others bs)) → (c : Bool) → sameBytes bs (text a) ≡ c → bs ≡ text (oneOf text a (b ∷ others) bs)
+    go f true e = rw (oneOf, e) (same-is bs (text a) e)
+    go f false e = rw (oneOf, e) (f (rw (isOneOf, e) at h))
 
 -- a spelling
-pub spells : (x : Spelling) → Named spelled Spelling.Spg Spelling.Psg 8 x
-unfolding spelled sameBytes
-spells Spelling.Spg = names-first spelled Spelling.Spg Spelling.Psg 8 refl (omega arith)
-spells Spelling.Psg = names-second spelled Spelling.Spg Spelling.Psg 8 refl (omega arith) refl
+pub spells : (x : Spelling) → Named spelled Spelling.Spg (Spelling.Psg ∷ []) 8 x
+unfolding spelled sameBytes isOneOf oneOf
+spells Spelling.Spg = record { long = refl; bytes = omega arith; one = refl; same = refl }
+spells Spelling.Psg = record { long = refl; bytes = omega arith; one = refl; same = refl }
 
 pub spelled-as : (bs : List ℕ) → isSpelling bs ≡ true → bs ≡ spelled (spellingOf bs)
-spelled-as = named-as spelled Spelling.Spg Spelling.Psg
+spelled-as = named-as spelled Spelling.Spg (Spelling.Psg ∷ [])
+
+-- a version
+pub versions : (x : Version) → Named versioned Version.V100 (Version.V110 ∷ Version.V200 ∷ Version.V300 ∷ []) 6 x
+unfolding versioned sameBytes isOneOf oneOf
+versions Version.V100 = record { long = refl; bytes = omega arith; one = refl; same = refl }
+versions Version.V110 = record { long = refl; bytes = omega arith; one = refl; same = refl }
+versions Version.V200 = record { long = refl; bytes = omega arith; one = refl; same = refl }
+versions Version.V300 = record { long = refl; bytes = omega arith; one = refl; same = refl }
+
+pub versioned-as : (bs : List ℕ) → isVersion bs ≡ true → bs ≡ versioned (versionOf bs)
+versioned-as = named-as versioned Version.V100 (Version.V110 ∷ Version.V200 ∷ Version.V300 ∷ [])
 
 -- a form
-pub forms : (x : Form) → Named formed Form.Channels Form.Electrodes 2 x
-unfolding formed sameBytes
-forms Form.Channels = names-first formed Form.Channels Form.Electrodes 2 refl (omega arith)
-forms Form.Electrodes = names-second formed Form.Channels Form.Electrodes 2 refl (omega arith) refl
+pub forms : (x : Form) → Named formed Form.Channels (Form.Electrodes ∷ []) 2 x
+unfolding formed sameBytes isOneOf oneOf
+forms Form.Channels = record { long = refl; bytes = omega arith; one = refl; same = refl }
+forms Form.Electrodes = record { long = refl; bytes = omega arith; one = refl; same = refl }
 
-pub formed-as : (bs : List ℕ) → isForm bs ≡ true → bs ≡ formed (formOf bs)
-formed-as = named-as formed Form.Channels Form.Electrodes
+-- one that a version allows is one of the two
+pub formed-as : (v : Version) (bs : List ℕ) → isForm v bs ≡ true → bs ≡ formed (formOf bs)
+unfolding isOneOf
+formed-as v bs h = named-as formed Form.Channels (Form.Electrodes ∷ []) bs (wider (sameBytes bs (formed Form.Channels)) (allows v .electrodes) (sameBytes bs (formed Form.Electrodes)) h)
+  where
+    wider : (a e b : Bool) → a || (e && b) ≡ true → a || b ≡ true
+    wider true e b h = refl
+    wider false true b h = h
+    wider false false b h = false-true h

@@ -16,7 +16,7 @@ use Rattle.walk.specs.Walk.{Padding, Event, numeral, blank, size, render, run, 
 use Rattle.walk.proofs.Tracing.{render-append}
 use Rattle.walk.proofs.Laws.{complete, length-render, size-append, by-parts, skipped, plays-gave, traced, eventsOf, valueOf, checked, counted, taken}
 use Rattle.rules.specs.declared.Form.the-variants as Form
-use Rattle.rules.specs.Rules.{between, padding, padded, makerCode, zeros, series, Head, head, span, admit, exactly, fixed, Basic, Sub, Group, Label, montageGroup, Channel, channelBody, channel, channels, montage, Item, item, itemBytes, itemSize, itemList, items, width, samplesIn, sampleBytes, numberList, samples, Frame, frame, Frames, frames, channelsBody, itemsBody, frameBody, framesBody}
+use Rattle.rules.specs.Rules.{mostOf, between, padding, padded, makerCode, zeros, series, Head, head, span, admit, exactly, fixed, Basic, Sub, Group, Label, montageGroup, Channel, channelBody, channel, channels, montage, Item, item, itemBytes, itemSize, itemList, items, width, samplesIn, sampleBytes, numberList, samples, Frame, frame, Frames, frames, channelsBody, itemsBody, frameBody, framesBody}
 use Rattle.rules.proofs.Renew.{and-true, channel-size, series-ok}
 use Rattle.rules.proofs.Cases.{by-form}
 
@@ -147,7 +147,7 @@ pub montage-is : (label : Label) (es : List Channel) (room : ℕ) (h : Head) {t 
     (label .form ≡ Form.Electrodes) × Plays t (channels (montageGroup (length es)) room h) cs
 unfolding montage
 montage-is label es room h {t} {cs} =
-    by-form (λ l. Plays t (montage l es room h) cs → (l .form ≡ Form.Electrodes) × Plays t (channels (montageGroup (length es)) room h) cs) (λ p. absurd (traced p .trace)) (λ p. (refl, p)) label
+    by-form (λ l. Plays t (montage l es room h) cs → (l .form ≡ Form.Electrodes) × Plays t (channels (montageGroup (length es)) room h) cs) label (λ p. absurd (traced p .trace)) (λ p. (refl, p))
 
 -- an item among items
 
@@ -268,18 +268,18 @@ in-frame n t cs room h {u} u₁ v₁ u₂ v₂ {w} {f} x y z bs h₀ a₀ e₁ e
     let g₁ : Found v₁ (samples t cs) ss 8 = found-second u₂ g₂ e₂ (omega arith) in
     record { samples = rw v (found-second u₁ g₁ e₁ (rw (head-size room h₀))); bytes = omega arith }
 
-pub frame-found : (n t : ℕ) (cs : List Channel) (room i : ℕ) {u : List Event} {f : Frame} → Plays u (frame n t cs room i) f → InFrame n t cs u f
+pub frame-found : (label : Label) (n t : ℕ) (cs : List Channel) (room i : ℕ) {u : List Event} {f : Frame} → Plays u (frame label n t cs room i) f → InFrame n t cs u f
 unfolding frame frameBody size _>>=_ _>>_ between padding padded makerCode
-frame-found n t cs room i p =
+frame-found label n t cs room i p =
     by-parts (head room) _ p λ h u₁ v₁ e₁ h₀ p.
-    by-parts (admit room 128 _ (eqb i) h) _ (checked p .then) λ _ u₂ v₂ e₂ a₀ p.
+    by-parts (admit room (mostOf label) _ (eqb i) h) _ (checked p .then) λ _ u₂ v₂ e₂ a₀ p.
     let x = counted p in
     let y = counted (checked (x .then) .then) in
     let z = counted (checked (y .then) .then) in
     let k = skipped (checked (z .then) .then) in
     let q : numeral 2 (x .word) ∷ numeral 2 (y .word) ∷ numeral 2 (z .word) ∷ blank (k .bytes) ∷ k .others ≡ v₂ = sym (x .split ∙ ap (λ (x₁ : List Event). numeral 2 (x .word) ∷ x₁)
     (y .split ∙ ap (λ (x₁ : List Event). numeral 2 (y .word) ∷ x₁) (z .split ∙ ap (λ (x₁ : List Event). numeral 2 (z .word) ∷ x₁) (k .split)))) in
-    in-frame n t cs room h u₁ v₁ u₂ v₂ (x .word) (y .word) (z .word) (k .bytes) h₀ (admit-size room 128 _ (eqb i) h a₀) e₁ e₂ (k .width) q (k .then)
+    in-frame n t cs room h u₁ v₁ u₂ v₂ (x .word) (y .word) (z .word) (k .bytes) h₀ (admit-size room (mostOf label) _ (eqb i) h a₀) e₁ e₂ (k .width) q (k .then)
 
 series-bytes : {A : Type 0} (w : ℕ → ℕ → Walk A) (step : ℕ) → ((room i : ℕ) (t : List Event) (a : A) → Plays t (w room i) a → size t ≡ step) →
     (n i room : ℕ) {t : List Event} {l : List A} → Plays t (series n i step room w) l → size t ≡ step * n
@@ -292,13 +292,13 @@ series-bytes w step f (suc n) i room p =
 
 -- 140, 130 and 200: counted from behind the head
 
-pub record InFrames (d : Frame) (cs : List Channel) (h : Head) (u : List Event) (x : Frames) : Type 0 where
+pub record InFrames (label : Label) (d : Frame) (cs : List Channel) (h : Head) (u : List Event) (x : Frames) : Type 0 where
   pub low : 24 + sampleBytes (x .seconds) cs ≤ x .size
   pub bytes : size u + 16 ≡ span h
-  pub frame : (j : ℕ) → j < length (x .frames) → Found u (frame (x .size) (x .seconds) cs (span h - 32 - x .size * j) (1 + j)) (getD (x .frames) j d) (16 + x .size * j)
+  pub frame : (j : ℕ) → j < length (x .frames) → Found u (frame label (x .size) (x .seconds) cs (span h - 32 - x .size * j) (1 + j)) (getD (x .frames) j d) (16 + x .size * j)
 
-frame-bytes : (n t : ℕ) (cs : List Channel) → 24 + sampleBytes t cs ≤ n → (room i : ℕ) (u : List Event) (f : Frame) → Plays u (frame n t cs room i) f → size u ≡ n
-frame-bytes n t cs l room i u f p = omega (arith, frame-found n t cs room i p .bytes)
+frame-bytes : (label : Label) (n t : ℕ) (cs : List Channel) → 24 + sampleBytes t cs ≤ n → (room i : ℕ) (u : List Event) (f : Frame) → Plays u (frame label n t cs room i) f → size u ≡ n
+frame-bytes label n t cs l room i u f p = omega (arith, frame-found label n t cs room i p .bytes)
 
 -- how far a walk goes behind a piece of n bytes
 pub piece-size : (bs : List ℕ) (n a b : ℕ) → length bs ≡ n → a ≡ b → length bs + a ≡ n + b
@@ -307,31 +307,31 @@ piece-size bs n a b h k = omega arith
 frames-sum : (s n x : ℕ) → 32 + n * s ≤ x → 0 + (4 + (4 + (4 + (4 + (s * n + (x - (32 + n * s) + (0 + 0))))))) + 16 ≡ x
 frames-sum s n x h = omega (arith, mul-comm n s)
 
-frames-inside : (d : Frame) (cs : List Channel) (h : Head) (t s n : ℕ) (bs : List ℕ) (u : List Event) {v w : List Event} {x : Frames} (z : ℕ) → 24 + sampleBytes t cs ≤ s → 32 + n * s ≤ span h → length bs ≡ 4 → size u ≡ 0 →
+frames-inside : {label : Label} (d : Frame) (cs : List Channel) (h : Head) (t s n : ℕ) (bs : List ℕ) (u : List Event) {v w : List Event} {x : Frames} (z : ℕ) → 24 + sampleBytes t cs ≤ s → 32 + n * s ≤ span h → length bs ≡ 4 → size u ≡ 0 →
     u ++ (numeral 4 t ∷ numeral 4 s ∷ numeral 4 n ∷ blank bs ∷ w) ≡ v →
-    Plays w (series n 1 s (span h - 32) (frame s t cs) >>= λ fs. read Padding (span h - (32 + n * s)) zeros >>= λ _. give (record { seconds = t; frames = fs; size = s; padded = z })) x → InFrames d cs h v x
+    Plays w (series n 1 s (span h - 32) (frame label s t cs) >>= λ fs. read Padding (span h - (32 + n * s)) zeros >>= λ _. give (record { seconds = t; frames = fs; size = s; padded = z })) x → InFrames label d cs h v x
 unfolding size _>>=_
-frames-inside d cs h t s n bs u {v} {w} {x} z l g k a e p =
-    by-parts (series n 1 s (span h - 32) (frame s t cs)) _ p λ fs b c e₁ s₀ p.
+frames-inside {label} d cs h t s n bs u {v} {w} {x} z l g k a e p =
+    by-parts (series n 1 s (span h - 32) (frame label s t cs)) _ p λ fs b c e₁ s₀ p.
     let r = taken p in
     by-parts (zeros (r .bytes)) _ (r .then) λ _ c₁ d₁ e₂ z₀ p.
     let y : x ≡ record { seconds = t; frames = fs; size = s; padded = z } = plays-gave p in
-    let m = series-count n 1 s (span h - 32) (frame s t cs) s₀ in
+    let m = series-count n 1 s (span h - 32) (frame label s t cs) s₀ in
     let o : size (r .others) ≡ 0 + 0 = join c₁ d₁ e₂ (zeros-none (r .bytes) z₀) (gave-nothing p) in
     let sc : size c ≡ span h - (32 + n * s) + (0 + 0) = ap size (r .split) ∙ piece-size (r .bytes) (span h - (32 + n * s)) (size (r .others)) (0 + 0) (r .width) o in
-    let sw : size w ≡ s * n + (span h - (32 + n * s) + (0 + 0)) = join b c e₁ (series-bytes (frame s t cs) s (frame-bytes s t cs l) n 1 (span h - 32) s₀) sc in
+    let sw : size w ≡ s * n + (span h - (32 + n * s) + (0 + 0)) = join b c e₁ (series-bytes (frame label s t cs) s (frame-bytes label s t cs l) n 1 (span h - 32) s₀) sc in
     let sv : size v ≡ 0 + (4 + (4 + (4 + (4 + (s * n + (span h - (32 + n * s) + (0 + 0))))))) = join u (numeral 4 t ∷ numeral 4 s ∷ numeral 4 n ∷ blank bs ∷ w) e a (rw (sw, k)) in
     rw y (record {
       low = l;
       bytes = rw sv (frames-sum s n (span h) g);
       frame = λ j q. found-second u {u = numeral 4 t ∷ numeral 4 s ∷ numeral 4 n ∷ blank bs ∷ w} {p = 16 + s * j}
-          (found-second (numeral 4 t ∷ numeral 4 s ∷ numeral 4 n ∷ blank bs ∷ []) (found-first c (series-found d (frame s t cs) s (frame-bytes s t cs l) n 1 (span h - 32) s₀ j (omega arith)) e₁) refl (omega arith)) e (omega arith);
+          (found-second (numeral 4 t ∷ numeral 4 s ∷ numeral 4 n ∷ blank bs ∷ []) (found-first c (series-found d (frame label s t cs) s (frame-bytes label s t cs l) n 1 (span h - 32) s₀ j (omega arith)) e₁) refl (omega arith)) e (omega arith);
     })
 
-pub frames-found : (d : Frame) (b : Basic) (own : Bool) (cs : List Channel) (back room : ℕ) (h : Head) {u : List Event} {x : Frames} → Plays u (frames b own cs back room h) x → InFrames d cs h u x
+pub frames-found : {label : Label} (d : Frame) (b : Basic) (own : Bool) (cs : List Channel) (back room : ℕ) (h : Head) {u : List Event} {x : Frames} → Plays u (frames label b own cs back room h) x → InFrames label d cs h u x
 unfolding frames framesBody _>>=_ _>>_ between padding padded makerCode
-frames-found d b own cs back room h p =
-    by-parts (admit room 128 (leb 32) (eqb 0) h) _ p λ _ u v e a₀ p.
+frames-found {label} d b own cs back room h p =
+    by-parts (admit room (mostOf label) (leb 32) (eqb 0) h) _ p λ _ u v e a₀ p.
     let t = counted (checked p .then) in
     let s = counted (checked (checked (t .then) .then) .then) in
     let c = checked (s .then) in
@@ -343,7 +343,7 @@ frames-found d b own cs back room h p =
     let l : ℕ = 24 + sampleBytes (t .word) cs in
     let f = and-true (leb l (s .word) && leb (s .word) (l + 127)) _ (c .holds) in
     frames-inside d cs h (t .word) (s .word) (n .word) (k .bytes) u _ (leb-true l (s .word) (and-true (leb l (s .word)) _ (f .0) .0))
-    (leb-true (32 + n .word * s .word) (span h) (and-true (leb (32 + n .word * s .word) (span h)) _ (g .holds) .0)) (k .width) (admit-size room 128 (leb 32) (eqb 0) h a₀) q (k .then)
+    (leb-true (32 + n .word * s .word) (span h) (and-true (leb (32 + n .word * s .word) (span h)) _ (g .holds) .0)) (k .width) (admit-size room (mostOf label) (leb 32) (eqb 0) h a₀) q (k .then)
 
 pub items-in : (d : Item) (ok : ℕ → Bool) (room : ℕ) (h : Head) {t : List Event} {is : List Item} → Plays t (items ok room h) is → (j : ℕ) → j < length is →
     Found t (item ok (span h - 24 - itemBytes (take j is))) (getD is j d) (8 + itemBytes (take j is))

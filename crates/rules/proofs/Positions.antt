@@ -15,10 +15,10 @@ use Rattle.walk.proofs.Laws.{Spent, spent}
 use Rattle.walk.specs.See.{Stays}
 use Rattle.walk.proofs.Seen.{stays-bind}
 use Rattle.walk.proofs.Reach.{stays-grows, Reaches, reaches-bind, reaches-any, reaches-then, reaches-next, reaches-require, Later, run-later}
-use Rattle.rules.specs.Rules.{head, Head, span, coded, admit, exactly, fixed, basicBody, basic, Label, Sub, Group, channelsGroup, montageGroup, anything, fieldIf, channelBody, channel, Basic, channelsBody, channels, montage, item, itemSize, itemList, itemsBody, items, series, zeros, padding, Channel, width, samplesIn, sampleBytes, numberList, samples, frameBody, frame, padOk, framesBody, frames, Next, next, makerCode, Part, part, delimiter, Held, heldChannels, heldPatient, patientCode, eventCode, descriptions, countBack, signals, recordingBody, recording, recordings, fileHeader, File, file, orderOf, whole, judge}
+use Rattle.rules.specs.Rules.{eventTable, mostOf, head, Head, span, coded, admit, exactly, fixed, basicBody, basic, Label, Sub, Group, channelsGroup, montageGroup, anything, fieldIf, channelBody, channel, Basic, channelsBody, channels, montage, item, itemSize, itemList, itemsBody, items, series, zeros, padding, Channel, width, samplesIn, sampleBytes, numberList, samples, frameBody, frame, padOk, framesBody, frames, Next, next, makerCode, Part, part, delimiter, Held, heldChannels, heldPatient, patientCode, eventCode, descriptions, countBack, signals, recordingBody, recording, recordings, fileHeader, File, file, orderOf, whole, judge}
 use Rattle.rules.proofs.Steps.{body-steps}
 use Rattle.rules.proofs.Cases.{by-form}
-use Rattle.rules.proofs.Room.{Behind, stays-head, stays-admit, stays-basic, stays-itemList, Rests, stays-channelsRest, stays-montageRest, stays-itemsRest, stays-framesRest, stays-next, stays-part, stays-delimiter}
+use Rattle.rules.proofs.Room.{stays-table, Behind, stays-head, stays-admit, stays-basic, stays-itemList, Rests, stays-channelsRest, stays-montageRest, stays-itemsRest, stays-framesRest, stays-next, stays-part, stays-delimiter}
 use Rattle.rules.proofs.Refusals.{room}
 
 -- a record: its head, and what is said of it from behind the head
@@ -112,13 +112,13 @@ reaches-frameBody : (n t : ℕ) (cs : List Channel) (at : ℕ) → Reaches at (f
 unfolding frameBody _>>=_ _>>_
 reaches-frameBody n t cs at = λ _. (omega arith, λ _ _. (omega arith, λ _ _. (omega arith, λ _. reaches-any (samples t cs) _ _ (reaches-samples t cs _) (λ ss e. reaches-any (padding (n - (24 + sampleBytes t cs))) _ _ (reaches-padding _ e) (λ _ _. tt)))))
 
-reaches-frame : (n t : ℕ) (cs : List Channel) (i at rest : ℕ) → Reaches at (frame n t cs rest i)
+reaches-frame : (label : Label) (n t : ℕ) (cs : List Channel) (i at rest : ℕ) → Reaches at (frame label n t cs rest i)
 unfolding frame
-reaches-frame n t cs i at rest = reaches-record 145 128 (λ h m. eqb m n && padOk h (m - (24 + sampleBytes t cs))) (eqb i) (λ _. frameBody n t cs) at rest (λ h f. reaches-frameBody n t cs (at + 16))
+reaches-frame label n t cs i at rest = reaches-record 145 (mostOf label) (λ h m. eqb m n && padOk h (m - (24 + sampleBytes t cs))) (eqb i) (λ _. frameBody n t cs) at rest (λ h f. reaches-frameBody n t cs (at + 16))
 
-reaches-framesBody : (b : Basic) (cs : List Channel) (h : Head) (at : ℕ) → Reaches at (framesBody b cs h)
+reaches-framesBody : (label : Label) (b : Basic) (cs : List Channel) (h : Head) (at : ℕ) → Reaches at (framesBody label b cs h)
 unfolding framesBody _>>=_ _>>_
-reaches-framesBody b cs h at = λ t. (
+reaches-framesBody label b cs h at = λ t. (
   omega arith,
   λ _. (
     omega arith,
@@ -129,7 +129,7 @@ reaches-framesBody b cs h at = λ t. (
         λ _. (
           omega arith,
           λ _.
-              reaches-any (series count 1 n (span h - 32) (frame n t cs)) _ _ (reaches-series n (frame n t cs) (reaches-frame n t cs) count 1 (span h - 32) _)
+              reaches-any (series count 1 n (span h - 32) (frame label n t cs)) _ _ (reaches-series n (frame label n t cs) (reaches-frame label n t cs) count 1 (span h - 32) _)
               (λ fs e. reaches-any (padding (span h - (32 + count * n))) _ _ (reaches-padding _ e) (λ _ _. tt)),
         ),
       ),
@@ -147,17 +147,17 @@ reaches-channels g rest h at k = reaches-next _ _ _ (reaches-admit rest 0 (leb 3
 
 reaches-montage : (label : Label) (cs : List Channel) → AfterHead (montage label cs)
 unfolding montage
-reaches-montage label cs = by-form (λ l. AfterHead (montage l cs)) (λ rest h at k. omega arith) (reaches-channels (montageGroup (length cs))) label
+reaches-montage label cs = by-form (λ l. AfterHead (montage l cs)) label (λ rest h at k. omega arith) (reaches-channels (montageGroup (length cs)))
 
 reaches-items : (ok : ℕ → Bool) → AfterHead (items ok)
 unfolding items
 reaches-items ok rest h at g = reaches-next _ _ _ (reaches-admit rest 0 (leb 24) (eqb 0) h at g) (λ e. reaches-itemsBody ok (span h) e)
 
-reaches-frames : (b : Basic) (own : Bool) (cs : List Channel) (back rest : ℕ) (h : Head) (at : ℕ) → 16 ≤ at → back ≤ at → Reaches at (frames b own cs back rest h)
+reaches-frames : (label : Label) (b : Basic) (own : Bool) (cs : List Channel) (back rest : ℕ) (h : Head) (at : ℕ) → 16 ≤ at → back ≤ at → Reaches at (frames label b own cs back rest h)
 unfolding frames
-reaches-frames b own cs back rest h at g k =
-    reaches-then _ _ _ _ _ (stays-admit rest 128 (leb 32) (eqb 0) h at at) (reaches-admit rest 128 (leb 32) (eqb 0) h at g)
-    (λ _ e q. reaches-require _ 14 back _ _ (omega (arith, q .0)) (λ _. reaches-framesBody b cs h e))
+reaches-frames label b own cs back rest h at g k =
+    reaches-then _ _ _ _ _ (stays-admit rest (mostOf label) (leb 32) (eqb 0) h at at) (reaches-admit rest (mostOf label) (leb 32) (eqb 0) h at g)
+    (λ _ e q. reaches-require _ 14 back _ _ (omega (arith, q .0)) (λ _. reaches-framesBody label b cs h e))
 
 -- makers' records, and the parts that may be absent
 
@@ -165,14 +165,14 @@ reaches-pick : {A : Type 0} (c : Bool) (x y : Walk A) (at : ℕ) → Reaches at 
 reaches-pick true x y at h k = h
 reaches-pick false x y at h k = k
 
-reaches-makers : (fuel rest at : ℕ) → Reaches at (next fuel rest)
+reaches-makers : (label : Label) (fuel rest at : ℕ) → Reaches at (next label fuel rest)
 unfolding next
-reaches-makers zero rest at = omega arith
-reaches-makers (suc fuel) rest at =
+reaches-makers label zero rest at = omega arith
+reaches-makers label (suc fuel) rest at =
     reaches-bind _ _ _ _ _ (stays-head at rest) (reaches-head at rest)
     (λ h e q. reaches-pick (makerCode (h .code)) _ _ _
-    (reaches-next _ _ _ (reaches-admit rest 128 (leb 16) (λ _. true) h e (omega (arith, q .0)))
-    (λ x. reaches-any (text (span h - 16)) _ _ (λ _ _. tt) (λ body y. reaches-any _ _ _ (reaches-makers fuel (rest - span h) y) (λ _ _. tt))))
+    (reaches-next _ _ _ (reaches-admit rest (mostOf label) (leb 16) (λ _. true) h e (omega (arith, q .0)))
+    (λ x. reaches-any (text (span h - 16)) _ _ (λ _ _. tt) (λ body y. reaches-any _ _ _ (reaches-makers label fuel (rest - span h) y) (λ _ _. tt))))
     tt)
 
 reaches-own : {A : Type 0} (own : Bool) (held : Option A) (n : Next) (w : Walk (Part A)) (at : ℕ) → 16 ≤ at → Reaches at w →
@@ -181,11 +181,15 @@ reaches-own true held n w at g k = k
 reaches-own false none n w at g k = omega arith
 reaches-own false (some a) n w at g k = tt
 
-reaches-part : {A : Type 0} (fuel code : ℕ) (body : ℕ → Head → Walk A) → AfterHead body → (held : Option A) (n : Next) (at : ℕ) → 16 ≤ at → Reaches at (part fuel code body held n)
+reaches-part : (label : Label) {A : Type 0} (fuel code : ℕ) (body : ℕ → Head → Walk A) → AfterHead body → (held : Option A) (n : Next) (at : ℕ) → 16 ≤ at → Reaches at (part label fuel code body held n)
 unfolding part
-reaches-part fuel code body k held n at g =
+reaches-part label fuel code body k held n at g =
     reaches-own (eqb (n .head .code) code) held n _ at g
-    (reaches-any _ _ _ (k (n .room) (n .head) at g) (λ a e. reaches-any _ _ _ (reaches-makers fuel (n .room - span (n .head)) e) (λ _ _. tt)))
+    (reaches-any _ _ _ (k (n .room) (n .head) at g) (λ a e. reaches-any _ _ _ (reaches-makers label fuel (n .room - span (n .head)) e) (λ _ _. tt)))
+
+reaches-table : (label : Label) (fuel : ℕ) (n : Next) (at : ℕ) → 16 ≤ at → Reaches at (eventTable label fuel n)
+unfolding eventTable
+reaches-table label fuel n at g = reaches-require _ 9 12 _ _ (omega arith) (λ _. reaches-part label fuel 200 (items eventCode) (reaches-items eventCode) (some []) n at g)
 
 reaches-delimiter : (h : Head) (at : ℕ) → 16 ≤ at → Reaches at (delimiter h)
 unfolding delimiter _>>=_ _>>_
@@ -198,15 +202,15 @@ reaches-recordingBody label held h at g s =
     rw body-steps (
     let L : ℕ = at + (span h - 16) in
     reaches-bind _ _ _ _ _ (stays-basic at (span h - 16)) (reaches-basic at (span h - 16))
-    (λ b e₁ q₁. reaches-bind _ _ _ _ _ (stays-next (span h) (span h - 144) (span h) L e₁ (omega (arith, q₁)) (omega (arith, q₁)) (omega (arith, q₁))) (reaches-makers (span h) (span h - 144) e₁)
+    (λ b e₁ q₁. reaches-bind _ _ _ _ _ (stays-next label (span h) (span h - 144) (span h) L e₁ (omega (arith, q₁)) (omega (arith, q₁)) (omega (arith, q₁))) (reaches-makers label (span h) (span h - 144) e₁)
     (λ n e₂ q₂. let k : Group = channelsGroup label (b .channels) in
-    reaches-bind _ _ _ _ _ (stays-part (span h) (k .code) (channels k) (stays-channelsRest k) (heldChannels held) n L e₂ q₂) (reaches-part (span h) (k .code) (channels k) (reaches-channels k) (heldChannels held) n e₂ (omega (arith, q₂ .1, q₂ .2)))
-    (λ c e₃ q₃. reaches-bind _ _ _ _ _ (stays-part (span h) 130 (items patientCode) (stays-itemsRest patientCode) (heldPatient held) (c .next) L e₃ q₃) (reaches-part (span h) 130 (items patientCode) (reaches-items patientCode) (heldPatient held) (c .next) e₃ (omega (arith, q₃ .1, q₃ .2)))
-    (λ p e₄ q₄. reaches-bind _ _ _ _ _ (stays-part (span h) 200 (items eventCode) (stays-itemsRest eventCode) (some []) (p .next) L e₄ q₄) (reaches-part (span h) 200 (items eventCode) (reaches-items eventCode) (some []) (p .next) e₄ (omega (arith, q₄ .1, q₄ .2)))
-    (λ e e₅ q₅. reaches-bind _ _ _ _ _ (stays-part (span h) 350 (montage label (c .value)) (stays-montageRest label (c .value)) (some []) (e .next) L e₅ q₅) (reaches-part (span h) 350 (montage label (c .value)) (reaches-montage label (c .value)) (some []) (e .next) e₅ (omega (arith, q₅ .1, q₅ .2)))
+    reaches-bind _ _ _ _ _ (stays-part label (span h) (k .code) (channels k) (stays-channelsRest k) (heldChannels held) n L e₂ q₂) (reaches-part label (span h) (k .code) (channels k) (reaches-channels k) (heldChannels held) n e₂ (omega (arith, q₂ .1, q₂ .2)))
+    (λ c e₃ q₃. reaches-bind _ _ _ _ _ (stays-part label (span h) 130 (items patientCode) (stays-itemsRest patientCode) (heldPatient held) (c .next) L e₃ q₃) (reaches-part label (span h) 130 (items patientCode) (reaches-items patientCode) (heldPatient held) (c .next) e₃ (omega (arith, q₃ .1, q₃ .2)))
+    (λ p e₄ q₄. reaches-bind _ _ _ _ _ (stays-table label (span h) (p .next) L e₄ q₄) (reaches-table label (span h) (p .next) e₄ (omega (arith, q₄ .1, q₄ .2)))
+    (λ e e₅ q₅. reaches-bind _ _ _ _ _ (stays-part label (span h) 350 (montage label (c .value)) (stays-montageRest label (c .value)) (some []) (e .next) L e₅ q₅) (reaches-part label (span h) 350 (montage label (c .value)) (reaches-montage label (c .value)) (some []) (e .next) e₅ (omega (arith, q₅ .1, q₅ .2)))
     (λ m e₆ q₆. reaches-require _ 9 12 _ _ (omega (arith, q₆ .1, q₆ .2))
-    (λ _. reaches-bind _ _ _ _ _ (stays-framesRest b (c .own) (c .value) _ (m .next .room) (m .next .head) L e₆ (q₆ .2)) (reaches-frames b (c .own) (c .value) _ (m .next .room) (m .next .head) e₆ (omega (arith, q₆ .1, q₆ .2)) (omega (arith, q₆ .1, q₆ .2)))
-    (λ f e₇ q₇. reaches-bind _ _ _ _ _ (stays-next (span h) (m .next .room - span (m .next .head)) (span h) L e₇ (omega (arith, q₆ .1)) (omega (arith, q₆ .1)) (q₇ .2)) (reaches-makers (span h) (m .next .room - span (m .next .head)) e₇)
+    (λ _. reaches-bind _ _ _ _ _ (stays-framesRest label b (c .own) (c .value) _ (m .next .room) (m .next .head) L e₆ (q₆ .2)) (reaches-frames label b (c .own) (c .value) _ (m .next .room) (m .next .head) e₆ (omega (arith, q₆ .1, q₆ .2)) (omega (arith, q₆ .1, q₆ .2)))
+    (λ f e₇ q₇. reaches-bind _ _ _ _ _ (stays-next label (span h) (m .next .room - span (m .next .head)) (span h) L e₇ (omega (arith, q₆ .1)) (omega (arith, q₆ .1)) (q₇ .2)) (reaches-makers label (span h) (m .next .room - span (m .next .head)) e₇)
     (λ d e₈ q₈. reaches-then _ _ _ _ _ (stays-delimiter (d .head) L e₈) (reaches-delimiter (d .head) e₈ (omega (arith, q₈ .1, q₈ .2)))
     (λ _ e₉ q₉. reaches-require _ 14 _ _ _ (omega (arith, q₈ .0, q₈ .1, q₈ .2, q₉))
     (λ _. reaches-require _ 10 0 _ _ (omega arith)
@@ -214,7 +218,7 @@ reaches-recordingBody label held h at g s =
 
 reaches-recording : (label : Label) (held : Option Held) (i at rest : ℕ) → Reaches at (recording label held rest i)
 unfolding recording
-reaches-recording label held i at rest = reaches-record 10 128 (λ _. leb 16) (eqb i) (recordingBody label held) at rest (λ h f. reaches-recordingBody label held h (at + 16) (omega arith) (leb-true 16 (span h) f))
+reaches-recording label held i at rest = reaches-record 10 (mostOf label) (λ _. leb 16) (eqb i) (recordingBody label held) at rest (λ h f. reaches-recordingBody label held h (at + 16) (omega arith) (leb-true 16 (span h) f))
 
 reaches-recordings : (label : Label) (n : ℕ) (held : Option Held) (rest i at : ℕ) → Reaches at (recordings label n held rest i)
 unfolding recordings
@@ -247,8 +251,8 @@ no-position-cut s k =
     (rw add-zero at (run-later (orderOf s) k (file (length s)) (length s) 0 s _ (zero-add (length s)) (room (length s)) (reaches-file (length s))))
 
 -- The two that lie further back than their own record are cut off nowhere either. Parts only go on
-part-grows : {A : Type 0} (fuel code : ℕ) (body : ℕ → Head → Walk A) → Rests body → (held : Option A) (n : Next) (L at low : ℕ) → Behind L fuel n at × (low ≤ at) → Stays L at (part fuel code body held n) (λ p e. Behind L fuel (p .next) e × (low ≤ e))
-part-grows fuel code body k held n L at low q = stays-grows (part fuel code body held n) L at low (λ p. Behind L fuel (p .next)) (q .1) (stays-part fuel code body k held n L at (q .0))
+part-grows : (label : Label) {A : Type 0} (fuel code : ℕ) (body : ℕ → Head → Walk A) → Rests body → (held : Option A) (n : Next) (L at low : ℕ) → Behind L fuel n at × (low ≤ at) → Stays L at (part label fuel code body held n) (λ p e. Behind L fuel (p .next) e × (low ≤ e))
+part-grows label fuel code body k held n L at low q = stays-grows (part label fuel code body held n) L at low (λ p. Behind L fuel (p .next)) (q .1) (stays-part label fuel code body k held n L at (q .0))
 
 -- of a recording that begins at `start`, 100's count of channels is told 36 bytes into it, from behind the head of the 140
 pub count-place : (label : Label) (held : Option Held) (h : Head) (start : ℕ) → 16 ≤ span h → Stays (start + span h) (start + 16) (descriptions label held (span h)) (λ t e. e - countBack (span h) (t .montage .next .room) ≡ start + 36)
@@ -258,12 +262,12 @@ count-place label held h start s =
     let l : start + 16 + (span h - 16) ≡ L = omega arith in
     let low : ℕ = start + 144 in
     stays-bind _ _ _ _ _ _ (rw l at (stays-basic (start + 16) (span h - 16)))
-    (λ b e₁ q₁. stays-bind _ _ _ _ _ _ (stays-grows (next (span h) (span h - 144)) L e₁ low (Behind L (span h)) (omega (arith, q₁)) (stays-next (span h) (span h - 144) (span h) L e₁ (omega (arith, q₁)) (omega (arith, q₁)) (omega (arith, q₁))))
+    (λ b e₁ q₁. stays-bind _ _ _ _ _ _ (stays-grows (next label (span h) (span h - 144)) L e₁ low (Behind L (span h)) (omega (arith, q₁)) (stays-next label (span h) (span h - 144) (span h) L e₁ (omega (arith, q₁)) (omega (arith, q₁)) (omega (arith, q₁))))
     (λ n e₂ q₂. let g : Group = channelsGroup label (b .channels) in
-    stays-bind _ _ _ _ _ _ (part-grows (span h) (g .code) (channels g) (stays-channelsRest g) (heldChannels held) n L e₂ low q₂)
-    (λ c e₃ q₃. stays-bind _ _ _ _ _ _ (part-grows (span h) 130 (items patientCode) (stays-itemsRest patientCode) (heldPatient held) (c .next) L e₃ low q₃)
-    (λ p e₄ q₄. stays-bind _ _ _ _ _ _ (part-grows (span h) 200 (items eventCode) (stays-itemsRest eventCode) (some []) (p .next) L e₄ low q₄)
-    (λ e e₅ q₅. stays-bind _ _ _ _ _ _ (part-grows (span h) 350 (montage label (c .value)) (stays-montageRest label (c .value)) (some []) (e .next) L e₅ low q₅)
+    stays-bind _ _ _ _ _ _ (part-grows label (span h) (g .code) (channels g) (stays-channelsRest g) (heldChannels held) n L e₂ low q₂)
+    (λ c e₃ q₃. stays-bind _ _ _ _ _ _ (part-grows label (span h) 130 (items patientCode) (stays-itemsRest patientCode) (heldPatient held) (c .next) L e₃ low q₃)
+    (λ p e₄ q₄. stays-bind _ _ _ _ _ _ (stays-grows (eventTable label (span h) (p .next)) L e₄ low (λ x. Behind L (span h) (x .next)) (q₄ .1) (stays-table label (span h) (p .next) L e₄ (q₄ .0)))
+    (λ e e₅ q₅. stays-bind _ _ _ _ _ _ (part-grows label (span h) 350 (montage label (c .value)) (stays-montageRest label (c .value)) (some []) (e .next) L e₅ low q₅)
     (λ m e₆ q₆. omega (arith, q₆ .0 .2, q₆ .1)))))))
 
 -- and all that a recording has used, told from behind its delimiter, begins where it begins

@@ -3,6 +3,7 @@
 use mathlib.Core.Path.{_≡_, refl, sym, ap, _∙_}
 use mathlib.Core.Bool.{Bool, true, false, _&&_, _||_}
 use mathlib.Core.List.{List, [], _∷_, _++_, map, append-assoc}
+use mathlib.Core.Option.{some}
 use Prim.Native.Nat.{ℕ, zero, suc, _+_, _*_, _-_, _^_, _≤_, _<_, max}
 use native.Mathlib.Nat.{mul-le-mul-left, mul-le-mul-right, zero-add}
 use native.Mathlib.Omega.{arith}
@@ -15,9 +16,9 @@ use Rattle.walk.specs.Walk.{Text, Event, numeral, piece, size, Walk, give, _>>=
 use Rattle.walk.proofs.Apart.{false-true}
 use Rattle.walk.proofs.Laws.{plays-bind, plays-split, plays-give, plays-last, checked, counted, taken, skipped, traced, renewed, Trace, eventsOf, valueOf, clear, size-append, zeros-bytes, zeros-length}
 use Rattle.rules.specs.Canonical.{multiplierFor, most, zeroes, numerals, rowOf, plainHead, recordOf, basicFields, fieldEvent, channelFields, channelEvents, channelsHead, channelsWritten, itemEvents, itemsHead, itemsWritten, sampleEvents, frameWritten, frameSize, frameEvents, framesBytes, framesHead, framesWritten, makerEvents}
-use Rattle.rules.specs.Rules.{between, padding, padded, makerCode, zeros, series, limit, Head, head, lengthOf, span, admit, exactly, fixed, Basic, basicBody, basic, Sub, Group, fieldIf, Channel, channelBody, channel, channels, Item, item, itemBytes, itemList, items, width, sampled, samplesIn, all, sampleBytes, numberList, samples, Frame, frame, Frames, frames, Maker, Next, next, channelsBody, itemsBody, frameBody, framesBody}
+use Rattle.rules.specs.Rules.{eventTable, allowed, Part, part, eventCode, Label, mostOf, between, padding, padded, makerCode, zeros, series, limit, Head, head, lengthOf, span, admit, exactly, fixed, Basic, basicBody, basic, Sub, Group, fieldIf, Channel, channelBody, channel, channels, Item, item, itemBytes, itemList, items, width, sampled, samplesIn, all, sampleBytes, numberList, samples, Frame, frame, Frames, frames, Maker, Next, next, channelsBody, itemsBody, frameBody, framesBody}
 use Rattle.rules.proofs.Cases.{by-shape}
-use Rattle.rules.proofs.Sized.{sized}
+use Rattle.rules.proofs.Sized.{sized, longest, served}
 
 pub and-true : (a b : Bool) → a && b ≡ true → (a ≡ true) × (b ≡ true)
 and-true true b h = (refl, h)
@@ -344,11 +345,11 @@ pub record FrameOk (t : ℕ) (cs : List Channel) (f : Frame) : Type 0 where
   pub second : f .second ≤ 59
   pub samples : SamplesOk t cs (f .channels)
 
-frame-ok : (n t : ℕ) (cs : List Channel) (room i : ℕ) {u : List Event} {f : Frame} → Plays u (frame n t cs room i) f → FrameOk t cs f
+frame-ok : (label : Label) (n t : ℕ) (cs : List Channel) (room i : ℕ) {u : List Event} {f : Frame} → Plays u (frame label n t cs room i) f → FrameOk t cs f
 unfolding frame frameBody _>>=_ _>>_ between padding padded makerCode
-frame-ok n t cs room i p =
+frame-ok label n t cs room i p =
     let h = plays-split (head room) _ p in
-    let a = plays-split (admit room 128 _ (eqb i) (h .value)) _ (checked (h .behind) .then) in
+    let a = plays-split (admit room (mostOf label) _ (eqb i) (h .value)) _ (checked (h .behind) .then) in
     let x = counted (a .behind) in
     let y = counted (checked (x .then) .then) in
     let z = counted (checked (y .then) .then) in
@@ -361,28 +362,28 @@ pub frame-body-size : (t : ℕ) (cs : List Channel) (f : Frame) → FrameOk t cs
 unfolding frameWritten size
 frame-body-size t cs f k = rw (size-append, samples-size t cs (f .channels) (k .samples)) (omega arith)
 
-frame-plays : (t : ℕ) (cs : List Channel) (f : Frame) → FrameOk t cs f → (i room : ℕ) → i < 256 ^ 4 → frameSize t cs < limit → frameSize t cs ≤ room →
-    Plays (recordOf (plainHead (frameSize t cs) 145 i) (frameWritten cs f)) (frame (frameSize t cs) t cs room i) f
+frame-plays : (label : Label) (t : ℕ) (cs : List Channel) (f : Frame) → FrameOk t cs f → (i room : ℕ) → i < 256 ^ 4 → frameSize t cs < limit → frameSize t cs ≤ room →
+    Plays (recordOf (plainHead (frameSize t cs) 145 i) (frameWritten cs f)) (frame label (frameSize t cs) t cs room i) f
 unfolding frame frameBody recordOf frameWritten _>>=_ _>>_ lengthOf between padding padded makerCode
-frame-plays t cs f k i room b s r =
+frame-plays label t cs f k i room b s r =
     let h : Head = plainHead (frameSize t cs) 145 i in
     let n : ℕ = frameSize t cs in
     plays-bind _ (head-plays h (record { size = omega arith; code = omega arith; serial = b; multiplier = omega arith }) room (omega arith))
     (checks refl
-    (plays-bind _ (admit-plays room 128 _ (eqb i) h (record { low = omega arith; small = s; fits = and-both (eqb n n) _ (eq-eqb n n refl) (lt-ltb (n - n) 1 (omega arith)); room = r; serial = eq-eqb i i refl }))
+    (plays-bind _ (admit-plays room (mostOf label) _ (eqb i) h (record { low = omega arith; small = s; fits = and-both (eqb n n) _ (eq-eqb n n refl) (lt-ltb (n - n) 1 (omega arith)); room = r; serial = eq-eqb i i refl }))
     (numbers (omega (arith, k .hour)) (checks (le-leb (f .hour) 23 (k .hour)) (numbers (omega (arith, k .minute)) (checks (le-leb (f .minute) 59 (k .minute))
     (numbers (omega (arith, k .second)) (checks (le-leb (f .second) 59 (k .second)) (skips refl (omega arith)
     (plays-bind _ (samples-play t cs (f .channels) (k .samples)) (padding-plays 0 (n - n) (omega arith) f)))))))))))
 
 -- 140
 
-frames-play : (t : ℕ) (cs : List Channel) (fs : List Frame) → All (FrameOk t cs) fs → (i room : ℕ) → i + length fs ≤ 256 ^ 4 → frameSize t cs < limit → length fs * frameSize t cs ≤ room →
-    Plays (frameEvents t cs i fs) (series (length fs) i (frameSize t cs) room (frame (frameSize t cs) t cs)) fs
+frames-play : (label : Label) (t : ℕ) (cs : List Channel) (fs : List Frame) → All (FrameOk t cs) fs → (i room : ℕ) → i + length fs ≤ 256 ^ 4 → frameSize t cs < limit → length fs * frameSize t cs ≤ room →
+    Plays (frameEvents t cs i fs) (series (length fs) i (frameSize t cs) room (frame label (frameSize t cs) t cs)) fs
 unfolding frameEvents series
-frames-play t cs [] k i room b s r = gives
-frames-play t cs (f ∷ fs) k i room b s r =
-    plays-bind _ (frame-plays t cs f (k .0) i room (omega arith) s (omega arith))
-    (plays-give _ (frames-play t cs fs (k .1) (suc i) (room - frameSize t cs) (omega arith) s (omega arith)))
+frames-play label t cs [] k i room b s r = gives
+frames-play label t cs (f ∷ fs) k i room b s r =
+    plays-bind _ (frame-plays label t cs f (k .0) i room (omega arith) s (omega arith))
+    (plays-give _ (frames-play label t cs fs (k .1) (suc i) (room - frameSize t cs) (omega arith) s (omega arith)))
 
 frame-events-size : (t : ℕ) (cs : List Channel) (fs : List Frame) → All (FrameOk t cs) fs → (i : ℕ) → size (frameEvents t cs i fs) ≡ length fs * frameSize t cs
 unfolding frameEvents size
@@ -390,7 +391,7 @@ frame-events-size t cs [] k i = omega arith
 frame-events-size t cs (f ∷ fs) k i =
     rw (size-append (recordOf (plainHead (frameSize t cs) 145 i) (frameWritten cs f)) (frameEvents t cs (suc i) fs), record-size, frame-body-size t cs f (k .0), frame-events-size t cs fs (k .1) (suc i)) (omega arith)
 
-pub record FramesOk (b : Basic) (own : Bool) (cs : List Channel) (t : ℕ) (fs : List Frame) : Type 0 where
+pub record FramesOk (label : Label) (b : Basic) (own : Bool) (cs : List Channel) (t : ℕ) (fs : List Frame) : Type 0 where
   pub held : own || eqb (length cs) (b .channels) ≡ true
   pub seconds : between 1 3600 t ≡ true
   pub exact : all (sampled t) cs ≡ true
@@ -398,12 +399,18 @@ pub record FramesOk (b : Basic) (own : Bool) (cs : List Channel) (t : ℕ) (fs :
   pub count : length fs ≡ b .frames
   pub few : length fs < 256 ^ 4
   pub each : All (FrameOk t cs) fs
-  pub total : framesBytes t cs fs ≤ 128 * most
+  pub total : framesBytes t cs fs ≤ longest (mostOf label)
 
-span-most : (s m : ℕ) → s ≤ most → m ≤ 128 → lengthOf s m ≤ 128 * most
+pub span-most : (s m k : ℕ) → s ≤ most → m ≤ k → lengthOf s m ≤ longest k
 unfolding lengthOf
-span-most s zero h k = omega arith
-span-most s (suc m) h k = omega (arith, mul-le-mul-right (suc m) h)
+span-most s zero k h l = omega (arith, mul-le-mul-right most (at-least k))
+  where
+    at-least : (k : ℕ) → 1 ≤ max 1 k
+    at-least k = omega arith
+span-most s (suc m) k h l = omega (arith, mul-le-mul-right (suc m) h, mul-le-mul-left most (below k l))
+  where
+    below : (k : ℕ) → suc m ≤ k → suc m ≤ max 1 k
+    below k l = omega arith
 
 le-most : {s : ℕ} → s < limit → s ≤ most
 le-most h = omega arith
@@ -420,12 +427,12 @@ frames-sum n s l x h k = omega (arith, split-mul n l (s - l) s (omega arith))
 frames-total : (n s l x b : ℕ) → l ≤ s → 32 + n * s ≤ x → x ≤ b → 32 + n * l ≤ b
 frames-total n s l x b h k j = omega (arith, mul-le-mul-left n h)
 
-pub frames-ok : (b : Basic) (own : Bool) (cs : List Channel) (back room : ℕ) (h : Head) {u : List Event} {x : Frames} → Plays u (frames b own cs back room h) x →
-    FramesOk b own cs (x .seconds) (x .frames) × (framesBytes (x .seconds) cs (x .frames) + x .padded ≡ span h) × (span h ≤ room)
+pub frames-ok : {label : Label} (b : Basic) (own : Bool) (cs : List Channel) (back room : ℕ) (h : Head) {u : List Event} {x : Frames} → Plays u (frames label b own cs back room h) x →
+    FramesOk label b own cs (x .seconds) (x .frames) × (framesBytes (x .seconds) cs (x .frames) + x .padded ≡ span h) × (span h ≤ room)
 unfolding frames framesBody _>>=_ _>>_ between padding padded makerCode
-frames-ok b own cs back room h p =
-    let a = plays-split (admit room 128 (leb 32) (eqb 0) h) _ p in
-    let d = admit-ok room 128 (leb 32) (eqb 0) h (a .before) in
+frames-ok {label} b own cs back room h p =
+    let a = plays-split (admit room (mostOf label) (leb 32) (eqb 0) h) _ p in
+    let d = admit-ok room (mostOf label) (leb 32) (eqb 0) h (a .before) in
     let o = checked (a .behind) in
     let t = counted (o .then) in
     let c₁ = checked (t .then) in
@@ -435,45 +442,45 @@ frames-ok b own cs back room h p =
     let n = counted (c₃ .then) in
     let c₄ = checked (n .then) in
     let c₅ = checked (c₄ .then) in
-    let q = plays-split (series (n .word) 1 (s .word) (span h - 32) (frame (s .word) (t .word) cs)) _ (skipped (c₅ .then) .then) in
+    let q = plays-split (series (n .word) 1 (s .word) (span h - 32) (frame label (s .word) (t .word) cs)) _ (skipped (c₅ .then) .then) in
     let r = taken (q .behind) in
     let e = plays-split (zeros (r .bytes)) _ (r .then) in
-    let j = series-ok (FrameOk (t .word) cs) (frame (s .word) (t .word) cs) (λ room i u f. frame-ok (s .word) (t .word) cs room i) (n .word) 1 (s .word) (span h - 32) (q .before) in
+    let j = series-ok (FrameOk (t .word) cs) (frame label (s .word) (t .word) cs) (λ room i u f. frame-ok label (s .word) (t .word) cs room i) (n .word) 1 (s .word) (span h - 32) (q .before) in
     let l : ℕ = frameSize (t .word) cs in
     let f₁ = and-true (between l (l + 127) (s .word)) _ (c₃ .holds) in
     let low : l ≤ s .word = leb-true l (s .word) (and-true (leb l (s .word)) _ (f₁ .0) .0) in
     let top : s .word < limit = ltb-true (s .word) limit (f₁ .1) in
     let used : 32 + n .word * s .word ≤ span h = leb-true (32 + n .word * s .word) (span h) (and-true (leb (32 + n .word * s .word) (span h)) _ (c₅ .holds) .0) in
-    let bound : span h ≤ 128 * most = span-most (h .size) (h .multiplier) (le-most (d .small)) (d .low) in
+    let bound : span h ≤ longest (mostOf label) = span-most (h .size) (h .multiplier) (mostOf label) (le-most (d .small)) (d .low) in
     rw (traced (e .behind) .value) (
-      record { held = o .holds; seconds = c₁ .holds; exact = c₂ .holds; small = below low top; count = j .0 ∙ eqb-true (n .word) (b .frames) (c₄ .holds); few = rw (j .0) (n .small); each = j .1; total = rw (j .0) (frames-total (n .word) (s .word) l (span h) (128 * most) low used bound) },
+      record { held = o .holds; seconds = c₁ .holds; exact = c₂ .holds; small = below low top; count = j .0 ∙ eqb-true (n .word) (b .frames) (c₄ .holds); few = rw (j .0) (n .small); each = j .1; total = rw (j .0) (frames-total (n .word) (s .word) l (span h) (longest (mostOf label)) low used bound) },
       rw (j .0) (frames-sum (n .word) (s .word) l (span h) low used),
       d .room,
     )
 
-pub frames-size : (b : Basic) (own : Bool) (cs : List Channel) (t : ℕ) (fs : List Frame) → FramesOk b own cs t fs → size (recordOf (framesHead t cs fs) (framesWritten t cs fs)) ≡ span (framesHead t cs fs)
+pub frames-size : {label : Label} (b : Basic) (own : Bool) (cs : List Channel) (t : ℕ) (fs : List Frame) → FramesOk label b own cs t fs → size (recordOf (framesHead t cs fs) (framesWritten t cs fs)) ≡ span (framesHead t cs fs)
 unfolding framesWritten size
 frames-size b own cs t fs k =
     rw (record-size, size-append, frame-events-size t cs fs (k .each) 1) (omega (arith, sized (framesBytes t cs fs) .serves, zeros-length (span (framesHead t cs fs) - framesBytes t cs fs)))
 
-pub frames-plays : (b : Basic) (own : Bool) (cs : List Channel) (t : ℕ) (fs : List Frame) → FramesOk b own cs t fs → (back room : ℕ) → span (framesHead t cs fs) ≤ room →
-    Plays (rowOf (framesHead t cs fs) ∷ framesWritten t cs fs) (frames b own cs back room (framesHead t cs fs))
+pub frames-plays : {label : Label} (b : Basic) (own : Bool) (cs : List Channel) (t : ℕ) (fs : List Frame) → FramesOk label b own cs t fs → (back room : ℕ) → span (framesHead t cs fs) ≤ room →
+    Plays (rowOf (framesHead t cs fs) ∷ framesWritten t cs fs) (frames label b own cs back room (framesHead t cs fs))
     (record { seconds = t; frames = fs; size = frameSize t cs; padded = length fs * (frameSize t cs - frameSize t cs) + (span (framesHead t cs fs) - framesBytes t cs fs) })
 unfolding frames framesBody framesWritten _>>=_ _>>_ between padding padded makerCode
-frames-plays b own cs t fs k back room r =
+frames-plays {label} b own cs t fs k back room r =
     let h : Head = framesHead t cs fs in
     let l : ℕ = frameSize t cs in
     let z = sized (framesBytes t cs fs) in
     let t₀ : t ≤ 3600 = leb-true t 3600 (and-true (leb 1 t) _ (k .seconds) .1) in
     let s₀ : l < 256 ^ 4 = omega (arith, k .small) in
-    plays-bind _ (admit-plays room 128 (leb 32) (eqb 0) h
-    (record { low = z .low 128 (k .total); small = omega (arith, z .small); fits = le-leb 32 (span h) (omega (arith, z .serves)); room = r; serial = refl }))
+    plays-bind _ (admit-plays room (mostOf label) (leb 32) (eqb 0) h
+    (record { low = served (framesBytes t cs fs) (mostOf label) (k .total); small = omega (arith, z .small); fits = le-leb 32 (span h) (omega (arith, z .serves)); room = r; serial = refl }))
     (checks (k .held) (numbers (omega arith) (checks (k .seconds) (checks (k .exact) (numbers s₀
     (checks (and-both (between l (l + 127) l) _ (and-both (leb l l) _ (le-leb l l (omega arith)) (le-leb l (l + 127) (omega arith))) (lt-ltb l limit (k .small)))
     (numbers (k .few) (checks (eq-eqb (length fs) (b .frames) (k .count))
     (checks (and-both (leb (framesBytes t cs fs) (span h)) _ (le-leb (framesBytes t cs fs) (span h) (z .serves)) (lt-ltb (span h - framesBytes t cs fs) (max 1 (multiplierFor (framesBytes t cs fs))) (z .close)))
     (skips (zeros-length 4) (zeros-bytes 4)
-    (plays-bind _ (frames-play t cs fs (k .each) 1 (span h - 32) (omega (arith, k .few)) (k .small) (omega (arith, z .serves)))
+    (plays-bind _ (frames-play label t cs fs (k .each) 1 (span h - 32) (omega (arith, k .few)) (k .small) (omega (arith, z .serves)))
     (padding-plays (span h - framesBytes t cs fs) (span h - framesBytes t cs fs) refl _))))))))))))
 
 -- Maker's records, and the head behind them
@@ -502,17 +509,17 @@ pub pick-case : {A P : Type 0} (c : Bool) (x y : Walk A) {t : List Event} {a : A
 pick-case true x y p f g = f refl p
 pick-case false x y p f g = g refl p
 
-pub record MakerOk (m : Maker) : Type 0 where
+pub record MakerOk (label : Label) (m : Maker) : Type 0 where
   pub head : HeadOk (m .head)
   pub code : makerCode (m .head .code) ≡ true
-  pub low : m .head .multiplier ≤ 128
+  pub low : m .head .multiplier ≤ mostOf label
   pub small : m .head .size < limit
   pub long : 16 ≤ span (m .head)
   pub width : length (m .body) ≡ span (m .head) - 16
   pub bytes : Bytes (m .body)
 
-pub record NextOk (before : ℕ) (n : Next) : Type 0 where
-  pub each : All MakerOk (n .makers)
+pub record NextOk (label : Label) (before : ℕ) (n : Next) : Type 0 where
+  pub each : All (MakerOk label) (n .makers)
   pub left : size (makerEvents (n .makers)) + n .room ≡ before
   pub enough : 16 ≤ n .room
 
@@ -520,28 +527,28 @@ head-room : (room : ℕ) {t : List Event} {h : Head} → Plays t (head room) h �
 unfolding head _>>=_ _>>_
 head-room room p = leb-true 16 room (checked p .holds)
 
-pub makers-size : (m : Maker) (ms : List Maker) → MakerOk m → size (makerEvents (m ∷ ms)) ≡ span (m .head) + size (makerEvents ms)
+pub makers-size : {label : Label} (m : Maker) (ms : List Maker) → MakerOk label m → size (makerEvents (m ∷ ms)) ≡ span (m .head) + size (makerEvents ms)
 unfolding makerEvents recordOf size
 makers-size m ms k = omega (arith, k .long, k .width)
 
 next-sum : (s x r room : ℕ) → x + r ≡ room - s → s ≤ room → s + x + r ≡ room
 next-sum s x r room h k = omega arith
 
-pub next-ok : (fuel room : ℕ) {t : List Event} {n : Next} → Plays t (next fuel room) n → NextOk room n
+pub next-ok : {label : Label} (fuel room : ℕ) {t : List Event} {n : Next} → Plays t (next label fuel room) n → NextOk label room n
 unfolding next makerEvents size _>>=_ _>>_ between padding padded makerCode
-next-ok zero room p = absurd (traced p .trace)
-next-ok (suc fuel) room p =
+next-ok {label} zero room p = absurd (traced p .trace)
+next-ok {label} (suc fuel) room p =
     let h = plays-split (head room) _ p in
     let k = head-ok room (h .before) in
     pick-case (makerCode (h .value .code)) _ _ (h .behind)
     (λ e q.
-    let a = plays-split (admit room 128 (leb 16) (λ _. true) (h .value)) _ q in
-    let d = admit-ok room 128 (leb 16) (λ _. true) (h .value) (a .before) in
+    let a = plays-split (admit room (mostOf label) (leb 16) (λ _. true) (h .value)) _ q in
+    let d = admit-ok room (mostOf label) (leb 16) (λ _. true) (h .value) (a .before) in
     let r = taken (a .behind) in
-    let b = plays-split (next fuel (room - span (h .value))) _ (r .then) in
+    let b = plays-split (next label fuel (room - span (h .value))) _ (r .then) in
     let j = next-ok fuel (room - span (h .value)) (b .before) in
     let m : Maker = record { head = h .value; body = r .bytes } in
-    let o : MakerOk m = record { head = k; code = e; low = d .low; small = d .small; long = leb-true 16 (span (h .value)) (d .fits); width = r .width; bytes = r .small } in
+    let o : MakerOk label m = record { head = k; code = e; low = d .low; small = d .small; long = leb-true 16 (span (h .value)) (d .fits); width = r .width; bytes = r .small } in
     rw (traced (b .behind) .value)
     (record {
       each = (o, j .each);
@@ -550,30 +557,42 @@ next-ok (suc fuel) room p =
     }))
     (λ e q. rw (traced q .value) (record { each = tt; left = zero-add room; enough = head-room room (h .before) }))
 
-record-plays : (m : Maker) (ms : List Maker) (h : Head) (fuel room : ℕ) (t : List Event) (left : ℕ) → MakerOk m → 16 ≤ room → span (m .head) ≤ room →
-    Plays t (next fuel (room - span (m .head))) (record { makers = ms; head = h; room = left }) →
-    Plays (recordOf (m .head) (piece Text (m .body) ∷ []) ++ t) (next (suc fuel) room) (record { makers = m ∷ ms; head = h; room = left })
+record-plays : {label : Label} (m : Maker) (ms : List Maker) (h : Head) (fuel room : ℕ) (t : List Event) (left : ℕ) → MakerOk label m → 16 ≤ room → span (m .head) ≤ room →
+    Plays t (next label fuel (room - span (m .head))) (record { makers = ms; head = h; room = left }) →
+    Plays (recordOf (m .head) (piece Text (m .body) ∷ []) ++ t) (next label (suc fuel) room) (record { makers = m ∷ ms; head = h; room = left })
 unfolding next recordOf _>>=_ _>>_ between padding padded makerCode
-record-plays m ms h fuel room t left k r s p =
+record-plays {label} m ms h fuel room t left k r s p =
     plays-bind _ (head-plays (m .head) (k .head) room r) (pick-true (makerCode (m .head .code)) _ _ (k .code)
-    (plays-bind _ (admit-plays room 128 (leb 16) (λ _. true) (m .head) (record { low = k .low; small = k .small; fits = le-leb 16 (span (m .head)) (k .long); room = s; serial = refl }))
+    (plays-bind _ (admit-plays room (mostOf label) (leb 16) (λ _. true) (m .head) (record { low = k .low; small = k .small; fits = le-leb 16 (span (m .head)) (k .long); room = s; serial = refl }))
     (reads (k .width) (k .bytes) (plays-give _ p))))
 
-pub next-plays : (ms : List Maker) → All MakerOk ms → (h : Head) → HeadOk h → makerCode (h .code) ≡ false → (fuel room left : ℕ) → length ms < fuel →
-    room ≡ size (makerEvents ms) + left → 16 ≤ left → Plays (makerEvents ms ++ numerals h) (next fuel room) (record { makers = ms; head = h; room = left })
+pub next-plays : (label : Label) (ms : List Maker) → All (MakerOk label) ms → (h : Head) → HeadOk h → makerCode (h .code) ≡ false → (fuel room left : ℕ) → length ms < fuel →
+    room ≡ size (makerEvents ms) + left → 16 ≤ left → Plays (makerEvents ms ++ numerals h) (next label fuel room) (record { makers = ms; head = h; room = left })
 unfolding next makerEvents size _>>=_ _>>_
-next-plays [] k h o c zero room left f r l = absurd (omega arith)
-next-plays [] k h o c (suc fuel) room left f r l =
+next-plays label [] k h o c zero room left f r l = absurd (omega arith)
+next-plays label [] k h o c (suc fuel) room left f r l =
     let e : room ≡ left = omega arith in
     rw (← e) (plays-last _ (head-plays h o room (omega arith)) (pick-false (makerCode (h .code)) _ _ c gives))
-next-plays (m ∷ ms) k h o c zero room left f r l = absurd (omega arith)
-next-plays (m ∷ ms) k h o c (suc fuel) room left f r l =
+next-plays label (m ∷ ms) k h o c zero room left f r l = absurd (omega arith)
+next-plays label (m ∷ ms) k h o c (suc fuel) room left f r l =
     let s : room ≡ span (m .head) + size (makerEvents ms) + left = r ∙ ap (λ (x : ℕ). x + left) (makers-size m ms (k .0)) in
     let g = k .0 .long in
     rw (append-assoc (recordOf (m .head) (piece Text (m .body) ∷ [])) (makerEvents ms) (numerals h))
-    (record-plays m ms h fuel room (makerEvents ms ++ numerals h) left (k .0) (omega arith) (omega arith) (next-plays ms (k .1) h o c fuel (room - span (m .head)) left (omega arith) (omega arith) l))
+    (record-plays m ms h fuel room (makerEvents ms ++ numerals h) left (k .0) (omega arith) (omega arith) (next-plays label ms (k .1) h o c fuel (room - span (m .head)) left (omega arith) (omega arith) l))
 
-pub makers-count : (ms : List Maker) → All MakerOk ms → length ms ≤ size (makerEvents ms)
+pub makers-count : (label : Label) (ms : List Maker) → All (MakerOk label) ms → length ms ≤ size (makerEvents ms)
 unfolding makerEvents size
-makers-count [] k = omega arith
-makers-count (m ∷ ms) k = omega (arith, makers-size m ms (k .0), k .0 .long, makers-count ms (k .1))
+makers-count label [] k = omega arith
+makers-count label (m ∷ ms) k = omega (arith, makers-size m ms (k .0), k .0 .long, makers-count label ms (k .1))
+
+-- An event table: the part by itself, and that the version does not ask for one or it is there
+
+pub table-part : (label : Label) (fuel : ℕ) (n : Next) {t : List Event} {x : Part (List Item)} → Plays t (eventTable label fuel n) x →
+    (allowed label .eventless || eqb (n .head .code) 200 ≡ true) × Plays t (part label fuel 200 (items eventCode) (some []) n) x
+unfolding eventTable _>>=_ _>>_
+table-part label fuel n p = let c = checked p in (c .holds, c .then)
+
+pub table-plays : (label : Label) (fuel : ℕ) (n : Next) {t : List Event} {x : Part (List Item)} → allowed label .eventless || eqb (n .head .code) 200 ≡ true →
+    Plays t (part label fuel 200 (items eventCode) (some []) n) x → Plays t (eventTable label fuel n) x
+unfolding eventTable _>>=_ _>>_
+table-plays label fuel n c p = checks c p

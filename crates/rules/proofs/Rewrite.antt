@@ -12,11 +12,11 @@ use Rattle.walk.proofs.Laws.{length-render}
 use Rattle.rules.specs.Canonical.{anew, canonical, rewritten, Canonical, multiplierFor, framesBytes, content}
 use Rattle.rules.specs.Reading.{Reading, reading, readingOf}
 use Rattle.rules.specs.Words.{wordsOf}
-use Rattle.rules.specs.Rules.{Label, File, Contents, contents, orderOf, judge, file, channels, Held, Recording}
+use Rattle.rules.specs.Rules.{mostOf, Label, File, Contents, contents, orderOf, judge, file, channels, Held, Recording}
 use Rattle.rules.specs.Turned.{turned}
-use Rattle.rules.proofs.Canon.{ContentsOk, file-ok, file-plays, total-low, RecordingsOk}
+use Rattle.rules.proofs.Canon.{ContentsOk, file-ok, file-plays, RecordingsOk}
 use Rattle.rules.proofs.Renew.{All}
-use Rattle.rules.proofs.Sized.{sized}
+use Rattle.rules.proofs.Sized.{served}
 use Rattle.rules.proofs.Turn.{judge-render, accepted, is-render, turn-judge, order-of-render, bytes-render}
 use Rattle.rules.proofs.Valued.{words-back}
 
@@ -75,14 +75,14 @@ canonical-unique v s s′ b b′ c d e = is-render s b (c .judged) ∙ rw e (sym
 pub rewrite-itself : (v : Reading) (s : List ℕ) → Bytes s → Canonical v s → rewritten (orderOf s) s ≡ s
 rewrite-itself v s b c = rewritten-of (orderOf s) s (c .judged) ∙ ap (λ (x : Reading). render (orderOf s) (canonical x)) (c .same) ∙ sym (is-render s b (c .judged))
 
--- the multipliers of a recording and of its 140, written anew, are at most 128
-abbrev Low : Label → Recording → Type 0
-Low label r = (multiplierFor (16 + size (content label r)) ≤ 128) × (multiplierFor (framesBytes (r .seconds) (r .channels) (r .frames)) ≤ 128)
+-- the multipliers of a recording and of its 140, written anew, are those that the file's version allows: an older file never needs one
+abbrev pub Low : Label → Recording → Type 0
+Low label r = (multiplierFor (16 + size (content label r)) ≤ mostOf label) × (multiplierFor (framesBytes (r .seconds) (r .channels) (r .frames)) ≤ mostOf label)
 
 recordings-low : (label : Label) (held : Option Held) (rs : List Recording) → RecordingsOk label held rs → All (Low label) rs
 recordings-low label held [] k = tt
 recordings-low label held (r ∷ rs) k = (
-  (sized (16 + size (content label r)) .low 128 (total-low label held r (k .0)), sized (framesBytes (r .seconds) (r .channels) (r .frames)) .low 128 (k .0 .frames .total)),
+  (served (16 + size (content label r)) (mostOf label) (k .0 .long), served (framesBytes (r .seconds) (r .channels) (r .frames)) (mostOf label) (k .0 .frames .total)),
   recordings-low label (some (record { channels = r .channels; patient = r .patient })) rs (k .1),
 )
 

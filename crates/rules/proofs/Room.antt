@@ -13,7 +13,7 @@ use lib.ListN.{length}
 use Rattle.walk.specs.See.{Stays}
 use Rattle.walk.specs.Walk.{Walk, give, _>>=_, _>>_, pick, text, refuse}
 use Rattle.walk.proofs.Seen.{stays-bind, stays-then, stays-weaken, and-left, and-right, stays-require}
-use Rattle.rules.specs.Rules.{itemsBody, channelsBody, frameBody, Head, head, limit, admit, span, coded, exactly, fixed, Basic, basicBody, Label, Sub, Group, channelsGroup, montageGroup, anything, fieldIf, channelBody, channel, item, itemSize, itemBytes, itemList, series, zeros, padding, Channel, width, samplesIn, sampleBytes, numberList, samples, frame, Next, channels, montage, frames, framesBody, items, next, padOk, makerCode, between, delimiter, part, recording, Held, Part, basic, heldChannels, patientCode, heldPatient, eventCode, file, fileHeader, recordings, descriptions, recordingBody, signals}
+use Rattle.rules.specs.Rules.{eventTable, mostOf, itemsBody, channelsBody, frameBody, Head, head, limit, admit, span, coded, exactly, fixed, Basic, basicBody, Label, Sub, Group, channelsGroup, montageGroup, anything, fieldIf, channelBody, channel, item, itemSize, itemBytes, itemList, series, zeros, padding, Channel, width, samplesIn, sampleBytes, numberList, samples, frame, Next, channels, montage, frames, framesBody, items, next, padOk, makerCode, between, delimiter, part, recording, Held, Part, basic, heldChannels, patientCode, heldPatient, eventCode, file, fileHeader, recordings, descriptions, recordingBody, signals}
 use Rattle.rules.proofs.Cases.{by-form}
 
 pub stays-head : (at room : ℕ) → Stays (at + room) at (head room) (λ h e. (e ≡ at + 16) × (16 ≤ room))
@@ -174,16 +174,16 @@ stays-frameBody n t cs at h = (
   ),
 )
 
-pub stays-frame : (size t : ℕ) (cs : List Channel) → 24 + sampleBytes t cs ≤ size → (i at room : ℕ) → Stays (at + room) at (frame size t cs room i) (λ _ e. (e ≡ at + size) × (e ≤ at + room))
+pub stays-frame : (label : Label) (size t : ℕ) (cs : List Channel) → 24 + sampleBytes t cs ≤ size → (i at room : ℕ) → Stays (at + room) at (frame label size t cs room i) (λ _ e. (e ≡ at + size) × (e ≤ at + room))
 unfolding frame
-stays-frame size t cs z i at room =
-    stays-record 145 128 (λ h n. eqb n size && padOk h (n - (24 + sampleBytes t cs))) (eqb i) (λ _. frameBody size t cs) _ at room
+stays-frame label size t cs z i at room =
+    stays-record 145 (mostOf label) (λ h n. eqb n size && padOk h (n - (24 + sampleBytes t cs))) (eqb i) (λ _. frameBody size t cs) _ at room
     (λ h f l. let n : span h ≡ size = eqb-true (span h) size (and-left _ _ f) in
     stays-weaken (frameBody size t cs) (at + 16 + (size - 16)) (at + span h) (at + 16) _ _ (omega arith) (λ a e q. (omega arith, omega arith)) (stays-frameBody size t cs (at + 16) z))
 
-pub stays-framesBody : (b : Basic) (cs : List Channel) (h : Head) (at : ℕ) → 32 ≤ span h → Stays (at + (span h - 16)) at (framesBody b cs h) (λ _ e. e ≡ at + (span h - 16))
+pub stays-framesBody : (label : Label) (b : Basic) (cs : List Channel) (h : Head) (at : ℕ) → 32 ≤ span h → Stays (at + (span h - 16)) at (framesBody label b cs h) (λ _ e. e ≡ at + (span h - 16))
 unfolding framesBody between _>>=_ _>>_
-stays-framesBody b cs h at z = (
+stays-framesBody label b cs h at z = (
   omega arith,
   λ t _ _. (
     omega arith,
@@ -193,7 +193,7 @@ stays-framesBody b cs h at z = (
           let s : 24 + sampleBytes t cs ≤ size = leb-true (24 + sampleBytes t cs) size (and-left _ _ (and-left _ (ltb size limit) c)) in
           let u : 32 + n * size ≤ span h = leb-true (32 + n * size) (span h) (and-left _ _ d) in (
             omega arith,
-            stays-bind (series n 1 size (span h - 32) (frame size t cs)) _ _ _ _ _ (stays-series size (frame size t cs) (stays-frame size t cs s) n 1 (span h - 32) (at + (span h - 16)) (at + 4 + 4 + 4 + 4) (omega arith) (omega arith))
+            stays-bind (series n 1 size (span h - 32) (frame label size t cs)) _ _ _ _ _ (stays-series size (frame label size t cs) (stays-frame label size t cs s) n 1 (span h - 32) (at + (span h - 16)) (at + 4 + 4 + 4 + 4) (omega arith) (omega arith))
                 (λ fs e q. stays-then (padding (span h - (32 + n * size))) _ _ _ _ _ (stays-padding (at + (span h - 16)) e (span h - (32 + n * size)) (omega arith)) (λ _ x r. omega arith)),
           ),
     ),
@@ -219,15 +219,15 @@ stays-channelsRest g = stays-rest 32 0 (λ h. channelsBody g (span h)) (omega ar
 
 pub stays-montageRest : (label : Label) (cs : List Channel) → Rests (montage label cs)
 unfolding montage
-stays-montageRest label cs = by-form (λ l. Rests (montage l cs)) (λ room h L at s. tt) (stays-channelsRest (montageGroup (length cs))) label
+stays-montageRest label cs = by-form (λ l. Rests (montage l cs)) label (λ room h L at s. tt) (stays-channelsRest (montageGroup (length cs)))
 
 pub stays-itemsRest : (ok : ℕ → Bool) → Rests (items ok)
 unfolding items
 stays-itemsRest ok = stays-rest 24 0 (λ h. itemsBody ok (span h)) (omega arith) (λ h at. stays-itemsBody ok (span h) at)
 
-pub stays-framesRest : (b : Basic) (own : Bool) (cs : List Channel) (back : ℕ) → Rests (frames b own cs back)
+pub stays-framesRest : (label : Label) (b : Basic) (own : Bool) (cs : List Channel) (back : ℕ) → Rests (frames label b own cs back)
 unfolding frames
-stays-framesRest b own cs back = stays-rest 32 128 _ (omega arith) (λ h at z. stays-require _ 14 back (framesBody b cs h) _ at _ refl (λ _. stays-framesBody b cs h at z))
+stays-framesRest label b own cs back = stays-rest 32 (mostOf label) _ (omega arith) (λ h at z. stays-require _ 14 back (framesBody label b cs h) _ at _ refl (λ _. stays-framesBody label b cs h at z))
 
 stays-pick : {A : Type 0} (c : Bool) (x y : Walk A) (L at : ℕ) (Q : A → ℕ → Type 0) → Stays L at x Q → Stays L at y Q → Stays L at (pick c x y) Q
 stays-pick true x y L at Q h k = h
@@ -238,17 +238,17 @@ abbrev pub Behind : ℕ → ℕ → Next → ℕ → Type 0
 Behind L fuel n e = (16 ≤ n .room) × (n .room < fuel) × (e + n .room ≡ L + 16)
 
 -- a maker's record takes 16 bytes of the room at least, so the fuel does not end
-pub stays-next : (fuel room most L at : ℕ) → room < fuel → room < most → at + room ≡ L → Stays L at (next fuel room) (Behind L most)
+pub stays-next : (label : Label) (fuel room most L at : ℕ) → room < fuel → room < most → at + room ≡ L → Stays L at (next label fuel room) (Behind L most)
 unfolding next
-stays-next zero room most L at f m l = absurd (omega arith)
-stays-next (suc fuel) room most L at f m l =
+stays-next label zero room most L at f m l = absurd (omega arith)
+stays-next label (suc fuel) room most L at f m l =
     stays-bind _ _ _ _ _ _ (rw l at (stays-head at room))
     (λ h e q. stays-pick (makerCode (h .code)) _ _ _ _ _
-    (stays-then _ _ _ _ _ _ (stays-admit room 128 (leb 16) (λ _. true) h L e)
+    (stays-then _ _ _ _ _ _ (stays-admit room (mostOf label) (leb 16) (λ _. true) h L e)
     (λ _ x v.
     let s : 16 ≤ span h = leb-true 16 (span h) (v .1) in
     stays-bind (text (span h - 16)) _ _ _ (λ _ y. y ≡ at + span h) _ (omega (arith, q .0, v .0, v .2), λ _ _. omega (arith, q .0, v .0))
-    (λ body y u. stays-bind _ _ _ _ _ _ (stays-next fuel (room - span h) most L y (omega (arith, v .2)) (omega arith) (omega (arith, v .2)))
+    (λ body y u. stays-bind _ _ _ _ _ _ (stays-next label fuel (room - span h) most L y (omega (arith, v .2)) (omega arith) (omega (arith, v .2)))
     (λ n z w. w))))
     (q .1, m, omega (arith, q .0)))
 
@@ -259,14 +259,18 @@ stays-own true held n w fuel L at k h = k
 stays-own false none n w fuel L at k h = tt
 stays-own false (some a) n w fuel L at k h = h
 
-pub stays-part : {A : Type 0} (fuel code : ℕ) (body : ℕ → Head → Walk A) → Rests body → (held : Option A) (n : Next) (L at : ℕ) → Behind L fuel n at → Stays L at (part fuel code body held n) (λ p. Behind L fuel (p .next))
+pub stays-part : (label : Label) {A : Type 0} (fuel code : ℕ) (body : ℕ → Head → Walk A) → Rests body → (held : Option A) (n : Next) (L at : ℕ) → Behind L fuel n at → Stays L at (part label fuel code body held n) (λ p. Behind L fuel (p .next))
 unfolding part
-stays-part fuel code body k held n L at q =
+stays-part label fuel code body k held n L at q =
     stays-own (eqb (n .head .code) code) held n _ fuel L at
     (stays-bind _ _ _ _ _ _ (k (n .room) (n .head) L at (q .2))
-    (λ a e u. stays-bind _ _ _ _ _ _ (stays-next fuel (n .room - span (n .head)) fuel L e (omega (arith, q .1)) (omega (arith, q .1)) (u .2))
+    (λ a e u. stays-bind _ _ _ _ _ _ (stays-next label fuel (n .room - span (n .head)) fuel L e (omega (arith, q .1)) (omega (arith, q .1)) (u .2))
     (λ m x w. w)))
     q
+
+pub stays-table : (label : Label) (fuel : ℕ) (n : Next) (L at : ℕ) → Behind L fuel n at → Stays L at (eventTable label fuel n) (λ p. Behind L fuel (p .next))
+unfolding eventTable
+stays-table label fuel n L at q = stays-require _ 9 12 (part label fuel 200 (items eventCode) (some []) n) L at _ refl (λ _. stays-part label fuel 200 (items eventCode) (stays-itemsRest eventCode) (some []) n L at q)
 
 pub stays-delimiter : (h : Head) (L at : ℕ) → Stays L at (delimiter h) (λ _ e. e ≡ at)
 unfolding delimiter _>>=_ _>>_
@@ -278,11 +282,11 @@ unfolding descriptions
 stays-descriptions label held n at =
     let L : ℕ = at + (n - 16) in
     stays-bind _ _ _ _ _ _ (stays-basic at (n - 16))
-    (λ b e₁ q₁. stays-bind _ _ _ _ _ _ (stays-next n (n - 144) n L e₁ (omega (arith, q₁)) (omega (arith, q₁)) (omega (arith, q₁)))
-    (λ r e₂ q₂. stays-bind _ _ _ _ _ _ (stays-part n _ _ (stays-channelsRest (channelsGroup label (b .channels))) (heldChannels held) r L e₂ q₂)
-    (λ c e₃ q₃. stays-bind _ _ _ _ _ _ (stays-part n 130 (items patientCode) (stays-itemsRest patientCode) (heldPatient held) (c .next) L e₃ q₃)
-    (λ p e₄ q₄. stays-bind _ _ _ _ _ _ (stays-part n 200 (items eventCode) (stays-itemsRest eventCode) (some []) (p .next) L e₄ q₄)
-    (λ e e₅ q₅. stays-bind _ _ _ _ _ _ (stays-part n 350 (montage label (c .value)) (stays-montageRest label (c .value)) (some []) (e .next) L e₅ q₅)
+    (λ b e₁ q₁. stays-bind _ _ _ _ _ _ (stays-next label n (n - 144) n L e₁ (omega (arith, q₁)) (omega (arith, q₁)) (omega (arith, q₁)))
+    (λ r e₂ q₂. stays-bind _ _ _ _ _ _ (stays-part label n _ _ (stays-channelsRest (channelsGroup label (b .channels))) (heldChannels held) r L e₂ q₂)
+    (λ c e₃ q₃. stays-bind _ _ _ _ _ _ (stays-part label n 130 (items patientCode) (stays-itemsRest patientCode) (heldPatient held) (c .next) L e₃ q₃)
+    (λ p e₄ q₄. stays-bind _ _ _ _ _ _ (stays-table label n (p .next) L e₄ q₄)
+    (λ e e₅ q₅. stays-bind _ _ _ _ _ _ (stays-part label n 350 (montage label (c .value)) (stays-montageRest label (c .value)) (some []) (e .next) L e₅ q₅)
     (λ m e₆ q₆. q₆))))))
 
 pub stays-recordingBody : (label : Label) (held : Option Held) (h : Head) (at : ℕ) → 16 ≤ span h → Stays (at + (span h - 16)) at (recordingBody label held h) (λ x e. (x .layout .bytes ≡ span h) × (e ≡ at + (span h - 16)))
@@ -291,8 +295,8 @@ stays-recordingBody label held h at s =
     let L : ℕ = at + (span h - 16) in
     stays-bind _ _ _ _ _ _ (stays-descriptions label held (span h) at)
     (λ t e₁ q₁. stays-require _ 9 12 _ _ _ _ refl
-    (λ _. stays-bind _ _ _ _ _ _ (stays-framesRest (t .basic) (t .channels .own) (t .channels .value) _ (t .montage .next .room) (t .montage .next .head) L e₁ (q₁ .2))
-    (λ f e₂ q₂. stays-bind _ _ _ _ _ _ (stays-next (span h) (t .montage .next .room - span (t .montage .next .head)) (span h) L e₂ (omega (arith, q₁ .1)) (omega (arith, q₁ .1)) (q₂ .2))
+    (λ _. stays-bind _ _ _ _ _ _ (stays-framesRest label (t .basic) (t .channels .own) (t .channels .value) _ (t .montage .next .room) (t .montage .next .head) L e₁ (q₁ .2))
+    (λ f e₂ q₂. stays-bind _ _ _ _ _ _ (stays-next label (span h) (t .montage .next .room - span (t .montage .next .head)) (span h) L e₂ (omega (arith, q₁ .1)) (omega (arith, q₁ .1)) (q₂ .2))
     (λ d e₃ q₃. stays-then _ _ _ _ _ _ (stays-delimiter (d .head) L e₃)
     (λ _ e₄ q₄. stays-require _ 14 _ _ _ _ _ refl
     (λ _. stays-require _ 10 0 _ _ _ _ refl
@@ -302,7 +306,7 @@ stays-recordingBody label held h at s =
 pub stays-recording : (label : Label) (held : Option Held) (i at room : ℕ) → Stays (at + room) at (recording label held room i) (λ x e. (e ≡ at + x .layout .bytes) × (x .layout .bytes ≤ room))
 unfolding recording
 stays-recording label held i at room =
-    stays-record 10 128 (λ _. leb 16) (eqb i) (recordingBody label held) _ at room
+    stays-record 10 (mostOf label) (λ _. leb 16) (eqb i) (recordingBody label held) _ at room
     (λ h f l.
     let s : 16 ≤ span h = leb-true 16 (span h) f in
     stays-weaken (recordingBody label held h) (at + 16 + (span h - 16)) (at + span h) (at + 16) _ _ (omega arith) (λ x e q. (omega (arith, q .0, q .1), omega (arith, q .0))) (stays-recordingBody label held h (at + 16) s))

@@ -96,6 +96,14 @@ sized n = go (leb n most) refl
     go true e = fits-once n (leb-true n most e)
     go false e = fits-more n (leb-false n most e)
 
+-- the longest record that a multiplier up to k serves; multiplier 0 serves what fits
+abbrev pub longest : ℕ → ℕ
+longest k = max 1 k * most
+
+pub served : (n k : ℕ) → n ≤ longest k → multiplierFor n ≤ k
+served n zero h = let e = none-where-it-fits n (omega arith) in omega (arith, e)
+served n (suc k) h = sized n .low (suc k) (omega arith)
+
 -- a record that a multiplier of k serves has less than k bytes of padding
 pub pad-under : (n k : ℕ) → 1 ≤ k → n ≤ k * most → lengthOf (sizeFor n) (multiplierFor n) < n + k
 pad-under n k l h = omega (arith, sized n .close, sized n .low k h)

@@ -34,7 +34,7 @@ maps-back : {A B : Type 0} (f : A → B) (g : B → A) (P : A → Type 0) → ((
 maps-back f g P h [] k = refl
 maps-back f g P h (a ∷ l) k = λ i. h a (k .0) i ∷ maps-back f g P h l (k .1) i
 
-all-are : {A : Type 0} {P Q : A → Type 0} → ((a : A) → P a → Q a) → (l : List A) → All P l → All Q l
+pub all-are : {A : Type 0} {P Q : A → Type 0} → ((a : A) → P a → Q a) → (l : List A) → All P l → All Q l
 all-are h [] k = tt
 all-are h (a ∷ l) k = (h a (k .0), all-are h l (k .1))
 
@@ -109,8 +109,8 @@ channel-back c k =
 item-back : (ok : ℕ → Bool) (x : Item) → ItemOk ok x → itemWords (itemReading x) ≡ x
 item-back ok x k = λ i. record { code = unsigned-signed 4 (x .code) (k .code) i; content = x .content }
 
-maker-back : (m : Maker) → MakerOk m → makerWords (makerReading m) ≡ m
-maker-back m k = λ i. record { head = record { size = unsigned-signed 4 (m .head .size) (k .head .size) i; code = unsigned-signed 4 (m .head .code) (k .head .code) i; serial = unsigned-signed 4 (m .head .serial) (k .head .serial) i; multiplier = unsigned-signed 4 (m .head .multiplier) (k .head .multiplier) i }; body = m .body }
+maker-back : (label : Label) (m : Maker) → MakerOk label m → makerWords (makerReading m) ≡ m
+maker-back label m k = λ i. record { head = record { size = unsigned-signed 4 (m .head .size) (k .head .size) i; code = unsigned-signed 4 (m .head .code) (k .head .code) i; serial = unsigned-signed 4 (m .head .serial) (k .head .serial) i; multiplier = unsigned-signed 4 (m .head .multiplier) (k .head .multiplier) i }; body = m .body }
 
 samples-back : (t : ℕ) (cs : List Channel) (ss : List (List ℕ)) → SamplesOk t cs ss → samplesWords cs (samplesReading cs ss) ≡ ss
 unfolding samplesReading samplesWords
@@ -122,8 +122,8 @@ samples-back t (c ∷ cs) (s ∷ ss) k = λ i. maps-back (valueOf (c .format) (w
 frame-back : (t : ℕ) (cs : List Channel) (f : Frame) → FrameOk t cs f → frameWords cs (frameReading cs f) ≡ f
 frame-back t cs f k = λ i. record { hour = f .hour; minute = f .minute; second = f .second; channels = samples-back t cs (f .channels) (k .samples) i }
 
-makers-back : (ms : List Maker) → All MakerOk ms → map makerWords (map makerReading ms) ≡ ms
-makers-back ms k = maps-back makerReading makerWords MakerOk maker-back ms k
+makers-back : (label : Label) (ms : List Maker) → All (MakerOk label) ms → map makerWords (map makerReading ms) ≡ ms
+makers-back label ms k = maps-back makerReading makerWords (MakerOk label) (maker-back label) ms k
 
 -- what a recording may take over is known by its values too
 abbrev Good : Option Held → Type 0
@@ -146,19 +146,19 @@ all-small : (g : Group) (cs : List Channel) → ChannelsOk g cs → All Small cs
 all-small g cs k = all-are (channel-small (g .sub)) cs (k .each)
 
 -- of a part that may be absent: what holds
-part-all : {A : Type 0} (P Q : List A → Type 0) → ((l : List A) → Q l → P l) → (held : Option (List A)) (own : Bool) (l : List A) (ms : List Maker) → PartOk Q held own l ms → ((x : List A) → held ≡ some x → P x) → P l
-part-all P Q all held true l ms k n = all l (k .0)
-part-all P Q all held false l ms k n = n l (k .0)
+part-all : (label : Label) {A : Type 0} (P Q : List A → Type 0) → ((l : List A) → Q l → P l) → (held : Option (List A)) (own : Bool) (l : List A) (ms : List Maker) → PartOk label Q held own l ms → ((x : List A) → held ≡ some x → P x) → P l
+part-all label P Q all held true l ms k n = all l (k .0)
+part-all label P Q all held false l ms k n = n l (k .0)
 
-part-makers : {A : Type 0} (Q : A → Type 0) (held : Option A) (own : Bool) (a : A) (ms : List Maker) → PartOk Q held own a ms → All MakerOk ms
-part-makers Q held true a ms k = k .1
-part-makers Q held false a ms k = rw (k .1) tt
+part-makers : (label : Label) {A : Type 0} (Q : A → Type 0) (held : Option A) (own : Bool) (a : A) (ms : List Maker) → PartOk label Q held own a ms → All (MakerOk label) ms
+part-makers label Q held true a ms k = k .1
+part-makers label Q held false a ms k = rw (k .1) tt
 
 module _ (label : Label) (held : Option Held) (g : Good held) (r : Recording) (k : RecordingOk label held r) where
   known : Good (some (record { channels = r .channels; patient = r .patient }))
   known = (
-    part-all (All Small) (ChannelsOk (channelsGroupOf label r)) (all-small (channelsGroupOf label r)) (heldChannels held) (r .ownChannels) (r .channels) (r .makers₂) (k .channels) (good-channels held g),
-    part-all (All (ItemOk patientCode)) (ItemsOk patientCode) (λ l c. c .each) (heldPatient held) (r .ownPatient) (r .patient) (r .makers₃) (k .patient) (good-patient held g),
+    part-all label (All Small) (ChannelsOk (channelsGroupOf label r)) (all-small (channelsGroupOf label r)) (heldChannels held) (r .ownChannels) (r .channels) (r .makers₂) (k .channels) (good-channels held g),
+    part-all label (All (ItemOk patientCode)) (ItemsOk patientCode) (λ l c. c .each) (heldPatient held) (r .ownPatient) (r .patient) (r .makers₃) (k .patient) (good-patient held g),
   )
 
   channels-back : map channelWords (map channelReading (r .channels)) ≡ r .channels
@@ -170,10 +170,10 @@ module _ (label : Label) (held : Option Held) (g : Good held) (r : Recording) (k
       ∙ maps-back (frameReading (r .channels)) (frameWords (r .channels)) (FrameOk (r .seconds) (r .channels)) (frame-back (r .seconds) (r .channels)) (r .frames) (k .frames .each)
 
   events-known : All (ItemOk eventCode) (r .events)
-  events-known = part-all (All (ItemOk eventCode)) (ItemsOk eventCode) (λ l c. c .each) (some []) (r .ownEvents) (r .events) (r .makers₄) (k .events) (good-none (ItemOk eventCode))
+  events-known = part-all label (All (ItemOk eventCode)) (ItemsOk eventCode) (λ l c. c .each) (some []) (r .ownEvents) (r .events) (r .makers₄) (k .events) (good-none (ItemOk eventCode))
 
   montage-known : All Small (r .montage)
-  montage-known = part-all (All Small) (MontageOk label (r .channels)) (λ l m. all-small (montageGroupOf r) l (montage-channels label (r .channels) l m)) (some []) (r .ownMontage) (r .montage) (r .makers₅) (k .montage) (good-none Small)
+  montage-known = part-all label (All Small) (MontageOk label (r .channels)) (λ l m. all-small (montageGroupOf r) l (montage-channels label (r .channels) l m)) (some []) (r .ownMontage) (r .montage) (r .makers₅) (k .montage) (good-none Small)
 
   seconds-small : r .seconds < 256 ^ 4
   unfolding between
@@ -192,12 +192,12 @@ module _ (label : Label) (held : Option Held) (g : Good held) (r : Recording) (k
     montage = maps-back channelReading channelWords Small channel-back (r .montage) montage-known i;
     seconds = unsigned-signed 4 (r .seconds) seconds-small i;
     frames = frames-back i;
-    makers₁ = makers-back (r .makers₁) (k .makers₁) i;
-    makers₂ = makers-back (r .makers₂) (part-makers (ChannelsOk (channelsGroupOf label r)) (heldChannels held) (r .ownChannels) (r .channels) (r .makers₂) (k .channels)) i;
-    makers₃ = makers-back (r .makers₃) (part-makers (ItemsOk patientCode) (heldPatient held) (r .ownPatient) (r .patient) (r .makers₃) (k .patient)) i;
-    makers₄ = makers-back (r .makers₄) (part-makers (ItemsOk eventCode) (some []) (r .ownEvents) (r .events) (r .makers₄) (k .events)) i;
-    makers₅ = makers-back (r .makers₅) (part-makers (MontageOk label (r .channels)) (some []) (r .ownMontage) (r .montage) (r .makers₅) (k .montage)) i;
-    makers₆ = makers-back (r .makers₆) (k .makers₆) i;
+    makers₁ = makers-back label (r .makers₁) (k .makers₁) i;
+    makers₂ = makers-back label (r .makers₂) (part-makers label (ChannelsOk (channelsGroupOf label r)) (heldChannels held) (r .ownChannels) (r .channels) (r .makers₂) (k .channels)) i;
+    makers₃ = makers-back label (r .makers₃) (part-makers label (ItemsOk patientCode) (heldPatient held) (r .ownPatient) (r .patient) (r .makers₃) (k .patient)) i;
+    makers₄ = makers-back label (r .makers₄) (part-makers label (ItemsOk eventCode) (some []) (r .ownEvents) (r .events) (r .makers₄) (k .events)) i;
+    makers₅ = makers-back label (r .makers₅) (part-makers label (MontageOk label (r .channels)) (some []) (r .ownMontage) (r .montage) (r .makers₅) (k .montage)) i;
+    makers₆ = makers-back label (r .makers₆) (k .makers₆) i;
   }
 
 recordings-back : (label : Label) (held : Option Held) → Good held → (rs : List Recording) → RecordingsOk label held rs → map recordingWords (map recordingReading rs) ≡ rs

@@ -12,7 +12,7 @@ use lib.IntN.{negsuc}
 use Rattle.words.specs.declared.Order.{Order}
 use Rattle.words.specs.declared.Order.the-variants.{Little, Big}
 use Rattle.walk.specs.Walk.{Row, Outcome, refused, passed, swap, laid, _>>=_, _>>_, logged, run, rows, render}
-use Rattle.rules.specs.Rules.{File, zeros, padding, series, between, sameBytes, isOneOf, oneOf, spelled, version, formed, allSpaces, decimal, countOf, fileHeader, lengthOf, head, admit, padded, fixed, leap, monthDays, daysIn, dated, isMains, basicBody, isType, rateOk, isInput, channelsGroup, fieldIf, channelBody, channelsBody, channels, montage, keywords, isIn, patientCode, eventCode, item, itemBytes, itemList, itemsBody, items, width, samplesOf, all, sampleBytes, numberList, samples, frameBody, frame, framesBody, frames, makerCode, next, part, delimiter, descriptions, signals, recordingBody, recording, recordings, file, orderOf, whole, judge}
+use Rattle.rules.specs.Rules.{eventTable, File, zeros, padding, series, between, sameBytes, isOneOf, oneOf, spelled, versioned, allows, formed, allSpaces, decimal, countOf, fileHeader, lengthOf, head, admit, padded, fixed, leap, monthDays, daysIn, dated, isMains, basicBody, isType, rateOk, isInput, channelsGroup, fieldIf, channelBody, channelsBody, channels, montage, keywords, isIn, patientCode, eventCode, item, itemBytes, itemList, itemsBody, items, width, samplesOf, all, sampleBytes, numberList, samples, frameBody, frame, framesBody, frames, makerCode, next, part, delimiter, descriptions, signals, recordingBody, recording, recordings, file, orderOf, whole, judge}
 use Rattle.rules.specs.declared.Spelling.{Spelling}
 use Rattle.rules.specs.declared.Spelling.the-variants as Spelling
 use Rattle.rules.specs.Canonical.{multiplierFor, sizeFor}
@@ -82,7 +82,7 @@ record Files : Type 0 where
   refusals : WorkedRefusals judge
 
 files : Files
-unfolding zeros padding series between sameBytes isOneOf oneOf spelled version formed allSpaces decimal countOf fileHeader lengthOf head admit padded fixed leap monthDays daysIn dated isMains basicBody isType rateOk isInput channelsGroup fieldIf channelBody channelsBody channels montage keywords isIn patientCode eventCode item itemBytes itemList itemsBody items width samplesOf all sampleBytes numberList samples frameBody frame framesBody frames makerCode next part delimiter descriptions signals recordingBody recording recordings file orderOf whole judge swap laid _>>=_ _>>_ logged run rows ordered word bytesOf wordIn bytesIn smallestOf smallest electrodes listing electrodesListing row other render turned
+unfolding zeros padding series between sameBytes isOneOf oneOf spelled versioned allows formed allSpaces decimal countOf fileHeader lengthOf head admit padded fixed leap monthDays daysIn dated isMains basicBody isType rateOk isInput channelsGroup fieldIf channelBody channelsBody channels montage keywords isIn patientCode eventCode item itemBytes itemList itemsBody items width samplesOf all sampleBytes numberList samples frameBody frame framesBody frames makerCode next part eventTable delimiter descriptions signals recordingBody recording recordings file orderOf whole judge swap laid _>>=_ _>>_ logged run rows ordered word bytesOf wordIn bytesIn smallestOf smallest electrodes listing electrodesListing row other render turned
 files = record {
   channels = record { little = record { bytes = refl; accepted = refl; listed = refl }; big = record { bytes = refl; accepted = refl; listed = refl }; turns = refl };
   electrodes = record { little = record { bytes = refl; accepted = refl; listed = refl }; big = record { bytes = refl; accepted = refl; listed = refl }; turns = refl };

@@ -14,9 +14,9 @@ use Rattle.walk.specs.Walk.{Kind, Event, numeral, piece, blank, row, cleared, W
 use Rattle.walk.proofs.Laws.{Trace, eventsOf, valueOf, clear, traced, by-parts, by-check, counted, taken, skipped, plays-gave}
 use Rattle.walk.proofs.Tracing.{cleared-append}
 use Rattle.rules.specs.Canonical.{blanks, numerals, rowOf, plainHead, recordOf, basicFields, channelFields, channelEvents, channelsHead, channelsWritten, itemEvents, itemsHead, itemsWritten, sampleEvents, makerEvents, optional}
-use Rattle.rules.specs.Rules.{series, zeros, Head, head, span, lengthOf, admit, exactly, fixed, Basic, basicBody, basic, Label, Sub, Group, channelsGroup, montageGroup, Channel, channelBody, channel, channelsBody, channels, montage, Item, item, itemBytes, itemSize, itemList, itemsBody, items, width, samplesIn, numberList, samples, makerCode, Next, next, patientCode, eventCode, Held, heldChannels, heldPatient, Part, part, Descriptions, descriptions}
+use Rattle.rules.specs.Rules.{eventTable, mostOf, series, zeros, Head, head, span, lengthOf, admit, exactly, fixed, Basic, basicBody, basic, Label, Sub, Group, channelsGroup, montageGroup, Channel, channelBody, channel, channelsBody, channels, montage, Item, item, itemBytes, itemSize, itemList, itemsBody, items, width, samplesIn, numberList, samples, makerCode, Next, next, patientCode, eventCode, Held, heldChannels, heldPatient, Part, part, Descriptions, descriptions}
 use Rattle.rules.proofs.Cases.{by-form}
-use Rattle.rules.proofs.Renew.{admit-ok, if-case, pick-case, and-true, renews}
+use Rattle.rules.proofs.Renew.{table-part, admit-ok, if-case, pick-case, and-true, renews}
 
 -- One walk
 
@@ -155,7 +155,7 @@ channels-written g = rest-written 32 (g .code) (channelsBody g) (λ cs. 32 + 256
 pub montage-written : (label : Label) (es : List Channel) → Rest 350 (montage label es) (channelsHead (montageGroup (length es))) (channelsWritten (montageGroup (length es)))
 unfolding montage
 montage-written label es =
-    by-form (λ l. Rest 350 (montage l es) (channelsHead (montageGroup (length es))) (channelsWritten (montageGroup (length es)))) (λ room h t cs c p. absurd (traced p .trace)) (channels-written (montageGroup (length es))) label
+    by-form (λ l. Rest 350 (montage l es) (channelsHead (montageGroup (length es))) (channelsWritten (montageGroup (length es)))) label (λ room h t cs c p. absurd (traced p .trace)) (channels-written (montageGroup (length es)))
 
 -- 130 and 200
 
@@ -219,24 +219,24 @@ zeros-are (b ∷ bs) p = by-check p λ z p. let j = zeros-are bs p in (j .0, λ 
 
 -- Records one after the other: makers' records and the head of another, and a part that may be absent. The head that was come to stands at the end
 
-pub next-written : (fuel room : ℕ) {t : List Event} {n : Next} → Plays t (next fuel room) n → cleared t ≡ makerEvents (n .makers) ++ numerals (n .head)
+pub next-written : (label : Label) (fuel room : ℕ) {t : List Event} {n : Next} → Plays t (next label fuel room) n → cleared t ≡ makerEvents (n .makers) ++ numerals (n .head)
 unfolding next makerEvents recordOf cleared _>>=_ _>>_
-next-written zero room p = absurd (traced p .trace)
-next-written (suc fuel) room p =
+next-written label zero room p = absurd (traced p .trace)
+next-written label (suc fuel) room p =
     by-parts (head room) _ p λ h u v e h₀ p.
     pick-case (makerCode (h .code)) _ _ p
     (λ c p.
-    by-parts (admit room 128 (leb 16) (λ _. true) h) _ p λ _ x y e₁ a₀ p.
+    by-parts (admit room (mostOf label) (leb 16) (λ _. true) h) _ p λ _ x y e₁ a₀ p.
     let r = taken p in
-    by-parts (next fuel (room - span h)) _ (r .then) λ m w z e₂ n₀ p.
-    rw (plays-gave p) (parts u v e (head-written room h₀) (parts x y e₁ (admit-written room 128 (leb 16) (λ _. true) h a₀) (piece-first (r .split) (ends w z e₂ (next-written fuel (room - span h) n₀) (gave-none p))))))
+    by-parts (next label fuel (room - span h)) _ (r .then) λ m w z e₂ n₀ p.
+    rw (plays-gave p) (parts u v e (head-written room h₀) (parts x y e₁ (admit-written room (mostOf label) (leb 16) (λ _. true) h a₀) (piece-first (r .split) (ends w z e₂ (next-written label fuel (room - span h) n₀) (gave-none p))))))
     (λ c p. rw (plays-gave p) (ends u v e (head-written room h₀) (gave-none p)))
 
 -- a part's record and the makers' records behind it, or nothing
 abbrev pub partEvents : {A : Type 0} → (A → Head) → (A → List Event) → Part A → List Event
 partEvents headOf inside x = optional (x .own) (recordOf (headOf (x .value)) (inside (x .value)) ++ makerEvents (x .next .makers))
 
-module _ {A : Type 0} (code : ℕ) (body : ℕ → Head → Walk A) (headOf : A → Head) (inside : A → List Event) (rest : Rest code body headOf inside) (n : Next) where
+module _ (label : Label) {A : Type 0} (code : ℕ) (body : ℕ → Head → Walk A) (headOf : A → Head) (inside : A → List Event) (rest : Rest code body headOf inside) (n : Next) where
   abbrev Passed : List Event → Part A → Type 0
   Passed t x = numerals (n .head) ++ cleared t ≡ partEvents headOf inside x ++ numerals (x .next .head)
 
@@ -250,15 +250,15 @@ module _ {A : Type 0} (code : ℕ) (body : ℕ → Head → Walk A) (headOf : A 
   unfolding recordOf
   put-together h t u v = simp append-assoc
 
-  pub part-written : (fuel : ℕ) (held : Option A) {t : List Event} {x : Part A} → Plays t (part fuel code body held n) x → Passed t x
+  pub part-written : (fuel : ℕ) (held : Option A) {t : List Event} {x : Part A} → Plays t (part label fuel code body held n) x → Passed t x
   unfolding part optional
   part-written fuel held {t} p =
       if-case (eqb (n .head .code) code) _ _ p
       (λ c p.
       by-parts (body (n .room) (n .head)) _ p λ a u v e b₀ p.
-      by-parts (next fuel (n .room - span (n .head))) _ p λ m y z e₁ n₀ p.
+      by-parts (next label fuel (n .room - span (n .head))) _ p λ m y z e₁ n₀ p.
       let r = rest (n .room) (n .head) u a (eqb-true (n .head .code) code c) b₀ in
-      let g = parts u v e (r .1) (ends y z e₁ (next-written fuel (n .room - span (n .head)) n₀) (gave-none p)) in
+      let g = parts u v e (r .1) (ends y z e₁ (next-written label fuel (n .room - span (n .head)) n₀) (gave-none p)) in
       rw (plays-gave p, g) (put-together (n .head) (inside a) (makerEvents (m .makers)) (numerals (m .head)) ∙ ap (λ (h : Head). (recordOf h (inside a) ++ makerEvents (m .makers)) ++ numerals (m .head)) (r .0)))
       (λ _ p. absent held p)
 
@@ -287,19 +287,19 @@ pub tables-written : (label : Label) (held : Option Held) (n : ℕ) {u : List Ev
 unfolding descriptions
 tables-written label held n p =
     by-parts (basic (n - 16)) _ p λ b u₁ v₁ e₁ b₀ p.
-    by-parts (next n (n - 144)) _ p λ m u₂ v₂ e₂ m₀ p.
+    by-parts (next label n (n - 144)) _ p λ m u₂ v₂ e₂ m₀ p.
     let g : Group = channelsGroup label (b .channels) in
-    by-parts (part n (g .code) (channels g) (heldChannels held) m) _ p λ c u₃ v₃ e₃ c₀ p.
-    by-parts (part n 130 (items patientCode) (heldPatient held) (c .next)) _ p λ q u₄ v₄ e₄ q₀ p.
-    by-parts (part n 200 (items eventCode) (some []) (q .next)) _ p λ e u₅ v₅ e₅ s₀ p.
+    by-parts (part label n (g .code) (channels g) (heldChannels held) m) _ p λ c u₃ v₃ e₃ c₀ p.
+    by-parts (part label n 130 (items patientCode) (heldPatient held) (c .next)) _ p λ q u₄ v₄ e₄ q₀ p.
+    by-parts (eventTable label n (q .next)) _ p λ e u₅ v₅ e₅ s₀ p.
     let o : Group = montageGroup (length (c .value)) in
-    by-parts (part n 350 (montage label (c .value)) (some []) (e .next)) _ p λ x u₆ v₆ e₆ x₀ p.
+    by-parts (part label n 350 (montage label (c .value)) (some []) (e .next)) _ p λ x u₆ v₆ e₆ x₀ p.
     rw (plays-gave p)
-    (parts u₁ v₁ e₁ (basic-written (n - 16) b₀) (parts u₂ v₂ e₂ (next-written n (n - 144) m₀) (parts u₃ v₃ e₃ refl (parts u₄ v₄ e₄ refl (parts u₅ v₅ e₅ refl (ends u₆ v₆ e₆ refl (gave-none p)))))) ∙
+    (parts u₁ v₁ e₁ (basic-written (n - 16) b₀) (parts u₂ v₂ e₂ (next-written label n (n - 144) m₀) (parts u₃ v₃ e₃ refl (parts u₄ v₄ e₄ refl (parts u₅ v₅ e₅ refl (ends u₆ v₆ e₆ refl (gave-none p)))))) ∙
     in-order (recordOf (plainHead 128 100 0) (basicFields b)) (makerEvents (m .makers)) (numerals (m .head)) (cleared u₃) (groupEvents g c) (numerals (c .next .head))
     (cleared u₄) (partEvents (itemsHead 130) itemsWritten q) (numerals (q .next .head)) (cleared u₅) (partEvents (itemsHead 200) itemsWritten e) (numerals (e .next .head))
     (cleared u₆) (groupEvents o x) (numerals (x .next .head))
-    (part-written (g .code) (channels g) (channelsHead g) (channelsWritten g) (channels-written g) m n (heldChannels held) c₀)
-    (part-written 130 (items patientCode) (itemsHead 130) itemsWritten (items-written patientCode 130) (c .next) n (heldPatient held) q₀)
-    (part-written 200 (items eventCode) (itemsHead 200) itemsWritten (items-written eventCode 200) (q .next) n (some []) s₀)
-    (part-written 350 (montage label (c .value)) (channelsHead o) (channelsWritten o) (montage-written label (c .value)) (e .next) n (some []) x₀))
+    (part-written label (g .code) (channels g) (channelsHead g) (channelsWritten g) (channels-written g) m n (heldChannels held) c₀)
+    (part-written label 130 (items patientCode) (itemsHead 130) itemsWritten (items-written patientCode 130) (c .next) n (heldPatient held) q₀)
+    (part-written label 200 (items eventCode) (itemsHead 200) itemsWritten (items-written eventCode 200) (q .next) n (some []) (table-part label n (q .next) s₀ .1))
+    (part-written label 350 (montage label (c .value)) (channelsHead o) (channelsWritten o) (montage-written label (c .value)) (e .next) n (some []) x₀))

@@ -13,7 +13,7 @@ use Rattle.walk.specs.Walk.{Letter, Text, Padding, Event, numeral, piece, blank
 use Rattle.rules.specs.Reading.{Reading, reading}
 use Rattle.rules.specs.Words.{wordsOf}
 pub use Rattle.rules.specs.CanonicalForm.{most, shares}
-use Rattle.rules.specs.Rules.{spelled, version, formed, Label, Heading, Head, span, Basic, Sub, Group, channelsGroup, montageGroup, Channel, Item, itemBytes, width, sampleBytes, Frame, Maker, Recording, Contents, File, judge}
+use Rattle.rules.specs.Rules.{spelled, versioned, formed, Label, Heading, Head, span, Basic, Sub, Group, channelsGroup, montageGroup, Channel, Item, itemBytes, width, sampleBytes, Frame, Maker, Recording, Contents, File, judge}
 
 -- The size and the multiplier of a record of n bytes: multiplier 0 where n fits, else the smallest that serves
 
@@ -173,7 +173,7 @@ digits k = elim (ltb k 10) [ true ↦ (48 + k) ∷ 32 ∷ 32 ∷ 32 ∷ [] | fal
 
 unfoldable pub headerEvents : Heading → ℕ → List Event
 headerEvents g k =
-    piece Text (spelled (g .spelling)) ∷ piece Text version ∷ piece Text (formed (g .label .form)) ∷ piece Letter (letterOf Little ∷ []) ∷
+    piece Text (spelled (g .spelling)) ∷ piece Text (versioned (g .label .version)) ∷ piece Text (formed (g .label .form)) ∷ piece Letter (letterOf Little ∷ []) ∷
     piece Text (g .script ∷ []) ∷ piece Text (digits k) ∷ piece Text (replicate 10 32) ∷ []
 
 unfoldable pub anew : Contents → List Event

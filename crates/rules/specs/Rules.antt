@@ -18,6 +18,8 @@ use Rattle.rules.specs.declared.Form.the-variants as Form
 pub use Rattle.rules.specs.declared.Label.{Label}
 use Rattle.rules.specs.declared.Spelling.{Spelling}
 use Rattle.rules.specs.declared.Spelling.the-variants as Spelling
+use Rattle.rules.specs.declared.Version.{Version}
+use Rattle.rules.specs.declared.Version.the-variants as Version
 use Rattle.walk.specs.Walk.{pick, Letter, Padding, Walk, give, refuse, check, number, read, skip, list, _>>=_, _>>_, Outcome, refused, passed, run, require, num, text, reserve}
 
 -- one step each
@@ -69,33 +71,71 @@ unfoldable pub spelled : Spelling → List ℕ
 spelled Spelling.Spg = 74 ∷ 83 ∷ 83 ∷ 82 ∷ 45 ∷ 83 ∷ 80 ∷ 71 ∷ []
 spelled Spelling.Psg = 74 ∷ 83 ∷ 83 ∷ 82 ∷ 45 ∷ 80 ∷ 83 ∷ 71 ∷ []
 
--- bytes that name one of two things, each with its text; and which
-unfoldable pub isOneOf : {A : Type 0} → (A → List ℕ) → A → A → List ℕ → Bool
-isOneOf text a b bs = sameBytes bs (text a) || sameBytes bs (text b)
+-- bytes that name the first of several things or one of the others, each with its text; and which
+unfoldable pub isOneOf : {A : Type 0} → (A → List ℕ) → A → List A → List ℕ → Bool
+isOneOf text a [] bs = sameBytes bs (text a)
+isOneOf text a (b ∷ others) bs = sameBytes bs (text a) || isOneOf text b others bs
 
-unfoldable pub oneOf : {A : Type 0} → (A → List ℕ) → A → A → List ℕ → A
-oneOf text a b bs = pick (sameBytes bs (text a)) a b
+unfoldable pub oneOf : {A : Type 0} → (A → List ℕ) → A → List A → List ℕ → A
+oneOf text a [] bs = a
+oneOf text a (b ∷ others) bs = pick (sameBytes bs (text a)) a (oneOf text b others bs)
 
 abbrev pub isSpelling : List ℕ → Bool
-isSpelling = isOneOf spelled Spelling.Spg Spelling.Psg
+isSpelling = isOneOf spelled Spelling.Spg (Spelling.Psg ∷ [])
 
 abbrev pub spellingOf : List ℕ → Spelling
-spellingOf = oneOf spelled Spelling.Spg Spelling.Psg
+spellingOf = oneOf spelled Spelling.Spg (Spelling.Psg ∷ [])
 
--- 000300
-unfoldable pub version : List ℕ
-version = 48 ∷ 48 ∷ 48 ∷ 51 ∷ 48 ∷ 48 ∷ []
+-- the six bytes of a version: 000100, 000110, 000200, 000300
+unfoldable pub versioned : Version → List ℕ
+versioned Version.V100 = 48 ∷ 48 ∷ 48 ∷ 49 ∷ 48 ∷ 48 ∷ []
+versioned Version.V110 = 48 ∷ 48 ∷ 48 ∷ 49 ∷ 49 ∷ 48 ∷ []
+versioned Version.V200 = 48 ∷ 48 ∷ 48 ∷ 50 ∷ 48 ∷ 48 ∷ []
+versioned Version.V300 = 48 ∷ 48 ∷ 48 ∷ 51 ∷ 48 ∷ 48 ∷ []
+
+abbrev pub isVersion : List ℕ → Bool
+isVersion = isOneOf versioned Version.V100 (Version.V110 ∷ Version.V200 ∷ Version.V300 ∷ [])
+
+abbrev pub versionOf : List ℕ → Version
+versionOf = oneOf versioned Version.V100 (Version.V110 ∷ Version.V200 ∷ Version.V300 ∷ [])
+
+-- what a version allows
+pub record Allows : Type 0 where
+  -- form 01
+  pub electrodes : Bool
+  -- script U
+  pub unicode : Bool
+  -- the largest multiplier of a record
+  pub multiplier : ℕ
+  -- type 20
+  pub twenty : Bool
+  -- the largest format of a channel's samples
+  pub format : ℕ
+  -- a recording without an event table of its own
+  pub eventless : Bool
+
+unfoldable pub allows : Version → Allows
+allows Version.V100 = record { electrodes = false; unicode = false; multiplier = 0; twenty = false; format = 1; eventless = false }
+allows Version.V110 = record { electrodes = false; unicode = false; multiplier = 0; twenty = true; format = 1; eventless = false }
+allows Version.V200 = record { electrodes = true; unicode = false; multiplier = 0; twenty = true; format = 1; eventless = true }
+allows Version.V300 = record { electrodes = true; unicode = true; multiplier = 128; twenty = true; format = 4; eventless = true }
+
+abbrev pub allowed : Label → Allows
+allowed label = allows (label .version)
+
+abbrev pub mostOf : Label → ℕ
+mostOf label = allowed label .multiplier
 
 -- the two bytes of a form: 00, channels; 01, electrodes
 unfoldable pub formed : Form → List ℕ
 formed Form.Channels = 48 ∷ 48 ∷ []
 formed Form.Electrodes = 48 ∷ 49 ∷ []
 
-abbrev pub isForm : List ℕ → Bool
-isForm = isOneOf formed Form.Channels Form.Electrodes
+abbrev pub isForm : Version → List ℕ → Bool
+isForm v bs = sameBytes bs (formed Form.Channels) || (allows v .electrodes && sameBytes bs (formed Form.Electrodes))
 
 abbrev pub formOf : List ℕ → Form
-formOf = oneOf formed Form.Channels Form.Electrodes
+formOf = oneOf formed Form.Channels (Form.Electrodes ∷ [])
 
 unfoldable pub allSpaces : List ℕ → Bool
 allSpaces [] = true
@@ -123,8 +163,8 @@ countIs none = 0
 countIs (some k) = k
 
 -- S, J, E or U
-abbrev pub isScript : ℕ → Bool
-isScript b = eqb b 83 || eqb b 74 || eqb b 69 || eqb b 85
+abbrev pub isScript : Version → ℕ → Bool
+isScript v b = eqb b 83 || eqb b 74 || eqb b 69 || (allows v .unicode && eqb b 85)
 
 -- what the header says of the whole file, besides the order and K
 pub record Heading : Type 0 where
@@ -142,19 +182,19 @@ fileHeader size = do
   id ← text 8
   require (isSpelling id) 2 8
   v ← text 6
-  require (sameBytes v version) 3 6
+  require (isVersion v) 3 6
   f ← text 2
-  require (isForm f) 4 2
+  require (isForm (versionOf v) f) 4 2
   letter ← read Letter 1 give
   require (eqb (getD letter 0 0) (letterOf Little)) 5 1
   script ← text 1
-  require (isScript (getD script 0 0)) 6 1
+  require (isScript (versionOf v) (getD script 0 0)) 6 1
   digits ← text 4
   require (countFits (countOf digits)) 7 4
   spaces ← text 10
   require (allSpaces spaces) 8 10
   give (record {
-    heading = record { spelling = spellingOf id; label = record { form = formOf f }; script = getD script 0 0 };
+    heading = record { spelling = spellingOf id; label = record { version = versionOf v; form = formOf f }; script = getD script 0 0 };
     count = countIs (countOf digits);
   })
 
@@ -237,8 +277,8 @@ atLeast bytes code most serial = record { code = λ c. eqb c code; most = most; 
 unfoldable pub makerCode : ℕ → Bool
 makerCode c = leb 1024 c && ltb c limit
 
-abbrev pub recordingRule : ℕ → Rule
-recordingRule i = atLeast 16 10 128 i
+abbrev pub recordingRule : Label → ℕ → Rule
+recordingRule label i = atLeast 16 10 (mostOf label) i
 
 abbrev pub basicRule : Rule
 basicRule = exactly 128 100 0
@@ -254,15 +294,20 @@ channelRule code i = exactly 256 code i
 abbrev pub itemsRule : ℕ → Rule
 itemsRule code = atLeast 24 code 0 0
 
-abbrev pub framesRule : Rule
-framesRule = atLeast 32 140 128 0
+abbrev pub framesRule : Label → Rule
+framesRule label = atLeast 32 140 (mostOf label) 0
 
 -- the length that 140 says, with samples that end at byte `filled`
-abbrev pub frameRule : ℕ → ℕ → ℕ → Rule
-frameRule size filled i = record { code = λ c. eqb c 145; most = 128; fits = λ multiplier n. eqb n size && padded multiplier (n - filled); serial = eqb i }
+abbrev pub frameRule : Label → ℕ → ℕ → ℕ → Rule
+frameRule label size filled i = record {
+  code = λ c. eqb c 145;
+  most = mostOf label;
+  fits = λ multiplier n. eqb n size && padded multiplier (n - filled);
+  serial = eqb i;
+}
 
-abbrev pub makerRule : Rule
-makerRule = record { code = makerCode; most = 128; fits = λ _. leb 16; serial = λ _. true }
+abbrev pub makerRule : Label → Rule
+makerRule label = record { code = makerCode; most = mostOf label; fits = λ _. leb 16; serial = λ _. true }
 
 -- what every record meets but the delimiter
 abbrev pub anyRule : Rule
@@ -391,8 +436,8 @@ pub record Group : Type 0 where
   pub counts : ℕ → Bool
   pub sub : Sub
 
-unfoldable pub isType : ℕ → Bool
-isType t = leb t 18 || eqb t 20
+unfoldable pub isType : Version → ℕ → Bool
+isType v t = leb t 18 || (allows v .twenty && eqb t 20)
 
 -- 0 only with type OFF; else Hz, or microseconds when flag bit 0 is 1
 unfoldable pub rateOk : ℕ → ℕ → ℕ → Bool
@@ -406,24 +451,24 @@ isInput electrodes g = pick (eqb (g / 65536) 0) (leb (g % 65536) electrodes) (le
 abbrev pub anything : ℕ → Bool
 anything n = true
 
-abbrev pub channelSub : Sub
-channelSub = record {
+abbrev pub channelSub : Version → Sub
+channelSub v = record {
   code = 125;
   number = anything;
-  type = isType;
-  format = between 1 4;
+  type = isType v;
+  format = between 1 (allows v .format);
   rate = rateOk;
   calibrated = true;
   wired = false;
   input = anything;
 }
 
-abbrev pub electrodeSub : Sub
-electrodeSub = record {
+abbrev pub electrodeSub : Version → Sub
+electrodeSub v = record {
   code = 325;
   number = λ n. ltb n limit;
-  type = λ t. isType t || eqb t 101;
-  format = between 1 4;
+  type = λ t. isType v t || eqb t 101;
+  format = between 1 (allows v .format);
   rate = rateOk;
   calibrated = false;
   wired = false;
@@ -443,18 +488,21 @@ montageSub electrodes = record {
 }
 
 -- 120 and 320, of as many channels as record 100 has; 350, over so many electrodes
-abbrev pub channelGroup : ℕ → Group
-channelGroup count = record { code = 120; counts = λ m. eqb m count; sub = channelSub }
+abbrev pub channelGroup : Version → ℕ → Group
+channelGroup v count = record { code = 120; counts = λ m. eqb m count; sub = channelSub v }
 
-abbrev pub electrodeGroup : ℕ → Group
-electrodeGroup count = record { code = 320; counts = λ m. eqb m count; sub = electrodeSub }
+abbrev pub electrodeGroup : Version → ℕ → Group
+electrodeGroup v count = record { code = 320; counts = λ m. eqb m count; sub = electrodeSub v }
 
 abbrev pub montageGroup : ℕ → Group
 montageGroup electrodes = record { code = 350; counts = anything; sub = montageSub electrodes }
 
 -- 120 or 320, by the form
 unfoldable pub channelsGroup : Label → ℕ → Group
-channelsGroup label count = elim (label .form) [ Form.Channels ↦ channelGroup count | Form.Electrodes ↦ electrodeGroup count ]
+channelsGroup label count = elim (label .form) [
+  | Form.Channels ↦ channelGroup (label .version) count
+  | Form.Electrodes ↦ electrodeGroup (label .version) count
+]
 
 -- a number of 4 bytes where it is a field; else reserve, and 0
 unfoldable pub fieldIf : Bool → (ℕ → Bool) → Walk ℕ
@@ -648,9 +696,9 @@ frameBody size t cs = do
   padding (size - (24 + sampleBytes t cs))
   give (record { hour = hour; minute = minute; second = second; channels = ss })
 
-unfoldable pub frame : ℕ → ℕ → List Channel → ℕ → ℕ → Walk Frame
-frame size t cs room i = do
-  let rule = frameRule size (24 + sampleBytes t cs) i
+unfoldable pub frame : Label → ℕ → ℕ → List Channel → ℕ → ℕ → Walk Frame
+frame label size t cs room i = do
+  let rule = frameRule label size (24 + sampleBytes t cs) i
   h ← head room
   codedBy rule h
   admitBy rule room h
@@ -664,8 +712,8 @@ pub record Frames : Type 0 where
   pub padded : ℕ
 
 -- the body of a 140 with this head
-unfoldable pub framesBody : Basic → List Channel → Head → Walk Frames
-framesBody b cs h = do
+unfoldable pub framesBody : Label → Basic → List Channel → Head → Walk Frames
+framesBody label b cs h = do
   t ← field (between 1 3600)
   require (all (sampled t) cs) 14 fieldBack
   let filled = 24 + sampleBytes t cs
@@ -676,16 +724,16 @@ framesBody b cs h = do
   let used = 32 + n * size
   require (leb used (span h) && padOk h (span h - used)) 14 fieldBack
   reserve 4
-  fs ← series n 1 size (span h - 32) (frame size t cs)
+  fs ← series n 1 size (span h - 32) (frame label size t cs)
   padding (span h - used)
   give (record { seconds = t; frames = fs; size = size; padded = n * (size - filled) + (span h - used) })
 
 -- the rest of a 140 whose head is read. `own`: the recording has a 120 of its own; else 100's count of channels, so many bytes back, is tested
-unfoldable pub frames : Basic → Bool → List Channel → ℕ → ℕ → Head → Walk Frames
-frames b own cs back room h = do
-  admitBy framesRule room h
+unfoldable pub frames : Label → Basic → Bool → List Channel → ℕ → ℕ → Head → Walk Frames
+frames label b own cs back room h = do
+  admitBy (framesRule label) room h
   require (own || eqb (length cs) (b .channels)) 14 back
-  framesBody b cs h
+  framesBody label b cs h
 
 -- A maker's own records, then the head of the next record and what room is left from its start
 
@@ -701,14 +749,14 @@ pub record Next : Type 0 where
 abbrev pub more : Maker → Next → Next
 more m n = record { makers = m ∷ n .makers; head = n .head; room = n .room }
 
-unfoldable pub next : ℕ → ℕ → Walk Next
-next zero room = refuse 0 0
-next (suc fuel) room = do
+unfoldable pub next : Label → ℕ → ℕ → Walk Next
+next label zero room = refuse 0 0
+next label (suc fuel) room = do
   h ← head room
-  pick (makerRule .code (h .code)) (do
-    admitBy makerRule room h
+  pick (makerRule label .code (h .code)) (do
+    admitBy (makerRule label) room h
     body ← text (span h - 16)
-    n ← next fuel (room - span h)
+    n ← next label fuel (room - span h)
     give (more (record { head = h; body = body }) n)) (give (record { makers = []; head = h; room = room }))
 
 -- A recording
@@ -745,18 +793,24 @@ pub record Part (A : Type 0) : Type 0 where
   pub next : Next
 
 -- a record with this code is read; without it the held value stands, or the record that stands here is refused
-unfoldable pub part : {A : Type 0} → ℕ → ℕ → (ℕ → Head → Walk A) → Option A → Next → Walk (Part A)
-part fuel code body held n =
+unfoldable pub part : {A : Type 0} → Label → ℕ → ℕ → (ℕ → Head → Walk A) → Option A → Next → Walk (Part A)
+part label fuel code body held n =
     elim (eqb (n .head .code) code) [
       | true ↦ do
         a ← body (n .room) (n .head)
-        m ← next fuel (n .room - span (n .head))
+        m ← next label fuel (n .room - span (n .head))
         give (record { own = true; value = a; next = m })
       | false ↦ elim held [
         | none ↦ refuse 9 codeBack
         | some a ↦ give (record { own = false; value = a; next = record { makers = []; head = n .head; room = n .room } })
       ]
     ]
+
+-- 200; where a version does not allow a recording without one, another record in its place is refused
+unfoldable pub eventTable : Label → ℕ → Next → Walk (Part (List Item))
+eventTable label fuel n = do
+  require (allowed label .eventless || eqb (n .head .code) 200) 9 codeBack
+  part label fuel 200 (items eventCode) (some []) n
 
 abbrev pub heldChannels : Option Held → Option (List Channel)
 heldChannels none = none
@@ -807,11 +861,11 @@ unfoldable pub descriptions : Label → Option Held → ℕ → Walk Description
 descriptions label held bytes = do
   b ← basic (bytes - 16)
   let g = channelsGroup label (b .channels)
-  n ← next bytes (bytes - 144)
-  c ← part bytes (g .code) (channels g) (heldChannels held) n
-  p ← part bytes 130 (items patientCode) (heldPatient held) (c .next)
-  e ← part bytes 200 (items eventCode) (some []) (p .next)
-  m ← part bytes 350 (montage label (c .value)) (some []) (e .next)
+  n ← next label bytes (bytes - 144)
+  c ← part label bytes (g .code) (channels g) (heldChannels held) n
+  p ← part label bytes 130 (items patientCode) (heldPatient held) (c .next)
+  e ← eventTable label bytes (p .next)
+  m ← part label bytes 350 (montage label (c .value)) (some []) (e .next)
   give (record { basic = b; next = n; channels = c; patient = p; events = e; montage = m })
 
 -- 100's count of channels stands 36 bytes into the recording: so many bytes back from behind the head of the 140, which has so much room
@@ -819,13 +873,13 @@ abbrev pub countBack : ℕ → ℕ → ℕ
 countBack bytes room = bytes - room - 20
 
 -- 140, the delimiter and the padding behind it, of a recording with this head
-unfoldable pub signals : Descriptions → Head → Walk Placed
-signals t h = do
+unfoldable pub signals : Label → Descriptions → Head → Walk Placed
+signals label t h = do
   let bytes = span h
   let last = t .montage .next
-  codedBy framesRule (last .head)
-  f ← frames (t .basic) (t .channels .own) (t .channels .value) (countBack bytes (last .room)) (last .room) (last .head)
-  d ← next bytes (last .room - span (last .head))
+  codedBy (framesRule label) (last .head)
+  f ← frames label (t .basic) (t .channels .own) (t .channels .value) (countBack bytes (last .room)) (last .room) (last .head)
+  d ← next label bytes (last .room - span (last .head))
   delimiter (d .head)
   let left = d .room - 16
   let used = bytes - left
@@ -867,13 +921,13 @@ signals t h = do
 unfoldable pub recordingBody : Label → Option Held → Head → Walk Placed
 recordingBody label held h = do
   t ← descriptions label held (span h)
-  signals t h
+  signals label t h
 
 unfoldable pub recording : Label → Option Held → ℕ → ℕ → Walk Placed
 recording label held room i = do
   h ← head room
-  codedBy (recordingRule i) h
-  admitBy (recordingRule i) room h
+  codedBy (recordingRule label i) h
+  admitBy (recordingRule label i) room h
   recordingBody label held h
 
 unfoldable pub recordings : Label → ℕ → Option Held → ℕ → ℕ → Walk (List Placed)

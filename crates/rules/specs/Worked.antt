@@ -10,7 +10,8 @@ use Rattle.words.specs.declared.Order.the-variants.{Little, Big}
 use Rattle.words.specs.Numbers.{letterOf, wordIn, bytesIn}
 use Rattle.words.specs.Values.{signed}
 use Rattle.walk.specs.Walk.{Row, Outcome, refused}
-use Rattle.rules.specs.Rules.{File, lengthOf, samplesOf, spelled, version, formed}
+use Rattle.rules.specs.declared.Version.the-variants as Version
+use Rattle.rules.specs.Rules.{File, lengthOf, samplesOf, spelled, versioned, formed}
 use Rattle.rules.specs.declared.Form.{Form}
 use Rattle.rules.specs.declared.Form.the-variants as Form
 use Rattle.rules.specs.declared.Spelling.the-variants as Spelling
@@ -56,7 +57,7 @@ group o code sub = head o 288 code 0 ++ (bytesIn o 4 1 ++ (bytesIn o 4 256 ++ ze
 -- of this form: so many bytes in the recording, the codes of its channels, their type, and what stands behind the patient items
 unfoldable pub smallestOf : Form → ℕ → ℕ → ℕ → ℕ → (Order → List ℕ) → Order → List ℕ
 smallestOf f bytes code sub type montage o =
-    spelled Spelling.Spg ++ (version ++ (formed f ++ (letterOf o ∷ 83 ∷ 49 ∷ 32 ∷ 32 ∷ 32 ∷ replicate 10 32))) ++
+    spelled Spelling.Spg ++ (versioned Version.V300 ++ (formed f ++ (letterOf o ∷ 83 ∷ 49 ∷ 32 ∷ 32 ∷ 32 ∷ replicate 10 32))) ++
     (head o bytes 10 1 ++
     (head o 128 100 0 ++ (bytesIn o 4 1 ++ (bytesIn o 4 1 ++ (bytesIn o 4 1 ++ zeros 100))) ++
     (group o code sub ++ (bytesIn o 4 1 ++ (zeros 4 ++ (bytesIn o 4 type ++ (bytesIn o 4 1 ++ (bytesIn o 4 1 ++ zeros 220))))) ++

@@ -16,8 +16,17 @@ pub enum Form {
     Electrodes,
 }
 
+// The versions of the format: 1.00, 1.10, 2.00 and 3.00.
+pub enum Version {
+    V100,
+    V110,
+    V200,
+    V300,
+}
+
 // What the file header says that the rules for records go by.
 pub struct Label {
+    pub version: Version,
     pub form: Form,
 }
 
@@ -52,8 +61,14 @@ impl FileHeader {
 
     pub const SPACES: usize = 22;
 
-    // The version that is read and the two forms, as numbers.
-    pub const VERSION_NUMBER: u32 = 300;
+    // The versions and the two forms, as numbers.
+    pub const V100_NUMBER: u32 = 100;
+
+    pub const V110_NUMBER: u32 = 110;
+
+    pub const V200_NUMBER: u32 = 200;
+
+    pub const V300_NUMBER: u32 = 300;
 
     pub const CHANNELS_NUMBER: u32 = 0;
 
@@ -112,17 +127,17 @@ impl Head {
     pub const LIMIT: u32 = 2147483648;
 }
 
-// A record's kind, with what its rule asks for: the code where several records are of a kind, the serial, a frame's length and the byte where
-// its samples end. `Any` is what every record meets but the delimiter.
+// A record's kind, with what its rule asks for: the label that says how large a multiplier may be, the code where several records are of a kind,
+// the serial, a frame's length and the byte where its samples end. `Any` is what every record meets but the delimiter.
 pub enum Kind {
-    Recording(u32),
+    Recording(Label, u32),
     Basic,
     Channels(u32),
     Channel(u32, u32),
     Items(u32),
-    Frames,
-    Frame(usize, usize, u32),
-    Maker,
+    Frames(Label),
+    Frame(Label, usize, usize, u32),
+    Maker(Label),
     Any,
 }
 
@@ -204,10 +219,10 @@ impl Basic {
     pub const MAINS_NUMBERS: usize = 1;
 }
 
-// The records that hold subs: 120 and 320 with as many as record 100 says, and 350 over so many electrodes.
+// The records that hold subs: 120 and 320, in a file of this version, with as many as record 100 says, and 350 over so many electrodes.
 pub enum Group {
-    Channels(u32),
-    Electrodes(u32),
+    Channels(Version, u32),
+    Electrodes(Version, u32),
     Montage(u32),
 }
 

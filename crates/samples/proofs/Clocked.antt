@@ -14,6 +14,7 @@ use Rattle.walk.specs.Walk.{Walk, give, refuse, check, number, read, skip, list
 use Rattle.walk.specs.See.{see, goes, Yields}
 use Rattle.walk.proofs.Seen.{yields, places}
 use Rattle.rules.specs.Rules as R
+use Rattle.rules.specs.declared.Label.{Label}
 use Rattle.rules.specs.Rules.{head, admit, frame, frameBody, padding}
 use Rattle.samples.specs.Frames.{timeOf}
 use Rattle.samples.specs.declared.Time.{Time}
@@ -38,11 +39,11 @@ yields-after o b s (skip n w) k at Q g = yields-after o b s w k (at + n) Q g
 yields-after o b s (list p l c m w) k at Q g = yields-after o b s w k at Q g
 
 module _ (o : Order) (s : List ℕ) (p : ℕ) where
-  yields-clock : (size t : ℕ) (cs : List R.Channel) (room i : ℕ) → Yields o 0 s p (frame size t cs room i) (λ f e. timeOf f ≡ timeAt o s p)
+  yields-clock : (label : Label) (size t : ℕ) (cs : List R.Channel) (room i : ℕ) → Yields o 0 s p (frame label size t cs room i) (λ f e. timeOf f ≡ timeAt o s p)
   unfolding frame frameBody head admit padding _>>=_ _>>_
-  yields-clock size t cs room i _ _ _ _ _ _ _ _ =
+  yields-clock label size t cs room i _ _ _ _ _ _ _ _ =
       yields-after o 0 s (R.samples t cs) _ _ _
       (λ ss e. yields-after o 0 s (R.zeros _) _ _ _ (λ _ _. simp places))
 
-  pub clock-read : (size t : ℕ) (cs : List R.Channel) (room i : ℕ) {f : R.Frame} {e : ℕ} → see o 0 s p (frame size t cs room i) ≡ goes f e → timeOf f ≡ timeAt o s p
-  clock-read size t cs room i h = yields o 0 s (frame size t cs room i) p _ (yields-clock size t cs room i) h
+  pub clock-read : (label : Label) (size t : ℕ) (cs : List R.Channel) (room i : ℕ) {f : R.Frame} {e : ℕ} → see o 0 s p (frame label size t cs room i) ≡ goes f e → timeOf f ≡ timeAt o s p
+  clock-read label size t cs room i h = yields o 0 s (frame label size t cs room i) p _ (yields-clock label size t cs room i) h

@@ -11,6 +11,7 @@ use Rattle.words.specs.declared.Order.{Order}
 use Rattle.walk.specs.Walk.{size}
 use Rattle.walk.specs.See.{goes, see}
 use Rattle.rules.specs.Rules as R
+use Rattle.rules.specs.declared.Label.{Label}
 use Rattle.rules.specs.Places.{bytesBefore}
 use Rattle.rules.proofs.Places.{Found, frame-found}
 use Rattle.rules.proofs.Asked.{frame-at}
@@ -35,9 +36,10 @@ abbrev pub frameAt : Chosen → ℕ → ℕ
 frameAt r n = startOf r + r .this .layout .at140 + (32 + r .this .layout .frame * (n - 1))
 
 pub record FrameSeen (s : List ℕ) (r : Chosen) (n : ℕ) (f : R.Frame) : Type 0 where
+  pub label : Label
   pub room : ℕ
   pub end : ℕ
-  pub seen : see (R.orderOf s) 0 s (frameAt r n) (R.frame (r .this .layout .frame) (r .this .recording .seconds) (r .this .recording .channels) room n) ≡ goes f end
+  pub seen : see (R.orderOf s) 0 s (frameAt r n) (R.frame label (r .this .layout .frame) (r .this .recording .seconds) (r .this .recording .channels) room n) ≡ goes f end
   pub inside : frameAt r n + (24 + R.sampleBytes (r .this .recording .seconds) (r .this .recording .channels)) ≤ length s
 
 module _ (s : List ℕ) (b : Bytes s) (i : ℕ) (r : Chosen) (x : ChosenIn s i r) where
@@ -48,7 +50,7 @@ module _ (s : List ℕ) (b : Bytes s) (i : ℕ) (r : Chosen) (x : ChosenIn s i r
   frame-place n = let a : bytesBefore (r .index) (r .all) ≡ bytesBefore (r .index) (x .file .recordings) = ap (bytesBefore (r .index)) (x .all) in omega arith
 
   frame-there : (n : ℕ) (f : R.Frame) → 1 ≤ n → One (r .this .recording .frames) (n - 1) f →
-      (room : ℕ) × Found (x .events) (R.frame (r .this .layout .frame) (r .this .recording .seconds) (r .this .recording .channels) room n) f (frameAt r n)
+      (room : ℕ) × Found (x .events) (R.frame (x .file .heading .label) (r .this .layout .frame) (r .this .recording .seconds) (r .this .recording .channels) room n) f (frameAt r n)
   frame-there n f l o =
       let m : 1 + (n - 1) ≡ n = omega arith in
       rw (this-one, o .is f, m, frame-place n) at (frame-at s b (x .judged) (r .this) (r .index) (x .one .inside) f (n - 1) (rw this-one (o .inside)))
@@ -57,10 +59,11 @@ module _ (s : List ℕ) (b : Bytes s) (i : ℕ) (r : Chosen) (x : ChosenIn s i r
   frame-seen n f l o =
       let g = frame-there n f l o in
       record {
+        label = x .file .heading .label;
         room = g .0;
         end = frameAt r n + size (g .1 .events);
         seen = found-seen s b (x .judged) (g .1);
-        inside = omega (arith, found-ends s b (x .judged) (g .1), frame-found _ _ _ _ _ (g .1 .plays) .bytes);
+        inside = omega (arith, found-ends s b (x .judged) (g .1), frame-found (x .file .heading .label) _ _ _ _ _ (g .1 .plays) .bytes);
       }
 
 -- a frame that is asked for and found, by the rules' value alone
@@ -102,6 +105,7 @@ module _ {s : List ℕ} {i : ℕ} {o : Order} {q : Places} {r : Chosen} (h : Fou
           found = h;
           place = e₄;
           inside = rw (e₄, e₂) (z .inside);
+          label = z .label;
           room = z .room;
           seen = record { value = y .0; end = z .end; is = rw (h .order, e₄, e₁, e₂) (z .seen); kept = refl };
         },

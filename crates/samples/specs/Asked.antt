@@ -8,6 +8,7 @@ use Rattle.words.specs.Numbers.{numberAt}
 use Rattle.words.specs.declared.Order.{Order}
 use Rattle.walk.specs.See.{Goes, goes, see}
 use Rattle.rules.specs.Rules as R
+use Rattle.rules.specs.declared.Label.{Label}
 use Rattle.rules.specs.Reading.{valueOf}
 use Rattle.rules.specs.declared.Refusal.{Refusal}
 use Rattle.records.specs.Says.{Kept}
@@ -41,10 +42,11 @@ pub record FrameStands (s : List ℕ) (i j : ℕ) (o : Order) (q : Places) (at :
   pub place : at ≡ f .at
   -- its head, its clock and its samples are in the file
   pub inside : at + (24 + R.sampleBytes (q .seconds) (f .of .this .recording .channels)) ≤ length s
-  -- the room that its walk is given
+  -- the label and the room that its walk is given
+  pub label : Label
   pub room : ℕ
   -- what the walk gives there
-  pub seen : Goes (see o 0 s at (R.frame (q .frame) (q .seconds) (f .of .this .recording .channels) room j)) (λ x e. x ≡ f .frame)
+  pub seen : Goes (see o 0 s at (R.frame label (q .frame) (q .seconds) (f .of .this .recording .channels) room j)) (λ x e. x ≡ f .frame)
 
 abbrev pub FrameFoundAs : List ℕ → ℕ → ℕ → FrameFound → Type 0
 FrameFoundAs s i j (FrameFound.At o q at) = (f : ChosenFrame) × FrameStands s i j o q at f
@@ -52,7 +54,7 @@ FrameFoundAs s i j (FrameFound.Refused r) = frameOf s i j ≡ refusal (r .0) (r 
 
 -- the time r is the clock of the frame that a walk gives at `at`
 abbrev pub ClockAt : Order → List ℕ → ℕ → Time → Type 0
-ClockAt o s at r = (size t : ℕ) (cs : List R.Channel) (room i : ℕ) (f : R.Frame) (e : ℕ) → see o 0 s at (R.frame size t cs room i) ≡ goes f e → r ≡ timeOf f
+ClockAt o s at r = (label : Label) (size t : ℕ) (cs : List R.Channel) (room i : ℕ) (f : R.Frame) (e : ℕ) → see o 0 s at (R.frame label size t cs room i) ≡ goes f e → r ≡ timeOf f
 
 -- the samples of the channel c in the frame of t seconds at `at`, behind those of the channels before it
 abbrev pub runOf : ℕ → List R.Channel → R.Channel → ℕ → Run

@@ -8,6 +8,7 @@ use lib.ListN.{length}
 use Rattle.words.specs.declared.Order.{Order}
 use Rattle.walk.specs.See.{Verdict, goes, see, over}
 use Rattle.rules.specs.Rules as R
+use Rattle.rules.specs.declared.Label.{Label}
 use Rattle.rules.specs.declared.Basic.{Basic}
 use Rattle.rules.specs.declared.Channels.{Channels}
 use Rattle.rules.specs.declared.Frames.{Frames}
@@ -40,7 +41,7 @@ pub record SignalsIn (file : List ℕ) (cs : Channels) (b : Basic) (h : Head) (b
   pub channels : ChannelsIn (length file) cs
 
 -- the rest of the 140 whose head is h, for the 100 and the channels of which the code keeps b and cs
-pub record FramesAt (o : Order) (file : List ℕ) (cs : Channels) (own : Bool) (b : Basic) (h : Head) (base : ℕ) (s : List ℕ) (a : FramesJudged) : Type 0 where
+pub record FramesAt (o : Order) (label : Label) (file : List ℕ) (cs : Channels) (own : Bool) (b : Basic) (h : Head) (base : ℕ) (s : List ℕ) (a : FramesJudged) : Type 0 where
   pub seen : (c : R.Basic) (ch : List R.Channel) → basicOf c ≡ b → ChannelsStand o file cs ch →
-      over framesOf (see o base s (base + (h .at + 16)) (R.frames c own ch (h .at - 4) (length s - h .at) (headOf h))) ≡ framed base a
+      over framesOf (see o base s (base + (h .at + 16)) (R.frames label c own ch (h .at - 4) (length s - h .at) (headOf h))) ≡ framed base a
   pub stands : StopsFrom (h .at + 32) (length s) a

@@ -11,6 +11,7 @@ use Rattle.words.specs.declared.Order.{Order}
 use Rattle.walk.specs.Walk.{Walk, give, _>>=_, _>>_}
 use Rattle.walk.specs.See.{Verdict, gate, see, over}
 use Rattle.rules.specs.Rules as R
+use Rattle.rules.specs.declared.Label.{Label}
 use Rattle.rules.specs.declared.Channels.{Channels}
 use Rattle.rules.specs.declared.Refusal.{Refusal}
 use Rattle.records.specs.Asks.{BodyOf}
@@ -33,9 +34,9 @@ fieldTests at bytes total multiplier ch t size n v =
     13 (at + 16)
 
 -- the frames of a 140 of so many bytes, and the padding behind them
-unfoldable pub behindFields : (t size n bytes : ℕ) → List R.Channel → Walk R.Frames
-behindFields t size n bytes ch = do
-  fs ← R.series n 1 size (bytes - 32) (R.frame size t ch)
+unfoldable pub behindFields : Label → (t size n bytes : ℕ) → List R.Channel → Walk R.Frames
+behindFields label t size n bytes ch = do
+  fs ← R.series n 1 size (bytes - 32) (R.frame label size t ch)
   R.padding (bytes - (32 + n * size))
   give (record { seconds = t; frames = fs; size = size; padded = n * (size - (24 + R.sampleBytes t ch)) + (bytes - (32 + n * size)) })
 
@@ -111,9 +112,9 @@ pub record FieldsTested (o : Order) (file : List ℕ) (cs : Channels) (at : ℕ)
   pub sized : Sizes a
 
 -- the frames and the padding, for channels whose samples fill a frame as the shape says
-pub record RestRead (o : Order) (at : ℕ) (s : List ℕ) (total : ℕ) (f : Shape) (a : FramesJudged) : Type 0 where
+pub record RestRead (o : Order) (label : Label) (at : ℕ) (s : List ℕ) (total : ℕ) (f : Shape) (a : FramesJudged) : Type 0 where
   pub seen : (ch : List R.Channel) → f .filled ≡ 24 + R.sampleBytes (f .seconds) ch →
-      over framesOf (see o (at + 16) s (at + 32) (behindFields (f .seconds) (f .size) total (16 + length s) ch)) ≡ framed at a
+      over framesOf (see o (at + 16) s (at + 32) (behindFields label (f .seconds) (f .size) total (16 + length s) ch)) ≡ framed at a
   pub fills : Fills (16 + length s) a
 
 -- the 100, the channels and the 140's head that a walk reads the body s with, as the code has them
@@ -124,7 +125,7 @@ pub record ReadWith (o : Order) (file : List ℕ) (cs : Channels) (s : List ℕ)
   pub times : h .multiplier ≡ multiplier
 
 -- the whole body
-pub record BodyRead (o : Order) (file : List ℕ) (cs : Channels) (at : ℕ) (s : List ℕ) (total multiplier : ℕ) (a : FramesJudged) : Type 0 where
+pub record BodyRead (o : Order) (label : Label) (file : List ℕ) (cs : Channels) (at : ℕ) (s : List ℕ) (total multiplier : ℕ) (a : FramesJudged) : Type 0 where
   pub seen : (b : R.Basic) (ch : List R.Channel) (h : R.Head) → ReadWith o file cs s total multiplier b ch h →
-      over framesOf (see o (at + 16) s (at + 16) (R.framesBody b ch h)) ≡ framed at a
+      over framesOf (see o (at + 16) s (at + 16) (R.framesBody label b ch h)) ≡ framed at a
   pub fills : Fills (16 + length s) a

@@ -9,6 +9,7 @@ use lib.ListN.{length}
 use Rattle.words.specs.declared.Order.{Order}
 use Rattle.walk.specs.See.{Verdict, gate, see, Goes}
 use Rattle.rules.specs.Rules as R
+use Rattle.rules.specs.declared.Label.{Label}
 use Rattle.rules.specs.declared.Basic.{Basic}
 use Rattle.rules.specs.declared.Channels.{Channels}
 use Rattle.rules.specs.declared.Frames.{Frames}
@@ -65,9 +66,9 @@ Signaled v end t r (FramesJudged.On f q) = Goes v (WholeAt end t r f)
 Signaled v end t r (FramesJudged.Stop x) = v ≡ halts x
 
 -- what `signals` answers, of any descriptions and any recording's head of which the code has this
-abbrev pub SignalsOf : Order → List ℕ → Channels → Bool → Basic → Head → ℕ → List ℕ → ℕ → FramesJudged → Type 0
-SignalsOf o file cs own b h base s multiplier a = (t : Descriptions) (r : R.Head) → DescriptionsKnown o file cs own b h s multiplier t r →
-    Signaled (see o base s (base + (h .at + 16)) (R.signals t r)) (base + length s) t r a
+abbrev pub SignalsOf : Order → Label → List ℕ → Channels → Bool → Basic → Head → ℕ → List ℕ → ℕ → FramesJudged → Type 0
+SignalsOf o label file cs own b h base s multiplier a = (t : Descriptions) (r : R.Head) → DescriptionsKnown o file cs own b h s multiplier t r →
+    Signaled (see o base s (base + (h .at + 16)) (R.signals label t r)) (base + length s) t r a
 
 -- the delimiter of the recording whose body is s stops at byte `end`
 pub record ClosedIn (base : ℕ) (s : List ℕ) (end : ℕ) : Type 0 where

@@ -20,6 +20,7 @@ use rules::Frame;
 use rules::Frames;
 use rules::Head;
 use rules::Kind;
+use rules::Label;
 use rules::Refusal;
 use words::Order;
 use words::number4;
@@ -151,15 +152,16 @@ fn read_shape(
 }
 
 // The frames of the record 140 at `at`, and the padding behind them.
-fn frames_rest(o: Order, s: &[u8], at: usize, total: u32, f: Shape) -> FramesJudged
+fn frames_rest(o: Order, label: Label, s: &[u8], at: usize, total: u32, f: Shape) -> FramesJudged
     requires { ⌜ RestAsked at (now s) total f ⌝ }
-    ensures { λ a. ⌜ RestRead o at (now (s .entry)) total f a ⌝ }
+    ensures { λ a. ⌜ RestRead o label at (now (s .entry)) total f a ⌝ }
 {
     let size = f.size;
     let filled = f.filled;
     let n = s.len();
     let taken = records::frames::frames_from(
         o,
+        label,
         s,
         at + Head::LENGTH,
         Frames::BODY_FIRST,
@@ -188,6 +190,7 @@ fn frames_rest(o: Order, s: &[u8], at: usize, total: u32, f: Shape) -> FramesJud
 // The body of the record 140 at `at`, of so many frames.
 fn frames_body(
     o: Order,
+    label: Label,
     file: &[u8],
     cs: Channels,
     s: &[u8],
@@ -196,13 +199,13 @@ fn frames_body(
     multiplier: u32,
 ) -> FramesJudged
     requires { ⌜ FieldsAsked (now file) cs at (now s) total ⌝ }
-    ensures { λ a. ⌜ BodyRead o (now (file .entry)) cs at (now (s .entry)) total multiplier a ⌝ }
+    ensures { λ a. ⌜ BodyRead o label (now (file .entry)) cs at (now (s .entry)) total multiplier a ⌝ }
 {
     let shaped = read_shape(o, file, cs, s, at, total, multiplier);
     let Shaped::On(f) = shaped else {
         return FramesJudged::Stop(of_shape(shaped));
     };
-    frames_rest(o, s, at, total, f)
+    frames_rest(o, label, s, at, total, f)
 }
 
 // Channels that are taken over are as many as the recording's own 100 says.
@@ -218,6 +221,7 @@ fn count_ok(own: bool, m: u32, channels: u32) -> bool
 // The rest of the record 140 whose head is h.
 pub fn frames_at(
     o: Order,
+    label: Label,
     file: &[u8],
     cs: Channels,
     own: bool,
@@ -227,9 +231,9 @@ pub fn frames_at(
     h: Head,
 ) -> FramesJudged
     requires { ⌜ SignalsIn (now file) cs b h base (now s) ⌝ }
-    ensures { λ a. ⌜ FramesAt o (now (file .entry)) cs own b h base (now (s .entry)) a ⌝ }
+    ensures { λ a. ⌜ FramesAt o label (now (file .entry)) cs own b h base (now (s .entry)) a ⌝ }
 {
-    let room = records::kinds::admit(h, base, s.len(), Kind::Frames);
+    let room = records::kinds::admit(h, base, s.len(), Kind::Frames(label));
     let Step::On(end) = room else {
         return FramesJudged::Stop(records::of_step(room));
     };
@@ -238,7 +242,7 @@ pub fn frames_at(
     }
     let p = h.at;
     let body = &s[p + Head::LENGTH..end];
-    let held = frames_body(o, file, cs, body, base + p, b.frames, h.multiplier);
+    let held = frames_body(o, label, file, cs, body, base + p, b.frames, h.multiplier);
     let FramesJudged::On(f, _) = held else {
         return held;
     };

@@ -16,6 +16,7 @@ use rules::Basic;
 use rules::Channels;
 use rules::Head;
 use rules::Kind;
+use rules::Label;
 use rules::Recording;
 use rules::Refusal;
 use words::Order;
@@ -46,6 +47,7 @@ fn closed(s: &[u8], base: usize, end: usize, padded: usize, multiplier: u32) -> 
 // From the record where the 140 should stand, whose head is h; s is the recording's body.
 pub fn signals(
     o: Order,
+    label: Label,
     file: &[u8],
     cs: Channels,
     own: bool,
@@ -56,16 +58,16 @@ pub fn signals(
     multiplier: u32,
 ) -> FramesJudged
     requires { ⌜ SignalsIn (now file) cs b h base (now s) ⌝ }
-    ensures { λ a. ⌜ SignalsOf o (now (file .entry)) cs own b h base (now (s .entry)) multiplier a ⌝ }
+    ensures { λ a. ⌜ SignalsOf o label (now (file .entry)) cs own b h base (now (s .entry)) multiplier a ⌝ }
 {
-    if !has_code(Kind::Frames, h.code) {
+    if !has_code(Kind::Frames(label), h.code) {
         return FramesJudged::Stop(Refusal(9, base + h.at + Head::CODE));
     }
-    let held = crate::frames::frames_at(o, file, cs, own, b, s, base, h);
+    let held = crate::frames::frames_at(o, label, file, cs, own, b, s, base, h);
     let FramesJudged::On(f, end) = held else {
         return held;
     };
-    let found = records::makers::next_head(o, s, base, end);
+    let found = records::makers::next_head(o, label, s, base, end);
     let Headed::At(d) = found else {
         return FramesJudged::Stop(records::of_head(found));
     };

@@ -17,7 +17,7 @@ use Rattle.walk.proofs.Apart.{false-true}
 use Rattle.walk.proofs.Laid.{laid-padding}
 use Rattle.walk.proofs.Seen.{and-left, stays-goes, see-body, body-length}
 use Rattle.walk.proofs.Tracing.{written-append, written-none, written-row, written-piece}
-use Rattle.rules.specs.Rules.{Head, Group, Channel, head, admit, span, zeros, padding, numberList, basicBody, channels, channelsBody, items, itemsBody, patientCode, eventCode, frames, makerCode, delimiter}
+use Rattle.rules.specs.Rules.{mostOf, Head, Group, Channel, head, admit, span, zeros, padding, numberList, basicBody, channels, channelsBody, items, itemsBody, patientCode, eventCode, frames, makerCode, delimiter}
 use Rattle.rules.specs.declared.Head as At
 use Rattle.rules.proofs.Room.{stays-basicBody, stays-channelsBody, stays-itemsBody}
 use Rattle.records.specs.Says.{headOf, isGroup, shapeOf, HasShape}
@@ -118,8 +118,8 @@ module _ (w : Way) (b : ℕ) (s : List ℕ) (p q : ℕ) (h : Head) (stop : q ≡
   inner-told (is130 c r) n = items-told patientCode (λ d y. y .patient c) r
   inner-told (is200 c r) n = items-told eventCode (λ d y. y .events c) r
   inner-told (is140 c r) n = absurd (n c)
-  inner-told (isMaker c r) n =
-      let z = behind 128 (leb 16) (λ _. true) (text (span h - 16)) (λ _ at. (omega arith, λ _ _. refl)) r in
+  inner-told {k} (isMaker c r) n =
+      let z = behind (mostOf (k .label)) (leb 16) (λ _. true) (text (span h - 16)) (λ _ at. (omega arith, λ _ _. refl)) r in
       told z (λ d y. y .maker c ∙ text-whole w from body (span h - 16) (omega (arith, body-span)))
 
 maker-high : (code : ℕ) → makerCode code ≡ true → 1024 ≤ code
@@ -138,7 +138,7 @@ group-low code h = go (eqb code 120) (eqb code 320) (eqb code 350) refl refl ref
     go false false false e f g = false-true (rw (isGroup, e, f, g) at h)
 
 -- one that is a 140
-pub inner-140 : {o : Order} {b : ℕ} {s : List ℕ} {p : ℕ} {k : Known} {h : Head} {l : Said} → Inner o b s p k h l → h .code ≡ 140 → Reads o b s p (frames (k .basic) (k .own) (k .channels) (k .back) (length s - p) h) l
+pub inner-140 : {o : Order} {b : ℕ} {s : List ℕ} {p : ℕ} {k : Known} {h : Head} {l : Said} → Inner o b s p k h l → h .code ≡ 140 → Reads o b s p (frames (k .label) (k .basic) (k .own) (k .channels) (k .back) (length s - p) h) l
 unfolding isGroup
 inner-140 (is100 c r) e = absurd (omega arith)
 inner-140 (isSubs g t c r) e = false-true (sym (ap isGroup (sym c ∙ e)) ∙ t .group)

@@ -22,7 +22,7 @@ use Rattle.walk.proofs.Seen.{see-part, stays-goes, body-length}
 use Rattle.walk.proofs.Tracing.{written-append, written-none, written-piece}
 use Rattle.walk.proofs.Went.{gate-went}
 use Rattle.rules.specs.Rules as R
-use Rattle.rules.specs.Rules.{head, coded, admit, span, recordingBody, recording, fileHeader}
+use Rattle.rules.specs.Rules.{mostOf, head, coded, admit, span, recordingBody, recording, fileHeader}
 use Rattle.rules.specs.declared.Channels.{Channels}
 use Rattle.rules.specs.declared.Head.{Head}
 use Rattle.rules.proofs.Room.{stays-recordingBody, stays-recording, stays-recordings}
@@ -48,17 +48,17 @@ use Rattle.turn.proofs.Turning.{filled-first, read-part, copy-require}
 -- a record of a recording: its 140, or any other
 module _ (w : Way) (file : List ℕ) (cs : Channels) (s : List ℕ) (h : Head) (q : ℕ) (out out′ : List ℕ) (k k′ : ℕ) where
   pub child-140 : h .code ≡ 140 → FramesSent w file cs s (h .at) q out out′ k k′ → ChildSent w file cs s h q out out′ k k′
-  child-140 code x = record { inside = x .inside; wrote = λ b known l stop subs i. x .wrote b (known .basic) (known .own) (known .channels) (known .back) (headOf h) l stop subs (inner-140 i code) }
+  child-140 code x = record { inside = x .inside; wrote = λ b known same l stop subs i. x .wrote b (known .basic) (known .own) (known .channels) (known .back) (headOf h) l stop subs (rw same at (inner-140 i code)) }
 
   pub child-other : (h .code ≡ 140 → ⊥) → Transcribed w s h q out out′ k k′ → ChildSent w file cs s h q out out′ k k′
-  child-other other x = record { inside = x .inside; wrote = λ b known l stop subs i. x .wrote b known l stop other i }
+  child-other other x = record { inside = x .inside; wrote = λ b known same l stop subs i. x .wrote b known l stop other i }
 
 -- the records of a body that the walk accepted as x, written up to byte p
 pub record SentUpTo (w : Way) (b : ℕ) (s : List ℕ) (known : Known) (out out₁ : List ℕ) (k k₁ p : ℕ) (all : List ℕ) : Type 0 where
   pub sent : Copying (anew w) (Chain (w .from) b s known) out out₁ k k₁ p all
 
 module _ {w : Way} {b : ℕ} {s out : List ℕ} {k : ℕ} where
-  pub sent-none : (held : Option R.Held) (h : R.Head) (x : R.Placed) (e : ℕ) → span h ≡ 16 + length s → see (w .from) b s b (recordingBody (w .label) held h) ≡ goes x e → SentUpTo w b s (knownOf x) out out k k 0 (copy w b s b (recordingBody (w .label) held h))
+  pub sent-none : (held : Option R.Held) (h : R.Head) (x : R.Placed) (e : ℕ) → span h ≡ 16 + length s → see (w .from) b s b (recordingBody (w .label) held h) ≡ goes x e → SentUpTo w b s (knownOf (w .label) x) out out k k 0 (copy w b s b (recordingBody (w .label) held h))
   unfolding said
   sent-none held h x e n g = record { sent = copying-none (said (w .from) b s b (recordingBody (w .label) held h)) (body-chain (w .from) (w .label) b s held h n g) }
 
@@ -80,10 +80,10 @@ unfolding recording
 begun-bytes w s p held i v =
     let room : ℕ = length s - p in
     let h = v .opens .top in
-    let k : R.Head → Walk R.Placed = λ h. coded h 10 >> (admit room 128 (leb 16) (eqb i) h >> recordingBody (w .label) held h) in
+    let k : R.Head → Walk R.Placed = λ h. coded h 10 >> (admit room (mostOf (w .label)) (leb 16) (eqb i) h >> recordingBody (w .label) held h) in
     copy-bind w 0 s p (head room) k (v .opens .first)
     ∙ ap (λ (q : List ℕ). copy w 0 s p (head room) ++ q)
-    (copy-require w 0 s (p + 16) (eqb (h .code) 10) 9 12 (admit room 128 (leb 16) (eqb i) h >> recordingBody (w .label) held h) ∙ copy-admit w 0 s (p + 16) room 128 (leb 16) (eqb i) h (recordingBody (w .label) held h))
+    (copy-require w 0 s (p + 16) (eqb (h .code) 10) 9 12 (admit room (mostOf (w .label)) (leb 16) (eqb i) h >> recordingBody (w .label) held h) ∙ copy-admit w 0 s (p + 16) room (mostOf (w .label)) (leb 16) (eqb i) h (recordingBody (w .label) held h))
 
 -- the recording from byte p of the file up to q
 module _ (w : Way) (s : List ℕ) (p q : ℕ) where

@@ -21,7 +21,8 @@ use Rattle.walk.specs.Trace.{trace, written}
 use Rattle.walk.proofs.Seen.{went, when-then, stays-weaken, stays-goes, stays-require, body-length, and-left}
 use Rattle.walk.proofs.Tracing.{trace-bind, trace-give, written-append, written-none, written-row}
 use Rattle.walk.proofs.Went.{gate-went, went-first, goes-same}
-use Rattle.rules.specs.Rules.{Head, head, coded, admit, span, padding, series, Basic, Channel, sampleBytes, numberList, samples, Frame, frame, frameBody, Frames, frames, framesBody, padOk}
+use Rattle.rules.specs.declared.Label.{Label}
+use Rattle.rules.specs.Rules.{mostOf, Head, head, coded, admit, span, padding, series, Basic, Channel, sampleBytes, numberList, samples, Frame, frame, frameBody, Frames, frames, framesBody, padOk}
 use Rattle.rules.specs.declared.Channels.{Channels}
 use Rattle.rules.proofs.Room.{stays-series, stays-frame, stays-frameBody, stays-framesBody}
 use Rattle.records.specs.Says.{ChannelsStand}
@@ -116,11 +117,11 @@ module _ (t : ℕ) (cs : List Channel) where
       (written-append (w .keep) (w .to) (trace (w .from) b s at (filling t cs)) u
       ∙ ap (λ (l : List ℕ). written (w .keep) (w .to) (trace (w .from) b s at (filling t cs)) ++ l) (copy-padding w b s (g .end) n _ ∙ ap (λ (x : ℕ). bytesAt n s (x - b)) e))
 
-  copy-frame : (w : Way) (b : ℕ) (s : List ℕ) (at size room i : ℕ) → copy w b s at (frame size t cs room i) ≡ copy w b s at (numberList 4 4) ++ (copy w b s (at + 16) (filling t cs) ++ bytesAt (size - (24 + sampleBytes t cs)) s (at + 24 + sampleBytes t cs - b))
+  copy-frame : (w : Way) (b : ℕ) (s : List ℕ) (at size room i : ℕ) → copy w b s at (frame (w .label) size t cs room i) ≡ copy w b s at (numberList 4 4) ++ (copy w b s (at + 16) (filling t cs) ++ bytesAt (size - (24 + sampleBytes t cs)) s (at + 24 + sampleBytes t cs - b))
   unfolding frame
   copy-frame w b s at size room i =
       let z : at + 16 + 8 ≡ at + 24 = omega arith in
-      copy-record w b s at room 145 128 (λ h n. eqb n size && padOk h (n - (24 + sampleBytes t cs))) (eqb i) (frameBody size t cs) ∙ rw (copy-frameBody w b s (at + 16) size, z)
+      copy-record w b s at room 145 (mostOf (w .label)) (λ h n. eqb n size && padOk h (n - (24 + sampleBytes t cs))) (eqb i) (frameBody size t cs) ∙ rw (copy-frameBody w b s (at + 16) size, z)
 
 -- a part of s, which stands at c, read to its end: the bytes are those of the whole there, and so many
 pub read-part : {A : Type 0} (w : Way) (b c a m : ℕ) (s : List ℕ) (v : Walk A) → c ≡ b + a → a + m ≤ length s → Stays (c + m) c v (λ _ _. Unit {0}) → {x : A} {e : ℕ} → see (w .from) b s c v ≡ goes x e → e ≡ c + m →
@@ -139,7 +140,7 @@ pub frame-copied : (w : Way) (b : ℕ) (s d : List ℕ) (t filled room i : ℕ) 
     ys₁ ≡ copy w b (take 16 s) b (numberList 4 4) → d₁ ≡ ys₁ ++ drop 16 d →
     ys₂ ≡ copy w (b + 16) (take (filled - 16) (drop 16 s)) (b + 16) (filling t cs) → d₂ ≡ take 16 d₁ ++ (ys₂ ++ drop (filled - 16) (drop 16 d₁)) →
     ys₃ ≡ take (length s - filled) (drop filled s) →
-    take filled d₂ ++ (ys₃ ++ drop (length d₂ - filled) (drop filled d₂)) ≡ copy w b s b (frame (length s) t cs room i)
+    take filled d₂ ++ (ys₃ ++ drop (length d₂ - filled) (drop filled d₂)) ≡ copy w b s b (frame (w .label) (length s) t cs room i)
 unfolding bytesAt
 frame-copied w b s d t filled room i cs d₁ d₂ ys₁ ys₂ ys₃ h₁ h₂ h₃ e f₁ p₁ f₂ p₂ f₃ =
     let r₁ = read-head w b s (omega arith) in
@@ -185,9 +186,9 @@ module _ {A : Type 0} (o : Order) (b : ℕ) (s : List ℕ) (step : ℕ) (v : ℕ
       }
 
 -- a frame stays in its own length, whatever room it is given
-stays-sized : (size t : ℕ) (cs : List Channel) (room i at : ℕ) → 24 + sampleBytes t cs ≤ size → Stays (at + size) at (frame size t cs room i) (λ _ _. Unit {0})
+stays-sized : (label : Label) (size t : ℕ) (cs : List Channel) (room i at : ℕ) → 24 + sampleBytes t cs ≤ size → Stays (at + size) at (frame label size t cs room i) (λ _ _. Unit {0})
 unfolding frame head admit _>>=_ _>>_
-stays-sized size t cs room i at h =
+stays-sized label size t cs room i at h =
     let z : at + 4 + 4 + 4 + 4 + (size - 16) ≡ at + size = omega arith in
     λ _. (omega arith, λ _. (omega arith, λ _. (omega arith, λ _. (omega arith, λ _ _ _ _ _. stays-weaken (frameBody size t cs) _ (at + size) (at + 4 + 4 + 4 + 4) _ (λ _ _. Unit {0}) (omega arith) (λ _ _ _. tt) (stays-frameBody size t cs (at + 4 + 4 + 4 + 4) h)))))
 
@@ -198,18 +199,18 @@ pub record FramesTurned (w : Way) (b : ℕ) (s : List ℕ) (cs : List Channel) (
   pub fits : 16 + size * n ≤ length s
   pub value : List Frame
   pub end : ℕ
-  pub went : see (w .from) b s (b + 16) (series n 1 size (length s - 16) (frame size t cs)) ≡ goes value end
-  pub bytes : all ≡ copy w b s b (numberList 4 3) ++ (copy w b s (b + 12) (reserve 4) ++ (copy w b s (b + 16) (series n 1 size (length s - 16) (frame size t cs)) ++ bytesAt (length s - (16 + size * n)) s (16 + size * n)))
+  pub went : see (w .from) b s (b + 16) (series n 1 size (length s - 16) (frame (w .label) size t cs)) ≡ goes value end
+  pub bytes : all ≡ copy w b s b (numberList 4 3) ++ (copy w b s (b + 12) (reserve 4) ++ (copy w b s (b + 16) (series n 1 size (length s - 16) (frame (w .label) size t cs)) ++ bytesAt (length s - (16 + size * n)) s (16 + size * n)))
 
-module _ (w : Way) (b : ℕ) (s : List ℕ) (c : Basic) (cs : List Channel) (h : Head) (fills : span h ≡ 16 + length s) {f : Frames} {e : ℕ} (g : see (w .from) b s b (framesBody c cs h) ≡ goes f e) where
-  framed-as-read : FramesTurned w b s cs (numberAt (w .from) 4 s (b - b)) (numberAt (w .from) 4 s (b + 4 - b)) (numberAt (w .from) 4 s (b + 4 + 4 - b)) (copy w b s b (framesBody c cs h))
+module _ (w : Way) (b : ℕ) (s : List ℕ) (c : Basic) (cs : List Channel) (h : Head) (fills : span h ≡ 16 + length s) {f : Frames} {e : ℕ} (g : see (w .from) b s b (framesBody (w .label) c cs h) ≡ goes f e) where
+  framed-as-read : FramesTurned w b s cs (numberAt (w .from) 4 s (b - b)) (numberAt (w .from) 4 s (b + 4 - b)) (numberAt (w .from) 4 s (b + 4 + 4 - b)) (copy w b s b (framesBody (w .label) c cs h))
   unfolding framesBody numberList see trace _>>=_ _>>_
   framed-as-read =
       let o : Order = w .from in
       let t : ℕ = numberAt o 4 s (b - b) in
       let size : ℕ = numberAt o 4 s (b + 4 - b) in
       let n : ℕ = numberAt o 4 s (b + 4 + 4 - b) in
-      let v : Walk (List Frame) = series n 1 size (span h - 32) (frame size t cs) in
+      let v : Walk (List Frame) = series n 1 size (span h - 32) (frame (w .label) size t cs) in
       let k : List Frame → Walk Frames = λ fs. padding (span h - (32 + n * size)) >> give (record { seconds = t; frames = fs; size = size; padded = n * (size - (24 + sampleBytes t cs)) + (span h - (32 + n * size)) }) in
       let g₁ = gate-went _ _ _ _ g in
       let g₂ = gate-went _ _ _ _ (g₁ .1) in
@@ -223,7 +224,7 @@ module _ (w : Way) (b : ℕ) (s : List ℕ) (c : Basic) (cs : List Channel) (h :
       let y : b + 4 + 4 + 4 ≡ b + 12 = omega arith in
       let r : span h - 32 ≡ length s - 16 = omega arith in
       let j : n * size ≡ size * n = mul-comm n size in
-      let d : x .end ≡ b + 4 + 4 + 4 + 4 + n * size = stays-goes o b s (b + 16 + (span h - 32)) (omega arith) v (b + 4 + 4 + 4 + 4) _ (omega arith) (stays-series size (frame size t cs) (stays-frame size t cs m) n 1 (span h - 32) (b + 16 + (span h - 32)) (b + 4 + 4 + 4 + 4) (omega arith) (omega arith)) (x .is) in
+      let d : x .end ≡ b + 4 + 4 + 4 + 4 + n * size = stays-goes o b s (b + 16 + (span h - 32)) (omega arith) v (b + 4 + 4 + 4 + 4) _ (omega arith) (stays-series size (frame (w .label) size t cs) (stays-frame (w .label) size t cs m) n 1 (span h - 32) (b + 16 + (span h - 32)) (b + 4 + 4 + 4 + 4) (omega arith) (omega arith)) (x .is) in
       let i : x .end - b ≡ 16 + size * n = omega (arith, d, j) in
       let u : span h - (32 + n * size) ≡ length s - (16 + size * n) = omega (arith, j) in
       record {
@@ -239,7 +240,7 @@ module _ (w : Way) (b : ℕ) (s : List ℕ) (c : Basic) (cs : List Channel) (h :
             ∙ rw (copy-padding w b s (x .end) (span h - (32 + n * size)) _, i, z, y, r, u));
       }
 
-  pub framed : (t size n : ℕ) → numberAt (w .from) 4 s 0 ≡ t → numberAt (w .from) 4 s 4 ≡ size → numberAt (w .from) 4 s 8 ≡ n → FramesTurned w b s cs t size n (copy w b s b (framesBody c cs h))
+  pub framed : (t size n : ℕ) → numberAt (w .from) 4 s 0 ≡ t → numberAt (w .from) 4 s 4 ≡ size → numberAt (w .from) 4 s 8 ≡ n → FramesTurned w b s cs t size n (copy w b s b (framesBody (w .label) c cs h))
   framed t size n e₁ e₂ e₃ =
       let z₁ : b - b ≡ 0 = omega arith in
       let z₂ : b + 4 - b ≡ 4 = omega arith in
@@ -247,12 +248,12 @@ module _ (w : Way) (b : ℕ) (s : List ℕ) (c : Basic) (cs : List Channel) (h :
       rw (z₁, z₂, z₃, e₁, e₂, e₃) at framed-as-read
 
   -- as many bytes are written of it
-  pub framed-length : 16 ≤ length s → length (copy w b s b (framesBody c cs h)) ≡ length s
+  pub framed-length : 16 ≤ length s → length (copy w b s b (framesBody (w .label) c cs h)) ≡ length s
   framed-length l =
       let L : ℕ = b + (span h - 16) in
-      let r = stays-framesBody c cs h b (omega arith) in
-      let i : e ≡ L = stays-goes (w .from) b s L (omega arith) (framesBody c cs h) b _ (omega arith) r g in
-      let j = length-copy w b s L (omega arith) (framesBody c cs h) b _ (omega arith) r g in
+      let r = stays-framesBody (w .label) c cs h b (omega arith) in
+      let i : e ≡ L = stays-goes (w .from) b s L (omega arith) (framesBody (w .label) c cs h) b _ (omega arith) r g in
+      let j = length-copy w b s L (omega arith) (framesBody (w .label) c cs h) b _ (omega arith) r g in
       omega (arith, i, j)
 
 -- the three numbers of a 140, and the reserve behind them
@@ -269,13 +270,13 @@ pub record Framing (w : Way) (b : ℕ) (s d : List ℕ) (cs : List Channel) (t s
   pub long : 24 + sampleBytes t cs ≤ size
   pub value : List Frame
   pub end : ℕ
-  pub on : see (w .from) b s (b + at) (series (n - i) (i + 1) size (length s - at) (frame size t cs)) ≡ goes value end
+  pub on : see (w .from) b s (b + at) (series (n - i) (i + 1) size (length s - at) (frame (w .label) size t cs)) ≡ goes value end
   pub under : List ℕ
   pub same : length under ≡ length s
   pub done : List ℕ
   pub place : at ≡ length done
   pub wrote : d ≡ pasted under 0 done
-  pub rest : all ≡ done ++ (copy w b s (b + at) (series (n - i) (i + 1) size (length s - at) (frame size t cs)) ++ bytesAt (length s - (16 + size * n)) s (16 + size * n))
+  pub rest : all ≡ done ++ (copy w b s (b + at) (series (n - i) (i + 1) size (length s - at) (frame (w .label) size t cs)) ++ bytesAt (length s - (16 + size * n)) s (16 + size * n))
 
 module _ {w : Way} {b : ℕ} {s : List ℕ} {cs : List Channel} {t size n : ℕ} {all : List ℕ} where
   -- the code's test r of the three numbers passes
@@ -308,21 +309,21 @@ module _ {w : Way} {b : ℕ} {s : List ℕ} {cs : List Channel} {t size n : ℕ}
   module _ {d : List ℕ} {at i : ℕ} (x : Framing w b s d cs t size n all at i) where
     -- m, m′: the lengths of the parts lent
     pub framing-more : (m m′ : ℕ) (ys : List ℕ) → i < n → at + size ≤ length s → m ≡ size → m′ ≡ size →
-        ys ≡ copy w (b + at) (take m (drop at s)) (b + at) (frame (length (take m (drop at s))) t cs (length s - at) (i + 1)) →
+        ys ≡ copy w (b + at) (take m (drop at s)) (b + at) (frame (w .label) (length (take m (drop at s))) t cs (length s - at) (i + 1)) →
         Framing w b s (take at d ++ (ys ++ drop m′ (drop at d))) cs t size n all (at + size) (i + 1)
     framing-more m m′ ys l f e e′ q =
         let o : Order = w .from in
-        let v : Walk Frame = frame size t cs (length s - at) (i + 1) in
+        let v : Walk Frame = frame (w .label) size t cs (length s - at) (i + 1) in
         let a : n - i ≡ suc (n - (i + 1)) = omega arith in
-        let g = first-of o b s size (frame size t cs) (stays-frame size t cs (x .long)) (n - (i + 1)) (i + 1) (length s - at) (b + at) (omega arith) (omega arith) (rw a at (x .on)) in
+        let g = first-of o b s size (frame (w .label) size t cs) (stays-frame (w .label) size t cs (x .long)) (n - (i + 1)) (i + 1) (length s - at) (b + at) (omega arith) (omega arith) (rw a at (x .on)) in
         let j : length (take size (drop at s)) ≡ size = length-take-le size (drop at s) (rw length-drop (omega arith)) in
-        let r = read-part w b (b + at) at size s v refl f (stays-sized size t cs (length s - at) (i + 1) (b + at) (x .long)) {x = g .one} (g .first) refl in
+        let r = read-part w b (b + at) at size s v refl f (stays-sized (w .label) size t cs (length s - at) (i + 1) (b + at) (x .long)) {x = g .one} (g .first) refl in
         let y : ys ≡ copy w b s (b + at) v = rw (e, j) at q ∙ r .0 in
         let k : length ys ≡ size = ap length y ∙ r .1 in
         let p : b + at + size ≡ b + (at + size) = omega arith in
         let u : length s - at - size ≡ length s - (at + size) = omega arith in
-        let c : copy w b s (b + at) (series (suc (n - (i + 1))) (i + 1) size (length s - at) (frame size t cs)) ≡ ys ++ copy w b s (b + (at + size)) (series (n - (i + 1)) (i + 1 + 1) size (length s - (at + size)) (frame size t cs)) =
-        ap (written (w .keep) (w .to)) (g .events) ∙ (written-append (w .keep) (w .to) (trace o b s (b + at) v) (trace o b s (b + at + size) (series (n - (i + 1)) (suc (i + 1)) size (length s - at - size) (frame size t cs))) ∙ rw (y, add-one (i + 1), p, u)) in
+        let c : copy w b s (b + at) (series (suc (n - (i + 1))) (i + 1) size (length s - at) (frame (w .label) size t cs)) ≡ ys ++ copy w b s (b + (at + size)) (series (n - (i + 1)) (i + 1 + 1) size (length s - (at + size)) (frame (w .label) size t cs)) =
+        ap (written (w .keep) (w .to)) (g .events) ∙ (written-append (w .keep) (w .to) (trace o b s (b + at) v) (trace o b s (b + at + size) (series (n - (i + 1)) (suc (i + 1)) size (length s - at - size) (frame (w .label) size t cs))) ∙ rw (y, add-one (i + 1), p, u)) in
         record {
           long = x .long;
           value = g .others;
@@ -355,20 +356,20 @@ module _ (w : Way) (b : ℕ) (s : List ℕ) (p q : ℕ) (h : Head) (stop : q ≡
   counted = own || eqb (length cs) (c .channels)
 
   -- it has room for its numbers
-  pub frames-least : {l : Said} → Reads (w .from) b s p (frames c own cs back (length s - p) h) l → 32 ≤ q - p
+  pub frames-least : {l : Said} → Reads (w .from) b s p (frames (w .label) c own cs back (length s - p) h) l → 32 ≤ q - p
   unfolding frames
   frames-least r =
-      let f = leb-true 32 (span h) (admit-went (w .from) b s (b + (p + 16)) (length s - p) 128 (leb 32) (eqb 0) h (require counted 14 back >> framesBody c cs h) (r .is) .length) in
+      let f = leb-true 32 (span h) (admit-went (w .from) b s (b + (p + 16)) (length s - p) (mostOf (w .label)) (leb 32) (eqb 0) h (require counted 14 back >> framesBody (w .label) c cs h) (r .is) .length) in
       omega arith
 
-  pub frames-in : {l : Said} (r : Reads (w .from) b s p (frames c own cs back (length s - p) h) l) →
-      (span h ≡ 16 + length body) × (see (w .from) from body from (framesBody c cs h) ≡ goes (r .value) (r .end)) × (anew w l ≡ copy w b s (b + p) (head (length s - p)) ++ copy w from body from (framesBody c cs h))
+  pub frames-in : {l : Said} (r : Reads (w .from) b s p (frames (w .label) c own cs back (length s - p) h) l) →
+      (span h ≡ 16 + length body) × (see (w .from) from body from (framesBody (w .label) c cs h) ≡ goes (r .value) (r .end)) × (anew w l ≡ copy w b s (b + p) (head (length s - p)) ++ copy w from body from (framesBody (w .label) c cs h))
   unfolding frames
   frames-in r =
-      let v : Walk Frames = require counted 14 back >> framesBody c cs h in
-      let z = behind w b s p q h stop least inside 128 (leb 32) (eqb 0) v (λ e at. stays-require counted 14 back (framesBody c cs h) _ at _ refl (λ _. stays-framesBody c cs h at (leb-true 32 (span h) e))) r in
-      let t = require-went (w .from) from body from counted 14 back (framesBody c cs h) (z .reads) in
-      (omega (arith, body-length p q s least inside), t .1, z .is ∙ ap (λ (l : List ℕ). copy w b s (b + p) (head (length s - p)) ++ l) (copy-require w from body from counted 14 back (framesBody c cs h)))
+      let v : Walk Frames = require counted 14 back >> framesBody (w .label) c cs h in
+      let z = behind w b s p q h stop least inside (mostOf (w .label)) (leb 32) (eqb 0) v (λ e at. stays-require counted 14 back (framesBody (w .label) c cs h) _ at _ refl (λ _. stays-framesBody (w .label) c cs h at (leb-true 32 (span h) e))) r in
+      let t = require-went (w .from) from body from counted 14 back (framesBody (w .label) c cs h) (z .reads) in
+      (omega (arith, body-length p q s least inside), t .1, z .is ∙ ap (λ (l : List ℕ). copy w b s (b + p) (head (length s - p)) ++ l) (copy-require w from body from counted 14 back (framesBody (w .label) c cs h)))
 
 -- the code's part in it: a record that is too short, or its head and then its body
 module _ (w : Way) (file : List ℕ) (at : Channels) (s : List ℕ) (p q : ℕ) (least : p + 16 ≤ q) (inside : q ≤ length s) (out : List ℕ) (k : ℕ) where
@@ -377,7 +378,7 @@ module _ (w : Way) (file : List ℕ) (at : Channels) (s : List ℕ) (p q : ℕ) 
 
   pub frames-sent : (out₁ out₂ : List ℕ) (k₁ k₂ : ℕ) → ((b room : ℕ) → Pastes out out₁ k k₁ (copy w b s (b + p) (head room))) → k₂ ≤ length out →
       ((b : ℕ) (c : Basic) (cs : List Channel) (h : Head) (f : Frames) (e : ℕ) → ChannelsStand (w .from) file at cs → span h ≡ 16 + length (take (q - (p + 16)) (drop (p + 16) s)) →
-      see (w .from) b (take (q - (p + 16)) (drop (p + 16) s)) b (framesBody c cs h) ≡ goes f e → Pastes out₁ out₂ k₁ k₂ (copy w b (take (q - (p + 16)) (drop (p + 16) s)) b (framesBody c cs h))) → FramesSent w file at s p q out out₂ k k₂
+      see (w .from) b (take (q - (p + 16)) (drop (p + 16) s)) b (framesBody (w .label) c cs h) ≡ goes f e → Pastes out₁ out₂ k₁ k₂ (copy w b (take (q - (p + 16)) (drop (p + 16) s)) b (framesBody (w .label) c cs h))) → FramesSent w file at s p q out out₂ k k₂
   frames-sent out₁ out₂ k₁ k₂ headed fit body =
       record {
         inside = fit;

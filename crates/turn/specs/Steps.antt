@@ -102,18 +102,18 @@ pub record FileFrom (file out : List ℕ) : Type 0 where
 pub record FramesPasted (w : Way) (file : List ℕ) (cs : Channels) (s out out′ : List ℕ) (k k′ : ℕ) : Type 0 where
   pub inside : k′ ≤ length out
   pub wrote : (b : ℕ) (c : R.Basic) (ch : List R.Channel) (hd : R.Head) (f : R.Frames) (e : ℕ) → ChannelsStand (w .from) file cs ch → R.span hd ≡ 16 + length s →
-      see (w .from) b s b (R.framesBody c ch hd) ≡ goes f e → Pastes out out′ k k′ (copy w b s b (R.framesBody c ch hd))
+      see (w .from) b s b (R.framesBody (w .label) c ch hd) ≡ goes f e → Pastes out out′ k k′ (copy w b s b (R.framesBody (w .label) c ch hd))
 
 -- the 140 at byte p of the part s, which ends at byte q: where the walk reads it with these channels, its head and its rest are written from k on, and the next bytes go at k′
 pub record FramesSent (w : Way) (file : List ℕ) (cs : Channels) (s : List ℕ) (p q : ℕ) (out out′ : List ℕ) (k k′ : ℕ) : Type 0 where
   pub inside : k′ ≤ length out
   pub wrote : (b : ℕ) (c : R.Basic) (own : Bool) (ch : List R.Channel) (back : ℕ) (h : R.Head) (l : Said) → q ≡ p + R.span h → ChannelsStand (w .from) file cs ch →
-      Reads (w .from) b s p (R.frames c own ch back (length s - p) h) l → Copied w l out out′ k k′
+      Reads (w .from) b s p (R.frames (w .label) c own ch back (length s - p) h) l → Copied w l out out′ k k′
 
 -- any record that stands in a recording, with the code's head h
 pub record ChildSent (w : Way) (file : List ℕ) (cs : Channels) (s : List ℕ) (h : Head) (q : ℕ) (out out′ : List ℕ) (k k′ : ℕ) : Type 0 where
   pub inside : k′ ≤ length out
-  pub wrote : (b : ℕ) (known : Known) (l : Said) → q ≡ h .at + R.span (headOf h) → ChannelsStand (w .from) file cs (known .channels) →
+  pub wrote : (b : ℕ) (known : Known) → known .label ≡ w .label → (l : Said) → q ≡ h .at + R.span (headOf h) → ChannelsStand (w .from) file cs (known .channels) →
       Inner (w .from) b s (h .at) known (headOf h) l → Copied w l out out′ k k′
 
 -- the delimiter at byte p and the bytes behind it, as they stand

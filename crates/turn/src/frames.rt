@@ -36,7 +36,7 @@ fn frame(
 )
     requires { ⌜ FrameFrom (w .from) (now file) cs widths t filled (now s) (now d) ⌝ }
     ensures { λ _. ⌜ ((b room i : ℕ) (ch : List R.Channel) → ChannelsStand (w .from) (now (file .entry)) cs ch →
-        filled ≡ 24 + R.sampleBytes t ch → now (d .exit) ≡ copy w b (now (s .entry)) b (R.frame (length (now (s .entry))) t ch room i)) ⌝ }
+        filled ≡ 24 + R.sampleBytes t ch → now (d .exit) ≡ copy w b (now (s .entry)) b (R.frame (w .label) (length (now (s .entry))) t ch room i)) ⌝ }
 {
     let body = Head::LENGTH;
     numbers(w, Head::WIDTH, Head::NUMBERS, &s[..body], &mut d[..body]);
@@ -69,8 +69,8 @@ fn frames_body(
         ChannelsStand (w .from) (now (file .entry)) cs ch → filled ≡ 24 + R.sampleBytes t ch →
         numberAt (w .from) 4 (now (s .entry)) 0 ≡ t → numberAt (w .from) 4 (now (s .entry)) 4 ≡ size →
         numberAt (w .from) 4 (now (s .entry)) 8 ≡ count → R.span hd ≡ 16 + length (now (s .entry)) →
-        see (w .from) b (now (s .entry)) b (R.framesBody c ch hd) ≡ goes f e →
-        now (d .exit) ≡ copy w b (now (s .entry)) b (R.framesBody c ch hd)) ⌝ }
+        see (w .from) b (now (s .entry)) b (R.framesBody (w .label) c ch hd) ≡ goes f e →
+        now (d .exit) ≡ copy w b (now (s .entry)) b (R.framesBody (w .label) c ch hd)) ⌝ }
 {
     let o = w.from;
     let widths = widths_of(o, file, cs);

@@ -70,21 +70,21 @@ module _ {A : Type 0} where
   run-read o at s k n f h = rw (run, le-leb n (length s) h)
 
   -- one step, where the bytes at the front are known
-  run-numeral : (o : Order) (at v : ℕ) (r : List ℕ) (n : ℕ) (f : ℕ → Walk A) → v < 256 ^ n →
+  pub run-numeral : (o : Order) (at v : ℕ) (r : List ℕ) (n : ℕ) (f : ℕ → Walk A) → v < 256 ^ n →
       run o at (bytesIn o n v ++ r) (number n f) ≡ logged (numeral n v ∷ []) (run o (at + n) r (f v))
   unfolding run
   run-numeral o at v r n f l =
       let m : length (bytesIn o n v) ≡ n = length-bytesIn o n v in
       rw (run, le-leb n (length (bytesIn o n v ++ r)) (rw length-append (omega arith)), take-at, drop-at, wordIn-bytesIn)
 
-  run-piece : (o : Order) (at : ℕ) (k : Kind) (bs r : List ℕ) (n : ℕ) (f : List ℕ → Walk A) → length bs ≡ n →
+  pub run-piece : (o : Order) (at : ℕ) (k : Kind) (bs r : List ℕ) (n : ℕ) (f : List ℕ → Walk A) → length bs ≡ n →
       run o at (laid o k bs ++ r) (read k n f) ≡ logged (piece k bs ∷ []) (run o (at + n) r (f bs))
   unfolding run
   run-piece o at k bs r n f l =
       let m : length (laid o k bs) ≡ n = length-laid o k bs ∙ l in
       rw (run, le-leb n (length (laid o k bs ++ r)) (rw length-append (omega arith)), take-at, drop-at, laid-laid)
 
-  run-blank : (o : Order) (at : ℕ) (bs r : List ℕ) (n : ℕ) (w : Walk A) → length bs ≡ n →
+  pub run-blank : (o : Order) (at : ℕ) (bs r : List ℕ) (n : ℕ) (w : Walk A) → length bs ≡ n →
       run o at (bs ++ r) (skip n w) ≡ logged (blank bs ∷ []) (run o (at + n) r w)
   unfolding run
   run-blank o at bs r n w l = rw (run, le-leb n (length (bs ++ r)) (rw length-append (omega arith)), take-at, drop-at)

@@ -7,3 +7,5 @@ pub mod Told
 pub mod Tracing
 pub mod Reach
 pub mod Unique
+pub mod Implied
+pub mod Ordered

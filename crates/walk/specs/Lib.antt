@@ -3,3 +3,4 @@ pub mod Plays
 pub mod See
 pub mod Tell
 pub mod Trace
+pub mod Faults

@@ -74,20 +74,9 @@ impl Version {
 
     pub const OLDER: [Version; 3] = [Version::V100, Version::V110, Version::V200];
 
-    /// The versions that are read. All of the reader and the generator that depends
-    /// on the feature asks here.
-    pub const READ: &'static [Version] = if cfg!(feature = "older") {
-        &Version::ALL
-    } else {
-        &[Version::V300]
-    };
-
-    /// Whether the older versions are among them.
-    pub const OLDER_READ: bool = Version::READ.len() > 1;
-
     pub fn from_field(field: &[u8]) -> Option<Version> {
-        let mut read = Version::READ.iter().copied();
-        read.find(|version| version.field() == field)
+        let mut all = Version::ALL.into_iter();
+        all.find(|version| version.field() == field)
     }
 
     pub fn field(self) -> &'static [u8; VERSION_LENGTH] {

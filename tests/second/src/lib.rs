@@ -1,7 +1,6 @@
-//! A second, independent reader of the JSSR PSG common format, version 000300 (both
-//! forms, frame data, one file), written from document 01 and requests 1, 2, 3 and 12
-//! of document 02, and used to test another implementation. With the feature `older`
-//! it reads the older versions of request 6 too.
+//! A second, independent reader of the JSSR PSG common format, versions 000100, 000110,
+//! 000200 and 000300 (both forms, frame data, one file), written from document 01 and
+//! requests 1, 2, 3, 6 and 12 of document 02, and used to test another implementation.
 
 pub mod ask;
 pub mod bytes;

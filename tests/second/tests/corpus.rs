@@ -1,11 +1,8 @@
 //! What the project's own corpus (tests/corpus, made by tests/corpus.sh) has to show, and that this program answers it.
-//! Older versions are refused in it.
-
-#![cfg(not(feature = "older"))]
 
 use second::bytes::Order;
 use second::corpus::{self, shown::shown};
-use second::header::{self, Form, Spelling, IDENTIFIER_LENGTH, SCRIPTS};
+use second::header::{self, Form, Spelling, Version, IDENTIFIER_LENGTH, SCRIPTS};
 use second::record::Format;
 use std::collections::BTreeSet;
 use std::fs;
@@ -107,6 +104,7 @@ fn every_refusal_and_every_form_is_there() {
     }
     wanted.extend([Order::Little, Order::Big].map(|order| format!("{order:?}")));
     wanted.extend(Spelling::ALL.map(|spelling| format!("{spelling:?}")));
+    wanted.extend(Version::ALL.map(|version| format!("{version:?}")));
     wanted.extend(Form::ALL.map(|form| format!("{form:?}")));
     wanted.extend(SCRIPTS.map(|script| format!("script {script}")));
     wanted.extend(Format::ALL.map(|format| format!("{format:?}")));
@@ -118,7 +116,9 @@ fn every_refusal_and_every_form_is_there() {
         inherited 320, type 101, a 350, a 350 and an inherited 320, maker behind 350, more in a 350 than in a 320, \
         floats in a 355, numbers in a 355, input 0, input of an electrode, input 1, input 2, input 3, \
         9 at 120 in 01, 9 at 320 in 00, 9 at 350 in 00, 9 at 125 in 01, 9 at 355 in 01, 13 at an electrode code, \
-        13 at a 350's count, 14 at a 350's count, 13 at G1, 13 at G2, 13 for type 101 in a 125";
+        13 at a 350's count, 14 at a 350's count, 13 at G1, 13 at G2, 13 for type 101 in a 125, 4 in V100, 4 in V110, \
+        6 in V100, 6 in V110, 6 in V200, 9 in V100, 9 in V110, 11 in V100, 11 in V110, 11 in V200, \
+        13 in V100, 13 in V110, 13 in V200";
     wanted.extend(named.split(", ").map(str::to_string));
     wanted.retain(|form| !shown.contains(form));
     assert_eq!(wanted, Vec::<String>::new());

@@ -15,12 +15,7 @@ use std::collections::{BTreeMap, BTreeSet};
 
 const SEED: u64 = 7;
 const VALID: u64 = 3000;
-/// More where there are more versions to draw.
-const ANY: u64 = if cfg!(feature = "older") {
-    80_000
-} else {
-    40_000
-};
+const ANY: u64 = 80_000;
 const ROOM: u64 = u64::MAX;
 
 fn valid_files() -> impl Iterator<Item = Sheet> {

@@ -1,8 +1,6 @@
 //! Older recordings (document 02, request 6): the smallest file of each version, every rule that a version adds, and
 //! what relabelling does to generated files.
 
-#![cfg(feature = "older")]
-
 mod common;
 
 use common::{of_electrodes, Pen, PENS};

@@ -21,8 +21,8 @@ returns c =
     simp (c .of-head .ensures, c .before .enum-told .given .1)
     (record { seen = rw (c .before .enum-told .given .1) at (c .before .before .before .next-head .ensures .seen); stands = tt })
 
-add-t9 : tie.Need-add-t9
-add-t9 c = search needs
+add-t10 : tie.Need-add-t10
+add-t10 c = search needs
 
 returns-2 : tie.Need-returns-2
 returns-2 c =
@@ -40,5 +40,5 @@ behind-spec =
     enum-told
     of-head-requires
     returns
-    add-t9
+    add-t10
     returns-2)

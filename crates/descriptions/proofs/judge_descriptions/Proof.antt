@@ -5,7 +5,7 @@ use denote.Ref.{now}
 use Rattle.walk.specs.Walk.{pick}
 use Rattle.records.specs.declared.basic.Basiced.the-variants as Basiced
 use Rattle.records.specs.declared.items.Holder.the-variants as Holder
-use Rattle.descriptions.specs.DescriptionsJudged.{countIn, ChannelsPart, MontagePart, ItemsPart}
+use Rattle.descriptions.specs.DescriptionsJudged.{countIn, ChannelsPart, MontagePart, ItemsPart, EventsPart}
 use Rattle.descriptions.specs.declared.Held.the-variants as Held
 use Rattle.descriptions.specs.declared.Parted.{Parted}
 use Rattle.descriptions.specs.declared.Parted.the-variants as Parted
@@ -38,7 +38,7 @@ to-cs x = x .before .before .before
 abbrev from-ps : tie.After-ps → tie.Start
 from-ps x = from-cs (to-cs (x .before .before))
 
-abbrev to-ps : tie.After-items-part2 → tie.After-ps
+abbrev to-ps : tie.After-events-part → tie.After-ps
 to-ps x = x .before .before
 
 abbrev from-es : tie.After-es → tie.Start
@@ -55,10 +55,10 @@ hundred x = rw (x .first .given .1) at (x .before .before .basic-at .ensures)
 
 begins : (x : tie.After-found) →
     let a = from-found x .args in
-    Begun (a .o) (a .base) (now (a .s)) (to-first (x .before .before) .first .given .0 .0) (x .found .given .0 .0)
+    Begun (a .o) (a .label) (a .base) (now (a .s)) (to-first (x .before .before) .first .given .0 .0) (x .found .given .0 .0)
 begins x =
     let a = from-found x .args in
-    begun (a .o) (a .base) (now (a .s)) (hundred (to-first (x .before .before))) (rw (x .found .given .1) at (x .before .before .next-head .ensures))
+    begun (a .o) (a .base) (now (a .s)) (a .label) (hundred (to-first (x .before .before))) (rw (x .found .given .1) at (x .before .before .next-head .ensures))
 
 channels : (x : tie.After-cs) →
     let a = from-cs x .args in
@@ -69,13 +69,13 @@ channels x = rw (x .cs .given .1) at (x .before .before .channels-part .ensures)
 patient : (x : tie.After-ps) →
     let a = from-ps x .args in
     let y = x .before .before in
-    ItemsPart (a .o) Holder.Patient (a .base) (now (a .s)) (to-cs y .cs .given .0 .0 .next) (y .before .held-patient .result) (Parted.On (x .ps .given .0 .0))
+    ItemsPart (a .o) (a .label) Holder.Patient (a .base) (now (a .s)) (to-cs y .cs .given .0 .0 .next) (y .before .held-patient .result) (Parted.On (x .ps .given .0 .0))
 patient x = rw (x .ps .given .1) at (x .before .before .items-part .ensures)
 
 events : (x : tie.After-es) →
     let a = from-es x .args in
-    ItemsPart (a .o) Holder.Event (a .base) (now (a .s)) (to-ps (x .before .before) .ps .given .0 .0 .next) (Held.At 0) (Parted.On (x .es .given .0 .0))
-events x = rw (x .es .given .1) at (x .before .before .items-part2 .ensures)
+    EventsPart (a .o) (a .label) (a .base) (now (a .s)) (to-ps (x .before .before) .ps .given .0 .0 .next) (Parted.On (x .es .given .0 .0))
+events x = rw (x .es .given .1) at (x .before .before .events-part .ensures)
 
 returns : tie.Need-returns
 returns c =
@@ -119,19 +119,19 @@ returns-4 c =
     simp (c .of-part2 .ensures, c .before .enum-told4 .given .1)
     (stops-patient (a .o) (a .base) (now (a .s)) (a .label) (begins (to-found y)) (a .before) (y .before .held-channels .ensures) (x .before .held-patient .ensures) (channels (to-cs x)) (rw (c .before .enum-told4 .given .1) at (x .items-part .ensures)))
 
-items-part-requires-2 : tie.Need-items-part-requires-2
-items-part-requires-2 c κs =
+events-part-requires : tie.Need-events-part-requires
+events-part-requires c κs =
     let x : tie.After-ps = c .before in
     record { inside = patient x .follows .inside; short = from-ps x .pre .short }
 
 returns-5 : tie.Need-returns-5
 returns-5 c =
-    let w : tie.After-items-part2 = c .before .before .before in
+    let w : tie.After-events-part = c .before .before .before in
     let x : tie.After-items-part = to-ps w .before .before in
     let y : tie.After-channels-part = to-cs x .before .before in
     let a = from-ps (to-ps w) .args in
     simp (c .of-part3 .ensures, c .before .enum-told5 .given .1)
-    (stops-events (a .o) (a .base) (now (a .s)) (a .label) (begins (to-found y)) (a .before) (y .before .held-channels .ensures) (x .before .held-patient .ensures) (channels (to-cs x)) (patient (to-ps w)) (rw (c .before .enum-told5 .given .1) at (w .items-part2 .ensures)))
+    (stops-events (a .o) (a .base) (now (a .s)) (a .label) (begins (to-found y)) (a .before) (y .before .held-channels .ensures) (x .before .held-patient .ensures) (channels (to-cs x)) (patient (to-ps w)) (rw (c .before .enum-told5 .given .1) at (w .events-part .ensures)))
 
 montage-part-requires : tie.Need-montage-part-requires
 montage-part-requires c κs =
@@ -151,7 +151,7 @@ returns-6 : tie.Need-returns-6
 returns-6 c =
     let u : tie.After-montage-part = c .before .before .before in
     let v = to-es u in
-    let w : tie.After-items-part2 = v .before .before in
+    let w : tie.After-events-part = v .before .before in
     let x : tie.After-items-part = to-ps w .before .before in
     let y : tie.After-channels-part = to-cs x .before .before in
     let a = from-es v .args in
@@ -163,7 +163,7 @@ returns-7 c =
     let t : tie.After-ms = c .before .before in
     let u : tie.After-montage-part = t .before .before in
     let v = to-es u in
-    let w : tie.After-items-part2 = v .before .before in
+    let w : tie.After-events-part = v .before .before in
     let x : tie.After-items-part = to-ps w .before .before in
     let y : tie.After-channels-part = to-cs x .before .before in
     let z = from-es v in
@@ -197,7 +197,7 @@ judge-descriptions-spec =
     (λ c. search needs)
     (λ c κs. search needs)
     returns-4
-    items-part-requires-2
+    events-part-requires
     (λ c. search needs)
     (λ c. search needs)
     (λ c κs. search needs)

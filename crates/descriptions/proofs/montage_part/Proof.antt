@@ -27,7 +27,7 @@ returns c =
     let x : tie.After-has-code = c .before .before in
     let a = start x .args in
     rw (c .absent .ensures) (record {
-      told = λ cs e. judges-absent (a .o) (a .base) (now (a .s)) 350 (R.montage (a .label) cs) (λ _. Unit {0}) (a .h) (Held.At 0) (sym (x .has-code .ensures) ∙ not-true (x .has-code .result) (c .before .if1 .taken));
+      told = λ cs e. judges-absent (a .o) (a .label) (a .base) (now (a .s)) 350 (R.montage (a .label) cs) (λ _. Unit {0}) (a .h) (Held.At 0) (sym (x .has-code .ensures) ∙ not-true (x .has-code .result) (c .before .if1 .taken));
       follows = follows-lacking (a .base) (length (now (a .s))) (a .h) (Held.At 0) (start x .pre .inside);
     })
 
@@ -37,7 +37,7 @@ returns-2 c =
     let a = start (z .before) .args in
     let same = sym (z .before .has-code .ensures) ∙ not-false (z .before .has-code .result) (z .if1 .left) in
     record {
-      told = λ cs e. judges-stop (a .o) (a .base) (now (a .s)) 350 (R.montage (a .label) cs) (λ _. Unit {0}) (a .h) (Held.At 0) same _ (montage-none (a .o) (a .base) (now (a .s)) (a .label) (c .before .enum-told2 .given .1) cs (a .h));
+      told = λ cs e. judges-stop (a .o) (a .label) (a .base) (now (a .s)) 350 (R.montage (a .label) cs) (λ _. Unit {0}) (a .h) (Held.At 0) same _ (montage-none (a .o) (a .base) (now (a .s)) (a .label) (c .before .enum-told2 .given .1) cs (a .h));
       follows = tt;
     }
 
@@ -48,7 +48,7 @@ returns-3 c =
     let a = start x .args in
     let same = sym (x .has-code .ensures) ∙ not-false (x .has-code .result) (y .before .before .before .if1 .left) in
     simp (c .of-step .ensures, c .before .enum-told3 .given .1) (record {
-      told = λ cs e. judges-stop (a .o) (a .base) (now (a .s)) 350 (R.montage (a .label) cs) (λ _. Unit {0}) (a .h) (Held.At 0) same _
+      told = λ cs e. judges-stop (a .o) (a .label) (a .base) (now (a .s)) 350 (R.montage (a .label) cs) (λ _. Unit {0}) (a .h) (Held.At 0) same _
           (rw (montage-some (a .label) (y .before .enum-told .given .1) cs _ _, e) (rw (c .before .enum-told3 .given .1) at (y .channels-at .ensures .seen)));
       follows = tt;
     })
@@ -69,7 +69,7 @@ returns-4 c =
     let q = t .step .given .0 .0 in
     let w = rw (t .step .given .1) at (y .channels-at .ensures .stands) in
     record {
-      told = λ cs e. judges-behind (a .o) (a .base) s 350 (R.montage (a .label) cs) (λ _. Unit {0}) (a .h) (Held.At 0) same (stays-montageRest (a .label) cs) q (start x .pre .inside) (w .inside)
+      told = λ cs e. judges-behind (a .o) (a .label) (a .base) s 350 (R.montage (a .label) cs) (λ _. Unit {0}) (a .h) (Held.At 0) same (stays-montageRest (a .label) cs) q (start x .pre .inside) (w .inside)
           (rw (montage-some (a .label) (y .before .enum-told .given .1) cs _ _, e) (rw (t .step .given .1) at (y .channels-at .ensures .seen))) (λ _ _. tt) (c .behind .result) (c .behind .ensures);
       follows = follows-stood (a .base + a .h .at) (a .h .at) q (length s) (c .behind .result) (omega arith) (c .behind .ensures .stands);
     }

@@ -8,7 +8,9 @@ use borrow.Author.Needs.{needs}
 use denote.Ref.{now}
 use lib.ListN.{getD}
 use Rattle.words.specs.Numbers.{bytesAt}
-use Rattle.rules.specs.Rules.{isOneOf, spelled, formed, version}
+use Rattle.walk.specs.See.{goes}
+use Rattle.rules.specs.Rules.{isOneOf, spelled, versionOf, isForm, isScript}
+use Rattle.rules.specs.declared.Version.{Version}
 use Rattle.records.proofs.Facts.{between-in}
 use Rattle.header.specs.Letters.{lettered}
 use Rattle.header.specs.Opened.{names}
@@ -21,11 +23,11 @@ use Rattle.header.proofs.file_header.Tie as tie
 abbrev at-length : tie.After-is-one-of → tie.Else1
 at-length c = c .before .before .before .before
 
-abbrev at-spelling : tie.After-same → tie.Else2
-at-spelling c = c .before .before .before
+abbrev at-spelling : tie.After-is-version → tie.Else2
+at-spelling c = c .before .before
 
-abbrev at-version : tie.After-is-one-of2 → tie.Else3
-at-version c = c .before .before .before .before
+abbrev at-version : tie.After-form-ok → tie.Else3
+at-version c = c .before .before .before
 
 abbrev at-form : tie.After-order-of → tie.Else4
 at-form c = c .before .before
@@ -74,18 +76,33 @@ unfolding bytesAt isOneOf spelled
 past-spelling c = passing _ _ _ _ (past-length (at-length (c .before))) (sym (c .before .is-one-of .ensures) ∙ not-false (c .before .is-one-of .result) (c .if2 .left))
 
 past-version : (c : tie.Else3) → walk (file-version c) ≡ fromForm (file-version c)
-unfolding bytesAt version
-past-version c = passing _ _ _ _ (past-spelling (at-spelling (c .before))) (sym (c .before .same .ensures) ∙ not-false (c .before .same .result) (c .if3 .left))
+unfolding bytesAt
+past-version c = passing _ _ _ _ (past-spelling (at-spelling (c .before))) (sym (c .before .is-version .ensures) ∙ not-false (c .before .is-version .result) (c .if3 .left))
+
+-- the version, by the answer of `version_of`
+version-is : (c : tie.After-form-ok) → c .before .before .version-of .result ≡ versionOf (bytesAt 6 (file-version (at-version c)) 8)
+unfolding bytesAt
+version-is c = c .before .before .version-of .ensures
+
+-- whether the version has the form, by the answer of `form_ok`
+form-is : (c : tie.After-form-ok) → c .form-ok .result ≡ isForm (versionOf (bytesAt 6 (file-version (at-version c)) 8)) (bytesAt 2 (file-version (at-version c)) 14)
+unfolding bytesAt
+form-is c = c .form-ok .ensures ∙ ap (λ (v : Version). isForm v (bytesAt 2 (file-version (at-version c)) 14)) (version-is c)
 
 past-form : (c : tie.Else4) → walk (file-form c) ≡ fromLetter (file-form c)
-unfolding bytesAt isOneOf formed
-past-form c = passing _ _ _ _ (past-version (at-version (c .before))) (sym (c .before .is-one-of2 .ensures) ∙ not-false (c .before .is-one-of2 .result) (c .if4 .left))
+past-form c = passing _ _ _ _ (past-version (at-version (c .before))) (sym (form-is (c .before)) ∙ not-false (c .before .form-ok .result) (c .if4 .left))
 
 past-letter : (c : tie.After-letter) → walk (file-letter c) ≡ fromScript (file-letter c)
 past-letter c = passing _ _ _ _ (past-form (at-form (c .before .before))) (ap names (letter-is (c .before .before) (c .letter .given .1)))
 
+-- whether the version has the script, by the answer of `script_ok`
+script-is : (c : tie.After-script-ok) → c .script-ok .result ≡ isScript (versionOf (bytesAt 6 (file-letter (at-letter c)) 8)) (getD (file-letter (at-letter c)) 17 0)
+script-is c =
+    let v = version-is (at-form (at-letter c .before .before) .before) in
+    c .script-ok .ensures ∙ (λ i. isScript (v i) (c .before .byte2 .ensures .0 i))
+
 past-script : (c : tie.Else5) → walk (file-script c) ≡ fromCount (file-script c)
-past-script c = passing _ _ _ _ (past-letter (at-letter (c .before))) (rw (c .before .before .byte2 .ensures .0) at (sym (c .before .script-ok .ensures) ∙ not-false (c .before .script-ok .result) (c .if5 .left)))
+past-script c = passing _ _ _ _ (past-letter (at-letter (c .before))) (sym (script-is (c .before)) ∙ not-false (c .before .script-ok .result) (c .if5 .left))
 
 past-count : (c : tie.Else6) → walk (file-count c) ≡ fromSpaces (file-count c)
 unfolding bytesAt
@@ -99,19 +116,18 @@ unfolding bytesAt isOneOf spelled
 returns-2 c = record { walk = stopping _ _ _ _ (past-length (at-length (c .before))) (sym (c .before .is-one-of .ensures) ∙ not-true (c .before .is-one-of .result) (c .if2 .taken)); named = tt }
 
 returns-3 : tie.Need-returns-3
-unfolding bytesAt version
-returns-3 c = record { walk = stopping _ _ _ _ (past-spelling (at-spelling (c .before))) (sym (c .before .same .ensures) ∙ not-true (c .before .same .result) (c .if3 .taken)); named = tt }
+unfolding bytesAt
+returns-3 c = record { walk = stopping _ _ _ _ (past-spelling (at-spelling (c .before))) (sym (c .before .is-version .ensures) ∙ not-true (c .before .is-version .result) (c .if3 .taken)); named = tt }
 
 returns-4 : tie.Need-returns-4
-unfolding bytesAt isOneOf formed
-returns-4 c = record { walk = stopping _ _ _ _ (past-version (at-version (c .before))) (sym (c .before .is-one-of2 .ensures) ∙ not-true (c .before .is-one-of2 .result) (c .if4 .taken)); named = tt }
+returns-4 c = record { walk = stopping _ _ _ _ (past-version (at-version (c .before))) (sym (form-is (c .before)) ∙ not-true (c .before .form-ok .result) (c .if4 .taken)); named = tt }
 
 returns-5 : tie.Need-returns-5
 returns-5 c = record { walk = stopping _ _ _ _ (past-form (at-form (c .before .before))) (ap names (letter-is (c .before .before) (c .enum-told .given .1))); named = tt }
 
 returns-6 : tie.Need-returns-6
 returns-6 c = record {
-  walk = stopping _ _ _ _ (past-letter (at-letter (c .before))) (rw (c .before .before .byte2 .ensures .0) at (sym (c .before .script-ok .ensures) ∙ not-true (c .before .script-ok .result) (c .if5 .taken)));
+  walk = stopping _ _ _ _ (past-letter (at-letter (c .before))) (sym (script-is (c .before)) ∙ not-true (c .before .script-ok .result) (c .if5 .taken));
   named = tt;
 }
 
@@ -129,14 +145,20 @@ returns-8 c = record { walk = stopping _ _ _ _ (past-count (at-count (c .before)
 returns-9 : tie.Need-returns-9
 unfolding bytesAt
 returns-9 c =
-    let f = c .before .before in
-    let w = at-count (f .before) in
+    let g = c .before .before in
+    let w = at-count (g .before) in
     let z = at-script (w .before) in
     let y = at-letter (z .before) in
     let k = between-in 1 64 (w .before .before .count-of .result) (sym (w .before .between .ensures) ∙ not-false (w .before .between .result) (w .if6 .left)) in
     let x = at-length (at-spelling (at-version (at-form (y .before .before) .before) .before) .before) in
+    let sp = sym (c .before .spelling-of .ensures) in
+    let v = sym (version-is (at-form (y .before .before) .before)) in
+    let f = sym (c .form-of .ensures) in
+    let b = sym (z .before .before .byte2 .ensures .0) in
+    let n = sym (w .before .before .count-of .ensures) in
     record {
-      walk = passing _ _ _ _ (past-count w) (sym (f .before .spaces .ensures) ∙ not-false (f .before .spaces .result) (f .if7 .left)) ∙ simp (← c .before .spelling-of .ensures, ← c .form-of .ensures, ← z .before .before .byte2 .ensures .0, ← w .before .before .count-of .ensures);
+      walk = passing _ _ _ _ (past-count w) (sym (g .before .spaces .ensures) ∙ not-false (g .before .spaces .result) (g .if7 .left)) ∙
+          (λ i. goes (record { heading = record { spelling = sp i; label = record { version = v i; form = f i }; script = b i }; count = n i }) 32);
       named = record { order = sym (letter-order _ _ (letter-is (y .before .before) (y .letter .given .1))); one = k .0; few = k .1; long = x .if1 .left };
     }
 
@@ -155,11 +177,9 @@ file-header-spec =
     (λ c. search needs)
     (λ c. search needs)
     (λ c. search needs)
-    (λ c. search needs)
     (λ c κs. search needs)
     returns-3
-    (λ c. search needs)
-    (λ c. search needs)
+    (λ c κs. search needs)
     (λ c. search needs)
     (λ c. search needs)
     (λ c. search needs)

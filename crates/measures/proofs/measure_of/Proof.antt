@@ -47,6 +47,9 @@ module _ (c : tie.After-found) where
   abbrev o : Order
   o = start c .args .o
 
+  abbrev label : Label
+  label = start c .args .label
+
   abbrev s : List ℕ
   s = start c .args .s .now
 
@@ -63,8 +66,8 @@ module _ (c : tie.After-found) where
   top = rw (c .found .given .1) at (c .before .before .head-at .ensures)
 
   -- the body that the walk accepts
-  went : (label : Label) (held : Option R.Held) (r : R.Head) (x : R.Placed) (e : ℕ) → R.span r ≡ 16 + length s → see o base s base (R.recordingBody label held r) ≡ goes x e → Accepted o label base s x
-  went label held r x e fills g = accepted o label base s (bytes s (λ i. c .before .before .before .shared-slice-known2 .given i .fits)) r fills held g
+  went : (held : Option R.Held) (r : R.Head) (x : R.Placed) (e : ℕ) → R.span r ≡ 16 + length s → see o base s base (R.recordingBody label held r) ≡ goes x e → Accepted o label base s x
+  went held r x e fills g = accepted o label base s (bytes s (λ i. c .before .before .before .shared-slice-known2 .given i .fits)) r fills held g
 
 -- its length is admitted
 module _ (c : tie.After-room) where
@@ -89,7 +92,7 @@ module _ (c : tie.After-behind) where
   abbrev d : Head
   d = c .behind .given .0 .0
 
-  follows : NextHead (o here) (base here) (s here) (q (to-room c)) (Headed.At d)
+  follows : NextHead (o here) (label here) (base here) (s here) (q (to-room c)) (Headed.At d)
   follows = rw (c .behind .given .1) at (c .before .before .next-head .ensures)
 
 -- the code's tests of the numbers passed
@@ -103,7 +106,7 @@ returns c =
     let y = c .before .before .before in
     let a = y .before .before .args in
     let s = a .s .now in
-    record { bounds = tt; reads = tt; told = λ label held r x e fills here at g. measure-unread (accepted (a .o) label (a .base) s (bytes s (λ i. y .shared-slice-known2 .given i .fits)) r fills held g) (a .at) at (rw (c .enum-told .given .1) at (c .before .before .head-at .ensures .seen)) }
+    record { bounds = tt; reads = tt; told = λ held r x e fills here at g. measure-unread (accepted (a .o) (a .label) (a .base) s (bytes s (λ i. y .shared-slice-known2 .given i .fits)) r fills held g) (a .at) at (rw (c .enum-told .given .1) at (c .before .before .head-at .ensures .seen)) }
 
 admit-requires : tie.Need-admit-requires
 admit-requires c κs = let f = c .before in record { low = omega (arith, top f .stands); short = omega (arith, top f .stands, start f .pre .part .short) }
@@ -112,7 +115,7 @@ returns-2 : tie.Need-returns-2
 returns-2 c =
     let n = c .before .before in
     let f = n .before .before in
-    record { bounds = tt; reads = tt; told = λ label held r x e fills here at g. measure-refused (went f label held r x e fills g) _ at (h f) (top f .seen) (top f .stands .0) (rw (c .enum-told2 .given .1) at (n .admit .ensures .seen (o f) (base f) (s f))) }
+    record { bounds = tt; reads = tt; told = λ held r x e fills here at g. measure-refused (went f held r x e fills g) _ at (h f) (top f .seen) (top f .stands .0) (rw (c .enum-told2 .given .1) at (n .admit .ensures .seen (o f) (base f) (s f))) }
 
 next-head-requires : tie.Need-next-head-requires
 next-head-requires c κs = record { low = stop (c .before) .1; short = start (to-found (c .before)) .pre .part .short }
@@ -122,7 +125,7 @@ returns-3 c =
     let n = c .before .before in
     let y = n .before .before in
     let f = to-found y in
-    record { bounds = tt; reads = tt; told = λ label held r x e fills here at g. measure-alone (went f label held r x e fills g) _ at (h f) (top f .seen) (top f .stands .0) (q y) (stop y .0) (rw (c .enum-told3 .given .1) at (n .next-head .ensures .seen)) }
+    record { bounds = tt; reads = tt; told = λ held r x e fills here at g. measure-alone (went f held r x e fills g) _ at (h f) (top f .seen) (top f .stands .0) (q y) (stop y .0) (rw (c .enum-told3 .given .1) at (n .next-head .ensures .seen)) }
 
 sub-body : tie.Need-sub-body
 sub-body c = let y = to-room (c .before) in omega (arith, top (to-found y) .stands, stop y)
@@ -159,7 +162,7 @@ module _ (c : tie.After-field3) where
   abbrev n : ℕ
   n = c .field3 .result
 
-  module _ (label : Label) (x : R.Placed) (v : Accepted (o f) label (base f) (s f) x) (is : 16 + at f ≡ x .layout .at140) where
+  module _ (x : R.Placed) (v : Accepted (o f) (label f) (base f) (s f) x) (is : 16 + at f ≡ x .layout .at140) where
     fields : Fields t size n (x .recording .channels) (v .before .basic) (v .value) (R.span (headOf (h f)))
     fields =
         measure-fields v (at f) is (h f) (top f .seen) (top f .stands .0) (q y) (stop y .0) (stop y .1) (stop y .2) t size n (c .before .before .field .ensures .0) (c .before .field2 .ensures .0) (c .field3 .ensures .0)
@@ -167,7 +170,7 @@ module _ (c : tie.After-field3) where
 returns-4 : tie.Need-returns-4
 returns-4 c =
     let k = c .before in
-    record { bounds = tt; reads = tt; told = λ label held r x e fills here at g. absurd (omega (arith, c .if1 .taken, fields k label x (went (f k) label held r x e fills g) at .short)) }
+    record { bounds = tt; reads = tt; told = λ held r x e fills here at g. absurd (omega (arith, c .if1 .taken, fields k x (went (f k) held r x e fills g) at .short)) }
 
 sample-bytes-requires : tie.Need-sample-bytes-requires
 sample-bytes-requires c κs =
@@ -183,8 +186,8 @@ returns-5 c =
     record {
       bounds = tt;
       reads = tt;
-      told = λ label held r x e fills here at g.
-          measure-fits (went j label held r x e fills g) _ at (h j) (top j .seen) (top j .stands .0) (q (y k)) (stop (y k) .0) (stop (y k) .1) (stop (y k) .2) (t k) (size k) (n k)
+      told = λ held r x e fills here at g.
+          measure-fits (went j held r x e fills g) _ at (h j) (top j .seen) (top j .stands .0) (q (y k)) (stop (y k) .0) (stop (y k) .1) (stop (y k) .2) (t k) (size k) (n k)
           (k .before .before .field .ensures .0) (k .before .field2 .ensures .0) (k .field3 .ensures .0)
           (b .result) (u .result) (b .ensures (x .recording .channels) (here .count) (here .kept)) (u .ensures) (not-true (u .result) (c .if2 .taken));
     }
@@ -227,8 +230,8 @@ returns-6 c =
             end = λ m p g. stop (y k) .0 ∙ (ap (λ (z : ℕ). z + R.span (headOf (h j))) (top j .stands .0) ∙ ap (λ (z : R.Head). at j + R.span z) (goes-same (sym (top j .seen) ∙ g) .0));
             says = record { seconds = sym (k .before .before .field .ensures .0); size = sym (k .before .field2 .ensures .0); count = sym (k .field3 .ensures .0) };
           });
-      told = λ label held r x m fills here at g.
-          measure-told (went j label held r x m fills g) _ at (h j) (top j .seen) (top j .stands .0) (q (y k)) (stop (y k) .0) (stop (y k) .1) (stop (y k) .2) (t k) (size k) (n k)
+      told = λ held r x m fills here at g.
+          measure-told (went j held r x m fills g) _ at (h j) (top j .seen) (top j .stands .0) (q (y k)) (stop (y k) .0) (stop (y k) .1) (stop (y k) .2) (t k) (size k) (n k)
           (k .before .before .field .ensures .0) (k .before .field2 .ensures .0) (k .field3 .ensures .0)
           i (a .seen) (a .stands .inside) (b .result) (b .ensures (x .recording .channels) (here .count) (here .kept));
     })

@@ -27,10 +27,9 @@ returns c =
     rw (c .of-judged .ensures, e, j)
 
 returns-2 : tie.Need-returns-2
-unfolding R.decimal R.between R.allSpaces R.version
 returns-2 c =
-    let x : tie.After-judged = c .before .before .before .before in
-    rw (c .form-number .ensures) (told (accepted (x .judged .given .1) (x .before .before .judge .ensures)))
+    let x : tie.After-judged = c .before .before .before .before .before in
+    rw (c .before .version-number .ensures, c .form-number .ensures) (told (accepted (x .judged .given .1) (x .before .before .judge .ensures)))
 
 pub header-spec : {M : Type 1} → statement M
-header-spec = tie.close (tie.spec (λ c κs. search needs) (λ c. search needs) (λ c. search needs) (λ c κs. search needs) returns (λ c κs. search needs) returns-2)
+header-spec = tie.close (tie.spec (λ c κs. search needs) (λ c. search needs) (λ c. search needs) (λ c κs. search needs) returns (λ c κs. search needs) (λ c κs. search needs) returns-2)

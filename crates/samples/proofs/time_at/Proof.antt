@@ -6,7 +6,7 @@ use Rattle.samples.proofs.time_at.Statement.{statement}
 use Rattle.samples.proofs.time_at.Tie as tie
 
 returns : tie.Need-returns
-returns c size t cs room i f e h = rw (clock-read _ _ _ size t cs room i h) (cc)
+returns c label size t cs room i f e h = rw (clock-read _ _ _ label size t cs room i h) (cc)
 
 pub time-at-spec : {M : Type 1} → statement M
 time-at-spec =

@@ -43,19 +43,19 @@ coded x = sym (x .before .has-code .ensures) ∙ not-false (x .before .has-code 
 
 frames : (x : tie.After-held) →
     let a = from-held x .args in
-    FramesAt (a .o) (now (a .file)) (a .cs) (a .own) (a .b) (a .h) (a .base) (now (a .s)) (FramesJudged.On (x .held .given .0 .0) (x .held .given .0 .1 .0))
+    FramesAt (a .o) (a .label) (now (a .file)) (a .cs) (a .own) (a .b) (a .h) (a .base) (now (a .s)) (FramesJudged.On (x .held .given .0 .0) (x .held .given .0 .1 .0))
 frames x = rw (x .held .given .1) at (x .before .before .frames-at .ensures)
 
 next : (x : tie.After-found) →
     let a = from-found x .args in
-    NextHead (a .o) (a .base) (now (a .s)) (to-held (x .before .before) .held .given .0 .1 .0) (Headed.At (x .found .given .0 .0))
+    NextHead (a .o) (a .label) (a .base) (now (a .s)) (to-held (x .before .before) .held .given .0 .1 .0) (Headed.At (x .found .given .0 .0))
 next x = rw (x .found .given .1) at (x .before .before .next-head .ensures)
 
 returns : tie.Need-returns
 returns c =
     let x : tie.After-has-code = c .before .before in
     let a = start x .args in
-    other-code (a .o) (now (a .file)) (a .cs) (a .own) (a .b) (a .h) (a .base) (now (a .s)) (a .multiplier) (start x .pre)
+    other-code (a .o) (a .label) (now (a .file)) (a .cs) (a .own) (a .b) (a .h) (a .base) (now (a .s)) (a .multiplier) (start x .pre)
     (sym (x .has-code .ensures) ∙ not-true (x .has-code .result) (c .before .if1 .taken)) _ (add-assoc (a .base) (a .h .at) 4)
 
 returns-2 : tie.Need-returns-2
@@ -63,7 +63,7 @@ returns-2 c =
     let y : tie.After-frames-at = c .before .before in
     let z = start (coded-at y .before) in
     let a = z .args in
-    simp (c .enum-told .given .1) (stops-frames (a .o) (now (a .file)) (a .cs) (a .own) (a .b) (a .h) (a .base) (now (a .s)) (a .multiplier) (z .pre) (coded (coded-at y)) (rw (c .enum-told .given .1) at (y .frames-at .ensures)))
+    simp (c .enum-told .given .1) (stops-frames (a .o) (a .label) (now (a .file)) (a .cs) (a .own) (a .b) (a .h) (a .base) (now (a .s)) (a .multiplier) (z .pre) (coded (coded-at y)) (rw (c .enum-told .given .1) at (y .frames-at .ensures)))
 
 next-head-requires : tie.Need-next-head-requires
 next-head-requires c κs = record { low = frames (c .before) .stands .inside; short = from-held (c .before) .pre .body .short }
@@ -75,7 +75,7 @@ returns-3 c =
     let z = from-held y in
     let a = z .args in
     simp (c .of-head .ensures, c .before .enum-told2 .given .1)
-    (stops-next (a .o) (now (a .file)) (a .cs) (a .own) (a .b) (a .h) (a .base) (now (a .s)) (a .multiplier) (z .pre) (coded (coded-at (y .before .before))) (frames y) (rw (c .before .enum-told2 .given .1) at (n .next-head .ensures)))
+    (stops-next (a .o) (a .label) (now (a .file)) (a .cs) (a .own) (a .b) (a .h) (a .base) (now (a .s)) (a .multiplier) (z .pre) (coded (coded-at (y .before .before))) (frames y) (rw (c .before .enum-told2 .given .1) at (n .next-head .ensures)))
 
 delimiter-requires : tie.Need-delimiter-requires
 delimiter-requires c κs = let w = next (c .before) .stands in search needs
@@ -88,7 +88,7 @@ returns-4 c =
     let z = from-held y in
     let a = z .args in
     simp (c .of-test .ensures, c .before .enum-told4 .given .1)
-    (stops-delimiter (a .o) (now (a .file)) (a .cs) (a .own) (a .b) (a .h) (a .base) (now (a .s)) (a .multiplier) (z .pre) (coded (coded-at (y .before .before))) (frames y) (next x) (d .delimiter .ensures (a .o) (a .base) (now (a .s))) (c .before .enum-told4 .given .1))
+    (stops-delimiter (a .o) (a .label) (now (a .file)) (a .cs) (a .own) (a .b) (a .h) (a .base) (now (a .s)) (a .multiplier) (z .pre) (coded (coded-at (y .before .before))) (frames y) (next x) (d .delimiter .ensures (a .o) (a .base) (now (a .s))) (c .before .enum-told4 .given .1))
 
 add-closed : tie.Need-add-closed
 add-closed c = let x = to-found (to-delimiter (c .before)) in omega (arith, next x .stands .inside, from-found x .pre .body .short)
@@ -111,7 +111,7 @@ returns-5 c =
     let z = from-held y in
     let a = z .args in
     simp (c .of-test2 .ensures, c .before .enum-told6 .given .1)
-    (stops-closing (a .o) (now (a .file)) (a .cs) (a .own) (a .b) (a .h) (a .base) (now (a .s)) (a .multiplier) (z .pre) (coded (coded-at (y .before .before))) (frames y) (next x) (d .delimiter .ensures (a .o) (a .base) (now (a .s))) (passed-at w .enum-told3 .given .1) (w .closed .ensures (a .o)) (c .before .enum-told6 .given .1))
+    (stops-closing (a .o) (a .label) (now (a .file)) (a .cs) (a .own) (a .b) (a .h) (a .base) (now (a .s)) (a .multiplier) (z .pre) (coded (coded-at (y .before .before))) (frames y) (next x) (d .delimiter .ensures (a .o) (a .base) (now (a .s))) (passed-at w .enum-told3 .given .1) (w .closed .ensures (a .o)) (c .before .enum-told6 .given .1))
 
 returns-6 : tie.Need-returns-6
 returns-6 c =
@@ -121,7 +121,7 @@ returns-6 c =
     let y = to-held (x .before .before) in
     let z = from-held y in
     let a = z .args in
-    holds (a .o) (now (a .file)) (a .cs) (a .own) (a .b) (a .h) (a .base) (now (a .s)) (a .multiplier) (z .pre) (coded (coded-at (y .before .before))) (frames y) (next x) (d .delimiter .ensures (a .o) (a .base) (now (a .s))) (passed-at w .enum-told3 .given .1) (w .closed .ensures (a .o)) (c .enum-told5 .given .1)
+    holds (a .o) (a .label) (now (a .file)) (a .cs) (a .own) (a .b) (a .h) (a .base) (now (a .s)) (a .multiplier) (z .pre) (coded (coded-at (y .before .before))) (frames y) (next x) (d .delimiter .ensures (a .o) (a .base) (now (a .s))) (passed-at w .enum-told3 .given .1) (w .closed .ensures (a .o)) (c .enum-told5 .given .1)
 
 pub signals-spec : {M : Type 1} → statement M
 signals-spec =

@@ -2,7 +2,7 @@
 
 use crate::bytes::Order;
 use crate::generate::{NO_FORMS, NO_IDENTIFIERS};
-use crate::header::{self, Form, RECORDINGS_AT};
+use crate::header::{self, Form, Version, RECORDINGS_AT};
 use crate::judge::judge;
 use crate::model::{Calibration, Channel, Model, Recording, Sub};
 use crate::record::{self, channel, channels, frames, Kind, Rate, HEAD, MICROSECONDS, PROCESSED};
@@ -20,6 +20,7 @@ pub fn shown(file: &[u8]) -> BTreeSet<String> {
 fn forms(file: &[u8], model: &Model) -> BTreeSet<String> {
     let mut shown = BTreeSet::from([
         format!("{:?}", model.spelling),
+        format!("{:?}", model.version),
         format!("{:?}", model.form),
         format!("{:?}", model.order),
         format!("script {}", model.script),
@@ -81,7 +82,17 @@ fn refusals(file: &[u8], refusal: Refusal) -> BTreeSet<String> {
     shown.extend(in_header(file, refusal).map(|field| format!("{number} for {field}")));
     shown.extend(at_code(file, refusal).map(|code| format!("{number} at {code}")));
     shown.extend(at_field(file, refusal).map(|place| format!("{number} {place}")));
+    shown.extend(in_version(file, refusal).map(|version| format!("{number} in {version:?}")));
     shown
+}
+
+/// The older version that refuses there what the newest does not.
+fn in_version(file: &[u8], refusal: Refusal) -> Option<Version> {
+    let label = header::VERSION_AT..header::FORM_AT;
+    let version = Version::from_field(file.get(label.clone())?)?;
+    let mut newest = file.to_vec();
+    newest[label].copy_from_slice(Version::V300.field());
+    (judge(&newest).err() != Some(refusal)).then_some(version)
 }
 
 /// The form that the header names, if it names one.

@@ -168,7 +168,7 @@ pub fn draw_older(random: &mut Random, shape: &Shape) -> FilePlan {
 
 /// One that has the form, the newest as often as all others; multipliers are of that one alone.
 fn draw_version(random: &mut Random, shape: &Shape, form: Form) -> Version {
-    if shape.padded || !Version::OLDER_READ || random.chance(50) {
+    if shape.padded || random.chance(50) {
         return Version::V300;
     }
     let older = Version::OLDER.into_iter();

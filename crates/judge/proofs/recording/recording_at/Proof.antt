@@ -16,7 +16,7 @@ start x = x .before .before
 -- the head that passed
 begun : (x : tie.After-opened) →
     let a = start (x .before .before) .args in
-    OpenAt (a .o) 0 (now (a .file)) (a .p) (Kind.Recording (a .i)) (Opened.On (x .opened .given .0 .0) (x .opened .given .0 .1 .0))
+    OpenAt (a .o) 0 (now (a .file)) (a .p) (Kind.Recording (a .label) (a .i)) (Opened.On (x .opened .given .0 .0) (x .opened .given .0 .1 .0))
 begun x = rw (x .opened .given .1) at (x .before .before .«open» .ensures)
 
 returns : tie.Need-returns

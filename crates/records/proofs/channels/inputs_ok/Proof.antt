@@ -16,8 +16,8 @@ use Rattle.records.proofs.channels.inputs_ok.Tie as tie
 
 -- of the groups that are no montage, the subs have no inputs
 unwired : (g : Group) → (tagOf the-type g ≡ 0) ⊎ (tagOf the-type g ≡ 1) → groupOf g .sub .wired ≡ false
-unwired (Group.Channels n) h = refl
-unwired (Group.Electrodes n) h = refl
+unwired (Group.Channels v n) h = refl
+unwired (Group.Electrodes v n) h = refl
 unwired (Group.Montage n) (inl e) = absurd (omega (arith, e))
 unwired (Group.Montage n) (inr e) = absurd (omega (arith, e))
 

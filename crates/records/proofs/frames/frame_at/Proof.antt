@@ -22,7 +22,7 @@ abbrev start : tie.After-opened → tie.Start
 start x = x .before .before .before .before
 
 -- the record that was opened: where it stands, and where it stops
-reached : (x : tie.After-opened) → Reaches (start x .args .p) (Kind.Frame (start x .args .size) (start x .args .filled) (start x .args .i)) (length (now (start x .args .s))) (x .opened .given .0 .0) (x .opened .given .0 .1 .0)
+reached : (x : tie.After-opened) → Reaches (start x .args .p) (Kind.Frame (start x .args .label) (start x .args .size) (start x .args .filled) (start x .args .i)) (length (now (start x .args .s))) (x .opened .given .0 .0) (x .opened .given .0 .1 .0)
 reached x = rw (x .opened .given .1) at (x .before .before .open .ensures .stands)
 
 open-requires : tie.Need-open-requires

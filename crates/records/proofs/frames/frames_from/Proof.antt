@@ -14,10 +14,10 @@ use Rattle.records.proofs.frames.frames_from.Statement.{statement}
 use Rattle.records.proofs.frames.frames_from.Tie as tie
 
 abbrev Inv-loop : tie.InvT-loop
-Inv-loop o s base from count size filled p₀ i₀ p i = (i ≤ count) × (p ≡ from + size * i) × (p ≤ length s) × ((t : ℕ) (cs : List Channel) → filled ≡ 24 + sampleBytes t cs → ends (see o base s (base + from) (series count 1 size (length s - from) (frame size t cs))) ≡ ends (see o base s (base + p) (series (count - i) (i + 1) size (length s - p) (frame size t cs))))
+Inv-loop o label s base from count size filled p₀ i₀ p i = (i ≤ count) × (p ≡ from + size * i) × (p ≤ length s) × ((t : ℕ) (cs : List Channel) → filled ≡ 24 + sampleBytes t cs → ends (see o base s (base + from) (series count 1 size (length s - from) (frame label size t cs))) ≡ ends (see o base s (base + p) (series (count - i) (i + 1) size (length s - p) (frame label size t cs))))
 
 abbrev μ-loop : tie.MeasureT-loop
-μ-loop o s base from count size filled p₀ i₀ p i = count - i
+μ-loop o label s base from count size filled p₀ i₀ p i = count - i
 
 -- what was known at the start
 abbrev start : tie.After-frame-at Inv-loop μ-loop → tie.Start Inv-loop μ-loop

@@ -16,10 +16,10 @@ use Rattle.records.proofs.makers.next_head.Statement.{statement}
 use Rattle.records.proofs.makers.next_head.Tie as tie
 
 abbrev Inv-loop : tie.InvT-loop
-Inv-loop o s base from p₀ p = (from ≤ p) × (p ≤ length s) × ((fuel : ℕ) → length s < from + fuel → Fueled o base s from p fuel)
+Inv-loop o label s base from p₀ p = (from ≤ p) × (p ≤ length s) × ((fuel : ℕ) → length s < from + fuel → Fueled o label base s from p fuel)
 
 abbrev μ-loop : tie.MeasureT-loop
-μ-loop o s base from p₀ p = length s - p
+μ-loop o label s base from p₀ p = length s - p
 
 loop-holds : tie.Need-loop-holds Inv-loop μ-loop
 loop-holds c = (search needs, c .before .pre .low, λ fuel h. record { left = fuel; enough = h; same = refl })

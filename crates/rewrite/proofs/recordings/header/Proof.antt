@@ -15,16 +15,16 @@ use Rattle.rewrite.proofs.recordings.header.Tie as tie
 abbrev start : tie.After-name → tie.Start
 start c = c .before .before .before .before
 
-abbrev to-name : tie.After-copy-run → tie.After-name
-to-name c = c .before .before .before .before .before
+abbrev to-name : tie.After-version-digits → tie.After-name
+to-name c = c .before .before .before .before
 
-abbrev to-version : tie.After-form-digits → tie.After-copy-run
+abbrev to-version : tie.After-form-digits → tie.After-version-digits
 to-version c = c .before .before .before .before
 
 abbrev to-form : tie.After-digits → tie.After-form-digits
 to-form c = c .before .before .before .before .before
 
-abbrev to-digits : tie.After-copy-run2 → tie.After-digits
+abbrev to-digits : tie.After-copy-run → tie.After-digits
 to-digits c = c .before .before .before .before .before
 
 -- what was known behind the form
@@ -43,14 +43,14 @@ slice-write-d-2 c = simp length-set (omega arith)
 part-digits-end : tie.Need-part-digits-end
 part-digits-end c = simp length-set (omega arith)
 
-sub-copy-run-2 : tie.Need-sub-copy-run-2
-sub-copy-run-2 c = omega (arith, simp length-set at (c .before .before .d4 .given .1), far (c .before .before))
+sub-copy-run : tie.Need-sub-copy-run
+sub-copy-run c = omega (arith, simp length-set at (c .before .before .d4 .given .1), far (c .before .before))
 
-part-copy-run-start-2 : tie.Need-part-copy-run-start-2
-part-copy-run-start-2 c = omega (arith, simp length-set at (c .before .before .d4 .given .1), far (c .before .before))
+part-copy-run-start : tie.Need-part-copy-run-start
+part-copy-run-start c = omega (arith, simp length-set at (c .before .before .d4 .given .1), far (c .before .before))
 
-copy-run-requires-2 : tie.Need-copy-run-requires-2
-copy-run-requires-2 c κs = omega (arith, simp length-set at (c .before .before .before .d4 .given .1), far (c .before .before .before))
+copy-run-requires : tie.Need-copy-run-requires
+copy-run-requires c κs = omega (arith, simp length-set at (c .before .before .before .d4 .given .1), far (c .before .before .before))
 
 -- what was known of the buffer `d4`
 abbrev at-d4 : tie.After-slice-known6 → tie.After-d4
@@ -60,7 +60,6 @@ same-length : tie.Need-same-length
 same-length c = omega (arith, simp length-set at (at-d4 c .d4 .given .1), far (at-d4 c))
 
 returns : tie.Need-returns
-unfolding R.version
 returns c =
     let w = c .before .before in
     let y = to-digits w in
@@ -70,11 +69,11 @@ returns c =
     let a = start first .args in
     header-written (a .to) (headingOf (a .heading)) (a .count) _ (a .d .now) _ _ _ _ _ (start first .pre .room)
     (first .name .ensures)
-    (version .copy-run .ensures)
+    (version .version-digits .ensures)
     (form .form-digits .ensures)
     (y .before .before .letter .ensures)
     (y .digits .ensures)
-    (w .copy-run2 .ensures)
+    (w .copy-run .ensures)
 
 pub header-spec : {M : Type 1} → statement M
 header-spec =
@@ -83,7 +82,6 @@ header-spec =
     (λ c. search needs)
     slice-aggregate-name
     name-requires
-    (λ c. search needs)
     (λ c. search needs)
     (λ c. search needs)
     (λ c. search needs)
@@ -101,9 +99,9 @@ header-spec =
     part-digits-end
     (λ c κs. search needs)
     (λ c. search needs)
-    sub-copy-run-2
-    part-copy-run-start-2
+    sub-copy-run
+    part-copy-run-start
     (λ c. search needs)
-    copy-run-requires-2
+    copy-run-requires
     same-length
     returns)

@@ -28,14 +28,14 @@ returns : tie.Need-returns
 returns c =
     let z = c .before .before in
     let a = z .args in
-    record { bounds = tt; reads = tt; told = λ label held i x y. absurd (omega (arith, c .if1 .taken, within (a .o) label (a .file .now) (a .p) (a .q .end) held i (y .went) .starts)) }
+    record { bounds = tt; reads = tt; told = λ held i x y. absurd (omega (arith, c .if1 .taken, within (a .o) (a .label) (a .file .now) (a .p) (a .q .end) held i (y .went) .starts)) }
 
 returns-2 : tie.Need-returns-2
 returns-2 c =
     let y = c .before .before .before in
     let a = y .before .args in
     let b = bytes (a .file .now) (λ i. y .shared-slice-known .given i .fits) in
-    record { bounds = tt; reads = tt; told = λ label held i x v. absurd (omega (arith, c .if2 .taken, inside (a .o) label (a .file .now) (a .p) (a .q) (y .before .pre) b held i x v)) }
+    record { bounds = tt; reads = tt; told = λ held i x v. absurd (omega (arith, c .if2 .taken, inside (a .o) (a .label) (a .file .now) (a .p) (a .q) (y .before .pre) b held i x v)) }
 
 -- what was known of the bytes of the file
 abbrev file-known : tie.After-struct-known2 → tie.After-shared-slice-known
@@ -46,7 +46,7 @@ returns-3 c =
     let y = file-known (c .before) in
     let a = y .before .args in
     let b = bytes (a .file .now) (λ i. y .shared-slice-known .given i .fits) in
-    record { bounds = tt; reads = tt; told = λ label held i x v. absurd (omega (arith, c .if3 .taken, inside (a .o) label (a .file .now) (a .p) (a .q) (y .before .pre) b held i x v)) }
+    record { bounds = tt; reads = tt; told = λ held i x v. absurd (omega (arith, c .if3 .taken, inside (a .o) (a .label) (a .file .now) (a .p) (a .q) (y .before .pre) b held i x v)) }
 
 -- behind the second test
 abbrev tested : tie.After-measure-of → tie.Else2
@@ -66,9 +66,9 @@ returns-4 c =
     record {
       bounds = rw l at (r .bounds);
       reads = r .reads;
-      told = λ label held i x y.
-          let w = within (a .o) label s (a .p) (a .q .end) held i (y .went) in
-          r .told label held (w .top) x (a .q .end) (w .fills) (y .channels) (omega (arith, y .frames, tested c .if2 .left)) (w .body);
+      told = λ held i x y.
+          let w = within (a .o) (a .label) s (a .p) (a .q .end) held i (y .went) in
+          r .told held (w .top) x (a .q .end) (w .fills) (y .channels) (omega (arith, y .frames, tested c .if2 .left)) (w .body);
     }
 
 pub measure-at-spec : {M : Type 1} → statement M

@@ -15,7 +15,7 @@ use Rattle.rewrite.proofs.recordings.recording.Tie as tie
 
 -- from place to place: the recording is measured, there is room for it, its head is written, and its body
 abbrev start : tie.After-measured → tie.Start
-start c = c .before .before .before .before .before
+start c = c .before .before .before .before .before .before
 
 abbrev to-measured : tie.Else1 → tie.After-measured
 to-measured c = c .before .before .before .before
@@ -30,15 +30,15 @@ to-out c = c .before .before .before .before
 abbrev measure : tie.After-measured → Measure
 measure c = c .measured .given .0 .0
 
-known : (c : tie.After-measured) → let a = start c .args in MeasuredAt (a .w .from) (a .file .now) (a .p) (a .q) (Measured.On (measure c))
+known : (c : tie.After-measured) → let a = start c .args in MeasuredAt (a .w .from) (a .w .label) (a .file .now) (a .p) (a .q) (Measured.On (measure c))
 known c = rw (c .measured .given .1) at (c .before .before .measure-at .ensures)
 
 returns : tie.Need-returns
 returns c =
     let y = c .before .before in
-    let z = y .before .before .before in
+    let z = y .before .before .before .before in
     let t = rw (c .enum-told .given .1) at (y .measure-at .ensures .told) in
-    record { inside = z .pre .target; wrote = λ clear held x v. absurd (t (z .args .w .label) held (z .args .i) x v) }
+    record { inside = z .pre .target; wrote = λ clear held x v. absurd (t held (z .args .i) x v) }
 
 returns-2 : tie.Need-returns-2
 returns-2 c =
@@ -48,7 +48,7 @@ returns-2 c =
     let a = z .args in
     record {
       inside = z .pre .target;
-      wrote = λ clear held x v room. absurd (omega (arith, c .if1 .taken, room, recording-length (a .w .to) (a .w .label) (a .i) (x .recording) (measure m .whole) (known m .told (a .w .label) held (a .i) x v .whole)));
+      wrote = λ clear held x v room. absurd (omega (arith, c .if1 .taken, room, recording-length (a .w .to) (a .w .label) (a .i) (x .recording) (measure m .whole) (known m .told held (a .i) x v .whole)));
     }
 
 add-from : tie.Need-add-from

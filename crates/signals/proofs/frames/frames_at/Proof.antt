@@ -30,7 +30,7 @@ counted-at y = y .before .before .before
 -- the head is admitted, and the channels are as many as 100 says
 admits : (r : tie.After-room) →
     let a = from-room r .args in
-    AdmittedBy (a .h) (a .base) (length (now (a .s))) Kind.Frames (Step.On (r .room .given .0 .0))
+    AdmittedBy (a .h) (a .base) (length (now (a .s))) (Kind.Frames (a .label)) (Step.On (r .room .given .0 .0))
 admits r = rw (r .room .given .1) at (r .before .before .admit .ensures)
 
 agrees : (x : tie.Else1) →
@@ -43,14 +43,14 @@ returns c =
     let x : tie.After-admit = c .before .before .before in
     let a = start x .args in
     simp (c .of-step .ensures, c .before .enum-told .given .1)
-    (at-refused (a .o) (now (a .file)) (a .cs) (a .own) (a .b) (a .h) (a .base) (now (a .s)) (rw (c .before .enum-told .given .1) at (x .admit .ensures)))
+    (at-refused (a .o) (a .label) (now (a .file)) (a .cs) (a .own) (a .b) (a .h) (a .base) (now (a .s)) (rw (c .before .enum-told .given .1) at (x .admit .ensures)))
 
 returns-2 : tie.Need-returns-2
 returns-2 c =
     let r = to-room (c .before) in
     let z = from-room r in
     let a = z .args in
-    at-uncounted (a .o) (now (a .file)) (a .cs) (a .own) (a .b) (a .h) (a .base) (now (a .s)) (admits r)
+    at-uncounted (a .o) (a .label) (now (a .file)) (a .cs) (a .own) (a .b) (a .h) (a .base) (now (a .s)) (admits r)
     (sym (c .before .count-ok .ensures) ∙ not-true (c .before .count-ok .result) (c .if1 .taken)) (z .pre .head .low)
 
 sub-body : tie.Need-sub-body
@@ -78,7 +78,7 @@ returns-3 c =
     let r = to-room (counted-at y) in
     let a = from-room r .args in
     simp (c .enum-told2 .given .1)
-    (at-stop (a .o) (now (a .file)) (a .cs) (a .own) (a .b) (a .h) (a .base) (now (a .s)) (admits r) (agrees (y .before .before)) (rw (c .enum-told2 .given .1) at (y .frames-body .ensures)))
+    (at-stop (a .o) (a .label) (now (a .file)) (a .cs) (a .own) (a .b) (a .h) (a .base) (now (a .s)) (admits r) (agrees (y .before .before)) (rw (c .enum-told2 .given .1) at (y .frames-body .ensures)))
 
 returns-4 : tie.Need-returns-4
 returns-4 c =
@@ -86,7 +86,7 @@ returns-4 c =
     let y : tie.After-frames-body = t .before .before in
     let r = to-room (counted-at y) in
     let a = from-room r .args in
-    at-on (a .o) (now (a .file)) (a .cs) (a .own) (a .b) (a .h) (a .base) (now (a .s)) (admits r) (agrees (y .before .before)) (rw (t .held .given .1) at (y .frames-body .ensures))
+    at-on (a .o) (a .label) (now (a .file)) (a .cs) (a .own) (a .b) (a .h) (a .base) (now (a .s)) (admits r) (agrees (y .before .before)) (rw (t .held .given .1) at (y .frames-body .ensures))
 
 pub frames-at-spec : {M : Type 1} → statement M
 frames-at-spec =

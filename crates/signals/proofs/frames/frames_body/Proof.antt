@@ -23,7 +23,7 @@ returns c =
     let x : tie.After-read-shape = c .before .before .before in
     let a = start x .args in
     let k = rw e at (x .read-shape .ensures) in
-    simp (c .of-shape .ensures, e) (record { seen = λ b ch h w. body-stop (a .o) (a .at) (now (a .s)) ch w (k .told ch (w .channels)); fills = tt })
+    simp (c .of-shape .ensures, e) (record { seen = λ b ch h w. body-stop (a .o) (a .label) (a .at) (now (a .s)) ch w (k .told ch (w .channels)); fills = tt })
 
 frames-rest-requires : tie.Need-frames-rest-requires
 frames-rest-requires c κs = record { body = start (c .before .before .before) .pre .body; sized = shape (c .before) .sized }
@@ -35,7 +35,7 @@ returns-2 c =
     record {
       seen = λ b ch h w.
           let k = shape x .told ch (w .channels) in
-          body-on (a .o) (a .at) (now (a .s)) ch w k ∙ c .frames-rest .ensures .seen ch (k .fields .filled);
+          body-on (a .o) (a .label) (a .at) (now (a .s)) ch w k ∙ c .frames-rest .ensures .seen ch (k .fields .filled);
       fills = c .frames-rest .ensures .fills;
     }
 

@@ -22,14 +22,14 @@ from-taken t = start (t .before .before)
 -- the frames that passed
 passed : (t : tie.After-taken) →
     let a = from-taken t .args in
-    Taken (a .o) (a .at) (now (a .s)) (a .total) (a .f) (Step.On (t .taken .given .0 .0))
+    Taken (a .o) (a .label) (a .at) (now (a .s)) (a .total) (a .f) (Step.On (t .taken .given .0 .0))
 passed t = rw (t .taken .given .1) at (t .before .before .frames-from .ensures)
 
 returns : tie.Need-returns
 returns c =
     let x : tie.After-frames-from = c .before .before .before in
     let a = start x .args in
-    simp (c .of-step .ensures, c .before .enum-told .given .1) (rest-refused (a .o) (a .at) (now (a .s)) (a .total) (a .f) (rw (c .before .enum-told .given .1) at (x .frames-from .ensures)))
+    simp (c .of-step .ensures, c .before .enum-told .given .1) (rest-refused (a .o) (a .label) (a .at) (now (a .s)) (a .total) (a .f) (rw (c .before .enum-told .given .1) at (x .frames-from .ensures)))
 
 padding-requires : tie.Need-padding-requires
 padding-requires c κs = record { start = passed (c .before) .stands .1; inside = search needs; short = search needs }
@@ -39,7 +39,7 @@ returns-2 c =
     let y : tie.After-padding = c .before .before .before in
     let t = padded y in
     let a = from-taken t .args in
-    simp (c .of-test .ensures, c .before .enum-told3 .given .1) (rest-unpadded (a .o) (a .at) (now (a .s)) (a .total) (a .f) (passed t) (y .padding .ensures (a .o)) (c .before .enum-told3 .given .1))
+    simp (c .of-test .ensures, c .before .enum-told3 .given .1) (rest-unpadded (a .o) (a .label) (a .at) (now (a .s)) (a .total) (a .f) (passed t) (y .padding .ensures (a .o)) (c .before .enum-told3 .given .1))
 
 -- where the frames stop, seen from behind the padding
 abbrev to-taken : tie.After-enum-told2 → tie.After-taken
@@ -65,7 +65,7 @@ returns-3 : tie.Need-returns-3
 returns-3 c =
     let t = to-taken c in
     let a = from-taken t .args in
-    rest-holds (a .o) (a .at) (now (a .s)) (a .total) (a .f) (passed t) (c .before .before .padding .ensures (a .o)) (c .enum-told2 .given .1)
+    rest-holds (a .o) (a .label) (a .at) (now (a .s)) (a .total) (a .f) (passed t) (c .before .before .padding .ensures (a .o)) (c .enum-told2 .given .1)
 
 pub frames-rest-spec : {M : Type 1} → statement M
 frames-rest-spec =

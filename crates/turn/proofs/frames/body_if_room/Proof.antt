@@ -35,8 +35,8 @@ start c = c .before .before .before .before .before .before
 told : (x : tie.After-field3) →
     let a = start x .args in
     let s = now (a .s) in
-    (b : ℕ) (c : R.Basic) (ch : List R.Channel) (hd : R.Head) (f : R.Frames) (e : ℕ) → R.span hd ≡ 16 + length s → see (a .w .from) b s b (R.framesBody c ch hd) ≡ goes f e →
-    FramesTurned (a .w) b s ch (x .before .before .field .result) (x .before .field2 .result) (x .field3 .result) (copy (a .w) b s b (R.framesBody c ch hd))
+    (b : ℕ) (c : R.Basic) (ch : List R.Channel) (hd : R.Head) (f : R.Frames) (e : ℕ) → R.span hd ≡ 16 + length s → see (a .w .from) b s b (R.framesBody (a .w .label) c ch hd) ≡ goes f e →
+    FramesTurned (a .w) b s ch (x .before .before .field .result) (x .before .field2 .result) (x .field3 .result) (copy (a .w) b s b (R.framesBody (a .w .label) c ch hd))
 told x b c ch hd f e fills g =
     let a = start x .args in
     framed (a .w) b (now (a .s)) c ch hd fills g _ _ _ (sym (x .before .before .field .ensures .0)) (sym (x .before .field2 .ensures .0)) (sym (x .field3 .ensures .0))
@@ -70,7 +70,7 @@ returns-3 c =
     record {
       inside = z .pre .target;
       wrote = λ b k ch hd f e st fills g.
-          pastes-full (now (a .out)) (now (a .out)) (a .k) (a .k) (copy (a .w) b (now (a .s)) b (R.framesBody k ch hd)) (omega (arith, c .if3 .taken, framed-length (a .w) b (now (a .s)) k ch hd fills g (z .pre .fields)));
+          pastes-full (now (a .out)) (now (a .out)) (a .k) (a .k) (copy (a .w) b (now (a .s)) b (R.framesBody (a .w .label) k ch hd)) (omega (arith, c .if3 .taken, framed-length (a .w) b (now (a .s)) k ch hd fills g (z .pre .fields)));
     }
 
 add-filled : tie.Need-add-filled
@@ -95,7 +95,7 @@ returns-4 c =
     record {
       inside = omega (arith, else3 c .if3 .left, z .pre .target);
       wrote = λ b k ch hd f e st fills g.
-          pastes-whole (now (a .out)) _ (copy (a .w) b s b (R.framesBody k ch hd)) (a .k) (a .k + length s)
+          pastes-whole (now (a .out)) _ (copy (a .w) b s b (R.framesBody (a .w .label) k ch hd)) (a .k) (a .k + length s)
           (c .before .before .frames-body .ensures b k ch hd f e st (ap (λ (i : ℕ). 24 + i) (m .ensures ch (st .count) (st .kept))) (sym (x .before .before .field .ensures .0)) (sym (x .before .field2 .ensures .0)) (sym (x .field3 .ensures .0)) fills g)
           (omega (arith, framed-length (a .w) b s k ch hd fills g (z .pre .fields)));
     }

@@ -23,8 +23,8 @@ abbrev Inv-loop : tie.InvT-loop
 Inv-loop w file cs t filled size count s d₀ widths reserve from₀ k₀ i₀ d from k i =
     (i ≤ count) × (k ≡ 16 + size * i) × (k ≤ length s) × (length d ≡ length s) × (from ≡ k) ×
     ((b : ℕ) (c : R.Basic) (ch : List R.Channel) (hd : R.Head) (f : R.Frames) (e : ℕ) → ChannelsStand (w .from) file cs ch → filled ≡ 24 + R.sampleBytes t ch →
-    numberAt (w .from) 4 s 0 ≡ t → numberAt (w .from) 4 s 4 ≡ size → numberAt (w .from) 4 s 8 ≡ count → R.span hd ≡ 16 + length s → see (w .from) b s b (R.framesBody c ch hd) ≡ goes f e →
-    Framing w b s d ch t size count (copy w b s b (R.framesBody c ch hd)) k i)
+    numberAt (w .from) 4 s 0 ≡ t → numberAt (w .from) 4 s 4 ≡ size → numberAt (w .from) 4 s 8 ≡ count → R.span hd ≡ 16 + length s → see (w .from) b s b (R.framesBody (w .label) c ch hd) ≡ goes f e →
+    Framing w b s d ch t size count (copy w b s b (R.framesBody (w .label) c ch hd)) k i)
 
 abbrev μ-loop : tie.MeasureT-loop
 μ-loop w file cs t filled size count s d₀ widths reserve from₀ k₀ i₀ d from k i = count - i
@@ -107,10 +107,10 @@ reach c =
     omega (arith, series-reach (c .before .loop .i) (a .count) 16 (a .size) (omega arith))
 
 add-end : tie.Need-add-end Inv-loop μ-loop
-add-end c = omega (arith, reach c)
+add-end c = omega (arith, reach c, start (at-d (c .before .before) .before .before .before) .good)
 
 add-frame : tie.Need-add-frame Inv-loop μ-loop
-add-frame c = omega (arith, reach c)
+add-frame c = omega (arith, reach c, start (at-d (c .before .before) .before .before .before) .good)
 
 sub-frame : tie.Need-sub-frame Inv-loop μ-loop
 sub-frame c = search needs

@@ -20,7 +20,7 @@ abbrev Inv-loop : tie.InvT-loop
 Inv-loop w file cs s base out₀ k o p₀ next₀ out p next =
     (p ≤ length s) × (next ≤ length out) × (length out ≡ length out₀) ×
     ((held : Option Held) (h : Head) (x : Placed) (e : ℕ) → span h ≡ 16 + length s → ChannelsStand (w .from) file cs (x .recording .channels) → see (w .from) base s base (recordingBody (w .label) held h) ≡ goes x e →
-    SentUpTo w base s (knownOf x) out₀ out k next p (copy w base s base (recordingBody (w .label) held h)))
+    SentUpTo w base s (knownOf (w .label) x) out₀ out k next p (copy w base s base (recordingBody (w .label) held h)))
 
 abbrev μ-loop : tie.MeasureT-loop
 μ-loop w file cs s base out₀ k o p₀ next₀ out p next = length s - p
@@ -60,7 +60,7 @@ loop-again c =
     let w = y .before .before .before .loop .inv in
     let v = recorded (y .there .given .1) (y .before .before .record-at .ensures) in
     let d = c .before .before .child .ensures in
-    (v .inside, omega (arith, d .inside), search needs, λ held h x e n m g. sent-more _ (w .3 held h x e n m g) _ v (λ l stop i. d .wrote _ (knownOf x) l stop m i))
+    (v .inside, omega (arith, d .inside), search needs, λ held h x e n m g. sent-more _ (w .3 held h x e n m g) _ v (λ l stop i. d .wrote _ (knownOf _ x) refl l stop m i))
 
 pub body-spec : {M : Type 1} → statement M
 body-spec =

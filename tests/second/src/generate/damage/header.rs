@@ -3,7 +3,7 @@
 use super::{small_plan, valid};
 use crate::generate::draw;
 use crate::generate::sheet::{write, Sheet};
-use crate::header::{self, Version};
+use crate::header;
 use crate::random::Random;
 
 /// Nearly one of the two spellings: part of each, other letters, another place.
@@ -30,14 +30,10 @@ pub const NO_IDENTIFIERS: [&[u8; header::IDENTIFIER_LENGTH]; 16] = [
 pub const NO_FORMS: [&[u8; header::FORM_LENGTH]; 7] =
     [b"02", b"02", b"10", b"11", b"1 ", b" 1", b"0 "];
 
-/// Nearly one of the versions that are read.
-const NO_VERSIONS: &[&[u8; header::VERSION_LENGTH]] = if Version::OLDER_READ {
-    &[
-        b"000101", b"000120", b"000210", b"000310", b"000400", b"000000", b"001000", b"00100 ",
-    ]
-} else {
-    &[b"000200"]
-};
+/// Nearly one of the versions.
+const NO_VERSIONS: [&[u8; header::VERSION_LENGTH]; 8] = [
+    b"000101", b"000120", b"000210", b"000310", b"000400", b"000000", b"001000", b"00100 ",
+];
 
 pub fn wrong_header(random: &mut Random) -> Sheet {
     const FIELDS: usize = 7;
@@ -81,7 +77,7 @@ pub fn wrong_recording_count(random: &mut Random) -> Sheet {
 fn spoil_header(random: &mut Random, bytes: &mut [u8], field: usize) {
     match field {
         0 => spoil_text(random, bytes, header::IDENTIFIER_AT, &NO_IDENTIFIERS),
-        1 => spoil_text(random, bytes, header::VERSION_AT, NO_VERSIONS),
+        1 => spoil_text(random, bytes, header::VERSION_AT, &NO_VERSIONS),
         2 => spoil_text(random, bytes, header::FORM_AT, &NO_FORMS),
         3 => bytes[header::ORDER_AT] = random.pick(b"lbLB X\0M"),
         4 => bytes[header::SCRIPT_AT] = random.pick(b"sjeuSJEU AT\0"),

@@ -16,7 +16,6 @@ pub use header::{NO_FORMS, NO_IDENTIFIERS};
 use super::draw::{self, Shape, SMALL};
 use super::plan::{FilePlan, RecordingPlan};
 use super::sheet::{write, Sheet};
-use crate::header::Version;
 use crate::judge::judge;
 use crate::random::Random;
 
@@ -57,12 +56,9 @@ const DAMAGES: &[(usize, Damage)] = &[
     (8, electrodes::montage_disagrees),
     (5, electrodes::montage_misplaced),
     (8, electrodes::other_form),
-    (OLDER_WEIGHT, older::relabelled),
-    (OLDER_WEIGHT, older::one_breach),
+    (15, older::relabelled),
+    (15, older::one_breach),
 ];
-
-/// None where no older version is read.
-const OLDER_WEIGHT: usize = if Version::OLDER_READ { 15 } else { 0 };
 
 /// The share of files with a second damage close to the first refusal.
 const TWICE_PERCENT: usize = 25;

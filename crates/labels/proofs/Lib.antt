@@ -1,0 +1,10 @@
+pub mod Ordered
+pub mod Opened
+pub mod Relabelled
+pub mod Refused
+pub mod Breaches
+pub mod Records
+pub mod Recordings
+pub mod Older
+pub mod Versions
+pub mod Anew

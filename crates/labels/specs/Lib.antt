@@ -1,0 +1,3 @@
+pub mod Relabelled
+pub mod Breaches
+pub mod Versions
