@@ -27,7 +27,7 @@ pub data Calm (S : Before) : Type 0 where
   later : 4 ≤ S .count → Calm S
 
 calm-field : {S : Before} (i : ℕ) → i ≤ 3 → Calm S → ofChannel i S ≡ false
-calm-field {S} i h (other e) = rw e
+calm-field {S} i h (other e) = ap (λ (c : Bool). c && eqb (S .count) i) e
 calm-field {S} i h (later l) = go (isSub (S .code)) (ne-eqb (S .count) i (λ e. omega arith))
   where
     go : (c : Bool) → eqb (S .count) i ≡ false → c && eqb (S .count) i ≡ false

@@ -32,7 +32,7 @@ relabelled-is : (w : Version) (id a x : List ℕ) → length id ≡ 8 → length
 unfolding relabelled
 relabelled-is w id a x h k =
     let d : drop 14 (id ++ (a ++ x)) ≡ x = sym (drop-drop 6 8 (id ++ (a ++ x))) ∙ ap (drop 6) (drop-at id (a ++ x) 8 h) ∙ drop-at a x 6 k in
-    rw (take-at id (a ++ x) 8 h, d)
+    ap (λ (y : List ℕ). y ++ (versioned w ++ drop 14 (id ++ (a ++ x)))) (take-at id (a ++ x) 8 h) ∙ ap (λ (y : List ℕ). id ++ (versioned w ++ y)) d
 
 past-two : (id a x : List ℕ) → length id ≡ 8 → length a ≡ 6 → getD (id ++ (a ++ x)) 16 0 ≡ getD x 2 0
 past-two id a x h k =
