@@ -9,15 +9,16 @@
  *
  * What the caller sees to. The proofs take it as given; no call can test it, and where it does not hold nothing is
  * promised:
- * - file points to length bytes, out to room bytes, rows to room numbers, all within one object each, and each of them
- *   holds a value: a buffer that was never written is cleared first (calloc, not malloc).
- * - No pointer is null, not even where length or room is 0; there any pointer to an object of its type serves. rows is
- *   aligned as an int64_t is.
+ * - file points to length bytes, out to room bytes, rows, samples and bits to room numbers, all within one object each,
+ *   and each of them holds a value: a buffer that was never written is cleared first (calloc, not malloc).
+ * - No pointer is null, not even where length or room is 0; there any pointer to an object of its type serves. rows and
+ *   samples are aligned as an int64_t is, bits as a uint32_t is.
  * - The file and the buffer do not overlap, not even in part: nothing is turned or rewritten in place.
  * - Until the call returns, nothing changes the file, and nothing else reads or changes the buffer: no other thread, no
  *   signal handler, and, where the bytes are a mapped file's, no other process, which may not shorten it either. Calls
  *   at the same time may share a file, but no buffer.
- * - length and room are below 2^63 bytes each, so the room of rows below 2^60 numbers.
+ * - length and room are below 2^63 bytes each, so the room of rows and samples below 2^60 numbers, that of bits below
+ *   2^61.
  * - The program is compiled for x86-64 Linux, for which the library is. */
 #ifndef PSG_H
 #define PSG_H
@@ -177,6 +178,16 @@ struct psg_counted psg_count(const uint8_t *file, size_t length, size_t recordin
 
 /* One sample of a channel in a frame. */
 struct psg_sample psg_sample(const uint8_t *file, size_t length, size_t recording, size_t frame, size_t channel, size_t sample);
+
+/* A run of samples of a channel in a frame, number of them from the sample first on: what psg_sample answers for each,
+   in order. The count is of samples written, the room of numbers. psg_run is for the formats 1 to 3, psg_run_floats for
+   4; the other of the two is 19, even for 0 samples. So is a run that is not inside the channel; one of 0 samples is
+   inside where first is at most the channel's count. 17 has the number asked for. A float is its 32 bits, and a NaN
+   keeps them: float value; memcpy(&value, &bits[i], sizeof value); */
+struct psg_counted psg_run(const uint8_t *file, size_t length, size_t recording, size_t frame, size_t channel,
+                           size_t first, size_t number, int64_t *samples, size_t room);
+struct psg_counted psg_run_floats(const uint8_t *file, size_t length, size_t recording, size_t frame, size_t channel,
+                                  size_t first, size_t number, uint32_t *bits, size_t room);
 
 /* The bytes of a channel in a frame; start 0 and length 0 for a refusal (psg_count tells which) and for a channel without samples. */
 struct psg_view psg_view(const uint8_t *file, size_t length, size_t recording, size_t frame, size_t channel);

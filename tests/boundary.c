@@ -176,6 +176,54 @@ static void put(uint8_t *file, size_t at, uint32_t number) {
     for (int i = 0; i < 4; i++) file[at + i] = number >> 8 * i & 255;
 }
 
+/* Numbers, each at its place. */
+static void put_all(uint8_t *file, const uint32_t (*numbers)[2], size_t count) {
+    for (size_t i = 0; i < count; i++) put(file, numbers[i][0], numbers[i][1]);
+}
+
+/* A run of the one sample: with room to spare, none at the end, and refused, with the buffer as it was. */
+static void runs(const uint8_t *file, size_t n) {
+    int64_t samples[2] = {7, 7};
+    uint32_t bits[2] = {7, 7};
+    struct psg_counted run = psg_run(file, n, 1, 1, 1, 0, 1, samples, 2);
+    EXPECT(run.refusal == 0 && run.count == 1 && samples[1] == 7);
+    EXPECT(samples[0] == psg_sample(file, n, 1, 1, 1, 0).value);
+    samples[0] = 7;
+    run = psg_run(file, n, 1, 1, 1, 1, 0, samples, 0);
+    EXPECT(run.refusal == 0 && run.count == 0);
+    run = psg_run(file, n, 1, 1, 1, 0, 1, samples, 0);
+    EXPECT(run.refusal == 17 && run.position == 1 && run.count == 0);
+    EXPECT(psg_run(file, n, 1, 1, 1, SIZE_MAX, 1, samples, 2).refusal == 19);
+    EXPECT(psg_run(file, n, 1, 1, 1, 1, SIZE_MAX, samples, 0).refusal == 19);
+    EXPECT(psg_run(file, n, 1, 1, 1, 2, 0, samples, 2).refusal == 19);
+    EXPECT(psg_run(file, n - 1, 1, 1, 1, 2, 0, samples, 2).refusal == 10);
+    run = psg_run_floats(file, n, 1, 1, 1, 0, 0, bits, 2);
+    EXPECT(run.refusal == 19 && run.position == 0 && run.count == 0);
+    EXPECT(samples[0] == 7 && samples[1] == 7 && bits[0] == 7 && bits[1] == 7);
+}
+
+/* The smallest file with a float in the place of its sample, two bytes longer: read as one, and a NaN with its bits. */
+static void floats(const uint8_t *small, size_t n) {
+    static uint8_t file[1024];
+    const uint32_t numbers[][2] = {{32, 532}, {488, 60}, {508, 28}, {520, 28}, {236, 4}, {544, 0x3fc00000}};
+    int64_t samples[1] = {7};
+    uint32_t bits[2] = {7, 7};
+    float value;
+    memcpy(file, small, 544);
+    memcpy(file + 548, small + 546, n - 546);
+    n += 2;
+    put_all(file, numbers, sizeof numbers / sizeof *numbers);
+    struct psg_counted run = psg_run_floats(file, n, 1, 1, 1, 0, 1, bits, 2);
+    EXPECT(run.refusal == 0 && run.count == 1 && bits[1] == 7);
+    memcpy(&value, &bits[0], 4);
+    EXPECT(value == 1.5f);
+    put(file, 544, 0xffbfffff);
+    EXPECT(psg_run_floats(file, n, 1, 1, 1, 0, 1, bits, 1).refusal == 0 && bits[0] == 0xffbfffff);
+    run = psg_run_floats(file, n, 1, 1, 1, 0, 1, bits, 0);
+    EXPECT(run.refusal == 17 && run.position == 1 && run.count == 0 && bits[0] == 0xffbfffff);
+    EXPECT(psg_run(file, n, 1, 1, 1, 1, 0, samples, 1).refusal == 19 && samples[0] == 7);
+}
+
 /* The smallest file as one of electrodes, with a montage: its channel's first input is electrode 1, the second a sum. A 325
    has no frequency at 52 and no sensitivity at 64, a 355 has both. */
 static void electrodes(const uint8_t *small, size_t n) {
@@ -188,7 +236,7 @@ static void electrodes(const uint8_t *small, size_t n) {
     memcpy(file + 776, small + 488, n - 488);
     n += 288;
     file[15] = '1';
-    for (size_t i = 0; i < sizeof numbers / sizeof *numbers; i++) put(file, numbers[i][0], numbers[i][1]);
+    put_all(file, numbers, sizeof numbers / sizeof *numbers);
     struct psg_heading heading = psg_header(file, n);
     EXPECT(heading.refusal == 0 && heading.form == 1);
     struct psg_channel electrode = psg_channel(file, n, 1, 1);
@@ -218,6 +266,8 @@ int main(void) {
     spellings(file, n);
     writing(file, n);
     questions(file, n);
+    runs(file, n);
+    floats(file, n);
     electrodes(file, n);
     return failed;
 }

@@ -2,6 +2,7 @@
 //! from the one buffer into the other. For 16 and 32 bits the fastest that was found is a sample at a time, which the
 //! compiler makes wide; for 24 bits it is eight samples at a time, as three words.
 
+use crate::plain;
 use second::header::ORDER_AT;
 use second::judge::judge;
 use second::model::Recording;
@@ -78,10 +79,7 @@ fn frames(
 }
 
 fn each<const N: usize>(file: &[u8], out: &mut [u8], turned: impl Fn([u8; N]) -> [u8; N]) {
-    let parts = file.as_chunks().0.iter();
-    for (place, part) in out.as_chunks_mut().0.iter_mut().zip(parts) {
-        *place = turned(*part);
-    }
+    plain::each(file, out.as_chunks_mut().0, turned);
 }
 
 fn samples_of_24(file: &[u8], out: &mut [u8]) {

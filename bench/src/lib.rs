@@ -1,4 +1,8 @@
-//! What the programs `bench` and `load` share: recordings of a night, made for a measurement.
+//! What the programs `bench` and `load` share: recordings of a night, made for a measurement; and what `bench` measures
+//! with.
 
 pub mod fastest;
 pub mod night;
+pub mod plain;
+pub mod runs;
+pub mod timing;

@@ -1,6 +1,6 @@
 //! A night as a sleep laboratory's recorder writes it: one recording of one-second frames, with patient items and a few
 //! events, in either byte order and with the table that it has. The same seed gives the same samples in both orders, so
-//! that one file is what turning the other has to give.
+//! that one file is what turning the other has to give, and in frames of any length.
 
 use second::bytes::Order;
 use second::header::{self, Form, Header, Spelling, Version};
@@ -16,6 +16,8 @@ pub struct Night {
     /// Samples a second, channel by channel.
     pub rates: Vec<usize>,
     pub frames: usize,
+    /// The length of a frame.
+    pub seconds: usize,
     pub seed: u64,
 }
 
@@ -47,8 +49,19 @@ impl Night {
             format,
             rates: rates(channels),
             frames,
+            seconds: 1,
             seed,
         }
+    }
+
+    /// The same with frames of so many seconds.
+    pub fn of_seconds(self, seconds: usize) -> Night {
+        Night { seconds, ..self }
+    }
+
+    /// How many samples a channel, from 1, has in a frame.
+    pub fn count(&self, channel: usize) -> usize {
+        self.seconds * self.rates[channel - 1]
     }
 
     pub fn write(&self, order: Order) -> Written {
@@ -94,7 +107,7 @@ impl Night {
     }
 
     fn frame_length(&self) -> usize {
-        frame::SAMPLES + self.format.width() * self.rates.iter().sum::<usize>()
+        frame::SAMPLES + self.format.width() * self.seconds * self.rates.iter().sum::<usize>()
     }
 
     fn frames_content(&self) -> usize {
@@ -132,15 +145,16 @@ impl Night {
     fn block(&self, page: &mut Page) {
         let content = self.frames_content();
         page.head(Kind::Frames, 0, content);
-        page.numbers(&[1, self.frame_length() as i32, self.frames as i32, 0]);
+        let (length, frames) = (self.frame_length() as i32, self.frames as i32);
+        page.numbers(&[self.seconds as i32, length, frames, 0]);
         let mut signals: Vec<Signal> = (0..self.rates.len() as u64)
             .map(|number| Signal::new(Random::new(self.seed, number)))
             .collect();
-        for second in 0..self.frames {
-            page.head(Kind::Frame, second as i32 + 1, self.frame_length());
-            page.clock(second);
+        for frame in 0..self.frames {
+            page.head(Kind::Frame, frame as i32 + 1, self.frame_length());
+            page.clock(frame * self.seconds);
             for (signal, &rate) in signals.iter_mut().zip(&self.rates) {
-                let values = (0..rate).map(|_| signal.sample(self.format));
+                let values = (0..self.seconds * rate).map(|_| signal.sample(self.format));
                 match self.format.width() {
                     2 => page.samples::<2>(values),
                     3 => page.samples::<3>(values),
@@ -255,13 +269,15 @@ mod tests {
     #[test]
     fn the_second_program_reads_a_night_and_turns_it_into_the_other() {
         for format in Format::ALL {
-            let night = Night::new(format, 5, 90, 7);
-            let (little, big) = (night.write(Order::Little), night.write(Order::Big));
-            assert_eq!(
-                table::table(&little.file, u64::MAX).as_ref(),
-                Ok(&little.rows)
-            );
-            assert_eq!(turn::turn(&little.file, u64::MAX), Ok(big.file));
+            for seconds in [1, 3] {
+                let night = Night::new(format, 5, 90, 7).of_seconds(seconds);
+                let (little, big) = (night.write(Order::Little), night.write(Order::Big));
+                assert_eq!(
+                    table::table(&little.file, u64::MAX).as_ref(),
+                    Ok(&little.rows)
+                );
+                assert_eq!(turn::turn(&little.file, u64::MAX), Ok(big.file));
+            }
         }
     }
 }

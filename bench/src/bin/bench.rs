@@ -1,20 +1,19 @@
 //! `bench [MINUTES]`: the proved library against plain Rust, the fastest safe Rust and memcpy, on one recording of a
-//! night (of so many minutes; eight hours if not said), a table of ratios with the goals beside them. Median of several
+//! night (of so many minutes; eight hours if not said), a table of ratios with the goals beside them; then runs of
+//! samples, against plain Rust, with what judging takes of a call beside the ratio without it. Median of several
 //! rounds, in each of which every call is made once, in turn, so that a busy machine slows them alike.
 //!
 //!     cargo run --release --offline
 //!
 //! A ratio is the library's speed as a share of the other's: above 1 the library is the faster one.
 
-use nights::fastest;
 use nights::night::{Night, EIGHT_HOURS};
+use nights::{fastest, runs, timing};
 use second::bytes::Order;
 use second::record::Format;
 use std::hint::black_box;
 use std::process::ExitCode;
-use std::time::Instant;
 
-const ROUNDS: usize = 11;
 const CHANNELS: usize = 20;
 
 /// What the calls write into.
@@ -63,6 +62,8 @@ fn main() -> ExitCode {
         };
         run(&made.file, &mut out, &races);
     }
+    println!();
+    runs::measure(frames);
     ExitCode::SUCCESS
 }
 
@@ -185,20 +186,14 @@ fn rewriting() -> [Race; 2] {
     ]
 }
 
-/// The races on a file, and a line of the table for each pair. A first round, to warm up, does not count; the file is
-/// copied before each call, so that all find the caches alike.
+/// The races on a file, and a line of the table for each pair.
 fn run(file: &[u8], out: &mut Out, races: &[Race]) {
-    let mut calls: Vec<(Call, Vec<f64>)> = races.iter().flat_map(Race::calls).collect();
-    for round in 0..=ROUNDS {
-        for (call, took) in &mut calls {
-            memcpy(file, out);
-            let start = Instant::now();
-            call(black_box(file), out);
-            let seconds = start.elapsed().as_secs_f64();
-            took.extend((round > 0).then_some(seconds));
-        }
-    }
-    let mut took = calls.iter().map(|(_, took)| &took[..]);
+    let calls = races.iter().flat_map(Race::calls);
+    let calls: Vec<_> = calls
+        .map(|call| move |out: &mut Out| call(black_box(file), out))
+        .collect();
+    let took = timing::rounds(out, |out| memcpy(file, out), &calls);
+    let mut took = took.iter();
     for race in races {
         let library = took.next().expect("a time for each call");
         for ((name, _, goal), other) in race.others.iter().zip(&mut took) {
@@ -208,27 +203,15 @@ fn run(file: &[u8], out: &mut Out, races: &[Race]) {
 }
 
 impl Race {
-    /// The calls, each with its times.
-    fn calls(&self) -> impl Iterator<Item = (Call, Vec<f64>)> + '_ {
+    fn calls(&self) -> impl Iterator<Item = Call> + '_ {
         let others = self.others.iter().map(|other| other.1);
-        let calls = [self.library].into_iter().chain(others);
-        calls.map(|call| (call, Vec::new()))
+        [self.library].into_iter().chain(others)
     }
 }
 
-fn median(mut values: Vec<f64>) -> f64 {
-    values.sort_by(f64::total_cmp);
-    values[values.len() / 2]
-}
-
-/// The ratio is the median of the rounds' ratios.
 fn line(call: &str, against: &str, library: &[f64], other: &[f64], goal: Option<f64>) {
-    let ratios = other.iter().zip(library).map(|(other, own)| other / own);
-    let ratio = median(ratios.collect());
-    let goal = goal.map_or(String::new(), |goal| {
-        let end = if ratio >= goal { "met" } else { "missed" };
-        format!("{goal:.1}, {end}")
-    });
-    let [library, other] = [library, other].map(|took| 1e3 * median(took.to_vec()));
+    let ratio = timing::ratio(other, library);
+    let goal = goal.map_or(String::new(), |goal| timing::goal(goal, ratio));
+    let [library, other] = [library, other].map(|took| 1e3 * timing::median(took.to_vec()));
     println!("| {call} | {against} | {library:.2} | {other:.2} | {ratio:.2} | {goal} |");
 }

@@ -113,40 +113,45 @@ layouts! {
     View, 16 { start 0, length 8 }
 }
 
-extern "C" {
-    fn psg_judge(file: *const u8, length: usize) -> Header;
-    fn psg_table(file: *const u8, length: usize, rows: *mut i64, room: usize) -> Counted;
-    fn psg_turn(file: *const u8, length: usize, out: *mut u8, room: usize) -> Counted;
-    fn psg_rewrite(file: *const u8, length: usize, order: u8, out: *mut u8, room: usize)
-        -> Counted;
+/// A call that writes, and its safe call.
+macro_rules! writers {
+    ($($call:ident, $name:ident($($argument:ident: $number:ty),*) into $element:ty;)*) => {
+        extern "C" {
+            $(fn $call(
+                file: *const u8, length: usize, $($argument: $number,)* out: *mut $element, room: usize,
+            ) -> Counted;)*
+        }
+
+        $(
+            pub fn $name(file: &[u8], $($argument: $number,)* out: &mut [$element]) -> Counted {
+                // SAFETY: both are whole slices, and the call keeps neither.
+                unsafe {
+                    $call(file.as_ptr(), file.len(), $($argument,)* out.as_mut_ptr(), out.len())
+                }
+            }
+        )*
+    };
 }
 
-pub fn judge(file: &[u8]) -> Header {
-    // SAFETY: the slice is whole, and the call only reads it.
-    unsafe { psg_judge(file.as_ptr(), file.len()) }
+writers! {
+    psg_table, table() into i64;
+    psg_turn, turn() into u8;
+    psg_rewrite, rewrite(order: u8) into u8;
+    psg_run, run(
+        recording: usize, frame: usize, channel: usize, first: usize, number: usize
+    ) into i64;
+    psg_run_floats, run_floats(
+        recording: usize, frame: usize, channel: usize, first: usize, number: usize
+    ) into u32;
 }
 
-pub fn table(file: &[u8], rows: &mut [i64]) -> Counted {
-    // SAFETY: both are whole slices, and the call keeps neither.
-    unsafe { psg_table(file.as_ptr(), file.len(), rows.as_mut_ptr(), rows.len()) }
-}
+const _: () =
+    assert!(size_of::<f32>() == size_of::<u32>() && align_of::<f32>() == align_of::<u32>());
 
-pub fn turn(file: &[u8], out: &mut [u8]) -> Counted {
-    // SAFETY: both are whole slices, and the call keeps neither.
-    unsafe { psg_turn(file.as_ptr(), file.len(), out.as_mut_ptr(), out.len()) }
-}
-
-pub fn rewrite(file: &[u8], order: u8, out: &mut [u8]) -> Counted {
-    // SAFETY: both are whole slices, and the call keeps neither.
-    unsafe {
-        psg_rewrite(
-            file.as_ptr(),
-            file.len(),
-            order,
-            out.as_mut_ptr(),
-            out.len(),
-        )
-    }
+/// Floats lent by their bits, as the library writes them.
+pub fn bits_of(floats: &mut [f32]) -> &mut [u32] {
+    // SAFETY: both have one size and alignment (above), and any 32 bits are a value of either.
+    unsafe { std::slice::from_raw_parts_mut(floats.as_mut_ptr().cast(), floats.len()) }
 }
 
 /// A question of the library, and its safe call.
@@ -166,6 +171,7 @@ macro_rules! questions {
 }
 
 questions! {
+    psg_judge, judge() -> Header;
     psg_rewrite_room, rewrite_room() -> Counted;
     psg_header, header() -> Heading;
     psg_facts, facts(recording) -> Facts;

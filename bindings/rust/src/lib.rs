@@ -398,6 +398,45 @@ pub fn sample(
     })
 }
 
+/// Writes a run of samples of a channel in a frame into `out`, `number` of them from the sample `first` on: how many.
+/// It is for the formats 1 to 3, [`run_floats`] for 4; the other of the two is refused with 19.
+///
+/// ```
+/// let file = std::fs::read("../../crates/listing/stdin").unwrap();
+/// let mut samples = vec![0; psg::count(&file, 1, 1, 1)?];
+/// psg::run(&file, 1, 1, 1, 0, samples.len(), &mut samples)?;
+/// assert_eq!(psg::Sample::Whole(samples[0] as i32), psg::sample(&file, 1, 1, 1, 0)?);
+/// # Ok::<(), psg::Refusal>(())
+/// ```
+pub fn run(
+    file: &[u8],
+    recording: usize,
+    frame: usize,
+    channel: usize,
+    first: usize,
+    number: usize,
+    out: &mut [i64],
+) -> Result<usize, Refusal> {
+    let counted = calls::run(file, recording, frame, channel, first, number, out).answer()?;
+    Ok(counted.count as usize)
+}
+
+/// The same of a channel of format 4. A float keeps its bits, a NaN's too.
+pub fn run_floats(
+    file: &[u8],
+    recording: usize,
+    frame: usize,
+    channel: usize,
+    first: usize,
+    number: usize,
+    out: &mut [f32],
+) -> Result<usize, Refusal> {
+    let bits = calls::bits_of(out);
+    let counted =
+        calls::run_floats(file, recording, frame, channel, first, number, bits).answer()?;
+    Ok(counted.count as usize)
+}
+
 /// The bytes of a channel in a frame, as a part of the file: empty for a channel without samples, and for a question
 /// that is refused (`count`, asked the same, gives the refusal).
 pub fn view(file: &[u8], recording: usize, frame: usize, channel: usize) -> &[u8] {

@@ -6,13 +6,22 @@ fn smallest() -> Vec<u8> {
     std::fs::read("../../crates/listing/stdin").expect("the sample file of `listing`")
 }
 
-/// The same with a channel of floats: its CAL, and its one sample, two bytes longer than it was.
-fn floating(cal: u32, sample: u32) -> Vec<u8> {
+/// The same with a channel of another format, and these samples in its one frame.
+fn sampled<const WIDTH: usize>(format: u32, samples: &[[u8; WIDTH]]) -> Vec<u8> {
     let mut file = smallest();
-    file.splice(544..546, sample.to_le_bytes());
+    file.splice(544..546, samples.iter().flatten().copied());
+    let bytes = (WIDTH * samples.len()) as u32;
     // The sizes of the 10, the 140 and the 145, and the frame length.
-    put(&mut file, &[(32, 532), (488, 60), (520, 28), (508, 28)]);
-    put(&mut file, &[(236, 4), (244, cal)]);
+    let lengths = [(32, 528), (488, 56), (520, 24), (508, 24)];
+    put(&mut file, &lengths.map(|(at, others)| (at, others + bytes)));
+    put(&mut file, &[(236, format), (240, samples.len() as u32)]);
+    file
+}
+
+/// The same with a channel of floats: its CAL, and its one sample.
+fn floating(cal: u32, sample: u32) -> Vec<u8> {
+    let mut file = sampled(4, &[sample.to_le_bytes()]);
+    put(&mut file, &[(244, cal)]);
     file
 }
 
@@ -124,8 +133,7 @@ fn a_refusal_says_what_it_means() {
 fn a_float_keeps_its_bits_as_f32() {
     for bits in FLOATS {
         assert_eq!(FloatBits(bits).as_f32().to_bits(), bits);
-        let file = floating(bits, bits);
-        for file in [psg::turned(&file).unwrap(), file] {
+        for file in both_orders(floating(bits, bits)) {
             let Ok(Sample::Float(sample)) = psg::sample(&file, 1, 1, 1, 0) else {
                 panic!("the sample is a float");
             };
@@ -136,6 +144,113 @@ fn a_float_keeps_its_bits_as_f32() {
         }
     }
     assert_eq!(FloatBits(FLOATS[0]).as_f32(), 1.5);
+}
+
+/// A file and the one turned from it.
+fn both_orders(file: Vec<u8>) -> [Vec<u8>; 2] {
+    [psg::turned(&file).unwrap(), file]
+}
+
+/// Each run inside the channel holds these samples, and what stands behind it in the buffer stays.
+fn runs_hold(file: &[u8], samples: &[i64]) {
+    for first in 0..=samples.len() {
+        for number in 0..=samples.len() - first {
+            let mut out = vec![-77; number + 2];
+            let run = psg::run(file, 1, 1, 1, first, number, &mut out);
+            assert_eq!(run, Ok(number));
+            assert_eq!(out[..number], samples[first..first + number]);
+            assert_eq!(out[number..], [-77, -77]);
+        }
+    }
+}
+
+#[test]
+fn a_run_has_the_samples_of_every_width() {
+    let lowest = [0, 1, 0x7f, 0x80, 0xff];
+    let of_16 = lowest.map(|low| [low, 0x80]);
+    for file in both_orders(sampled(1, &of_16)) {
+        runs_hold(&file, &[-32768, -32767, -32641, -32640, -32513]);
+    }
+    let of_24 = [[0, 0, 0x80], [0xff, 0xff, 0xff], [1, 2, 3]];
+    for file in both_orders(sampled(2, &of_24)) {
+        runs_hold(&file, &[-8_388_608, -1, 0x03_0201]);
+    }
+    let of_32 = [i32::MIN, i32::MAX, -2, 0].map(i32::to_le_bytes);
+    for file in both_orders(sampled(3, &of_32)) {
+        runs_hold(&file, &[i32::MIN.into(), i32::MAX.into(), -2, 0]);
+    }
+}
+
+#[test]
+fn a_run_of_floats_keeps_their_bits() {
+    let samples = FLOATS.map(u32::to_le_bytes);
+    for file in both_orders(sampled(4, &samples)) {
+        let mut out = [1.25; FLOATS.len() + 1];
+        assert_eq!(psg::run_floats(&file, 1, 1, 1, 1, 7, &mut out), Ok(7));
+        let bits = out.map(f32::to_bits);
+        assert_eq!(bits[..7], FLOATS[1..]);
+        assert_eq!(out[7..], [1.25, 1.25]);
+    }
+}
+
+#[test]
+fn a_refused_run_leaves_the_buffer() {
+    let refused = |number, position| Err(Refusal { number, position });
+    let (outside, end) = (refused(19, 0), 3);
+    let file = sampled(1, &[[1, 0], [2, 0], [3, 0]]);
+    let mut out = [-77; 4];
+    // Not inside the channel, with room or without, and where the sum does not fit 64 bits.
+    for (first, number) in [
+        (0, 4),
+        (2, 2),
+        (end, 1),
+        (end + 1, 0),
+        (1, usize::MAX),
+        (usize::MAX, 1),
+        (usize::MAX, 0),
+        (1 << 63, 1 << 63),
+        (usize::MAX, 3),
+    ] {
+        for room in [0, 4] {
+            let run = psg::run(&file, 1, 1, 1, first, number, &mut out[..room]);
+            assert_eq!(run, outside, "{first} {number}");
+        }
+    }
+    for (recording, frame, channel) in [(0, 1, 1), (2, 1, 1), (1, 2, 1), (1, 1, 2), (1, 1, 0)] {
+        let run = psg::run(&file, recording, frame, channel, 0, 0, &mut out);
+        assert_eq!(run, outside);
+    }
+    // 17 says the number asked for, not what the channel has.
+    let short = psg::run(&file, 1, 1, 1, 1, 2, &mut out[..1]);
+    assert_eq!(short, refused(17, 2));
+    let cut = &file[..file.len() - 1];
+    let run = psg::run(cut, 1, 1, 1, 9, 9, &mut out);
+    assert_eq!(run, refused(10, 32));
+    assert_eq!(out, [-77; 4]);
+}
+
+#[test]
+fn a_run_is_for_numbers_or_for_floats() {
+    let outside = Err(Refusal {
+        number: 19,
+        position: 0,
+    });
+    let (mut numbers, mut floats) = ([-77], [1.25]);
+    for number in [0, 1] {
+        for format in [1, 2, 3] {
+            let file = match format {
+                1 => sampled(format, &[[7; 2]]),
+                2 => sampled(format, &[[7; 3]]),
+                _ => sampled(format, &[[7; 4]]),
+            };
+            let run = psg::run_floats(&file, 1, 1, 1, 0, number, &mut floats);
+            assert_eq!(run, outside);
+        }
+        let file = floating(0, FLOATS[0]);
+        let run = psg::run(&file, 1, 1, 1, 0, number, &mut numbers);
+        assert_eq!(run, outside);
+    }
+    assert_eq!((numbers, floats), ([-77], [1.25]));
 }
 
 #[test]

@@ -6,6 +6,7 @@ ghost use Rattle.words.specs.Values.{unsigned};
 ghost use Rattle.permit.specs.Permit.{meaning};
 ghost use Rattle.recordings.specs.Answers.{value, refusal};
 ghost use Rattle.questions.specs.Meanings.{meaningH, meaningF, meaningD, meaningN, meaningM, meaningI, meaningT, meaningC, meaningS};
+ghost use Rattle.runs.specs.Runs as Runs;
 ghost use Rattle.answers.specs.Flat.{counted, stopped, countedBytes, headed, unheaded};
 ghost use Rattle.answers.specs.Flat.{spellingNumber, flatHeading, flatFacts, patternsOf, flatChannel, flatMontage};
 ghost use Rattle.answers.specs.Flat.{flatItem, flatClock, flatCount, flatSample};
@@ -23,6 +24,7 @@ use recordings::FactsTold;
 use rules::FileHeader;
 use rules::Refusal;
 use rules::Spelling;
+use runs::Ran;
 use samples::ClockTold;
 use samples::Number;
 use samples::SampleTold;
@@ -477,6 +479,15 @@ pub fn count_of(a: samples::CountTold) -> Counted
     match a {
         samples::CountTold::Samples(n) => answered(n),
         samples::CountTold::Refused(r) => refused(r),
+    }
+}
+
+pub fn run_of(a: Ran) -> Counted
+    ensures { λ r. ⌜ r ≡ flatCount (Runs.meaning a) ⌝ }
+{
+    match a {
+        Ran::Numbers(n) => answered(n),
+        Ran::Refused(r) => refused(r),
     }
 }
 

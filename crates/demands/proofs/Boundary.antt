@@ -60,6 +60,11 @@ use Rattle.questions.specs.declared.headers.HeaderTold.the-variants as HeaderTo
 use Rattle.questions.specs.declared.items.Entry.{Entry}
 use Rattle.questions.specs.declared.items.ItemTold.{ItemTold}
 use Rattle.questions.specs.declared.items.ItemTold.the-variants as ItemTold
+use Rattle.runs.specs.Runs as Runs
+use Rattle.runs.specs.Runs.{Element, RunAnswer}
+use Rattle.runs.specs.declared.Ran.{Ran}
+use Rattle.runs.specs.declared.Ran.the-variants as Ran
+use Rattle.runs.specs.declared.Sibling.{Sibling}
 use Rattle.permit.specs.Permit as Permit
 use Rattle.permit.specs.declared.Written.{Written}
 use Rattle.permit.specs.declared.Written.the-variants as Written
@@ -78,9 +83,10 @@ use Rattle.answers.specs.declared.Heading.{Heading}
 use Rattle.answers.specs.declared.Item.{Item}
 use Rattle.answers.specs.declared.Montage.{Montage}
 use Rattle.answers.specs.declared.Sample.{Sample}
-use Rattle.psg.specs.Calls.{JudgeAnswers, TableAnswers, TurnAnswers, RewriteAnswers, RoomAnswers}
-use Rattle.demands.specs.Demands.{ofFile, ofTable, ofTurn, ofRewrite, ofQuestion, refusalOf, Refuses, Answered, KeepsRest, listedRows, wroteC, stoppedC, headerC, refusedC, flatJudged, TakenApart, Boundary, Accepted, headerJudged, JudgesByRules}
+use Rattle.psg.specs.Calls.{JudgeAnswers, TableAnswers, TurnAnswers, RewriteAnswers, RoomAnswers, RunAnswers}
+use Rattle.demands.specs.Demands.{ofFile, ofTable, ofTurn, ofRewrite, ofQuestion, ofRun, refusalOf, Refuses, Answered, KeepsRest, listedRows, wroteC, stoppedC, headerC, refusedC, flatJudged, TakenApart, Boundary, Accepted, headerJudged, JudgesByRules}
 use Rattle.demands.proofs.Refusing.{of-file, header-refused, room-refused, table-refuses, table-keeps, turn-refuses, turn-keeps, rewrite-refuses, rewrite-keeps, Proper, proper-facts, proper-channel, proper-item, proper-clock, proper-count, proper-sample, proper-montage-count, proper-montage}
+use Rattle.demands.proofs.Running.{run-refuses, run-keeps}
 use Rattle.demands.proofs.Viewing.{part-told}
 
 -- An answer and its numbers
@@ -208,6 +214,9 @@ count = record { meaning = meaningC; tell = CountTold.Samples; refuse = CountTol
 abbrev pub sample : Meant {X = Number} value refusal SampleTold Sample
 sample = record { meaning = meaningS; tell = SampleTold.Value; refuse = SampleTold.Refused; flat = flatSample; says = λ a. refusalOf (a .refusal) (a .position); tells = λ v. refl; refuses = λ r. refl; zero = sample-zero; named = λ n p. refl }
 
+abbrev ran : Meant {X = ℕ} value refusal Ran Counted
+ran = record { meaning = Runs.meaning; tell = Ran.Numbers; refuse = Ran.Refused; flat = flatCount; says = λ a. refusalOf (a .refusal) (a .position); tells = λ v. refl; refuses = λ r. refl; zero = λ v. refl; named = λ n p. refl }
+
 -- The verdict
 
 -- a test that the walk went past
@@ -278,6 +287,10 @@ ends-written : {a : Counted} (c : Written) → a ≡ countedBytes (Permit.meanin
 ends-written (Written.Bytes n) e = ended n refl e
 ends-written (Written.Refused r) e = stops r refl e
 
+ends-ran : {a : Counted} (c : Ran) → a ≡ flatCount (Runs.meaning c) → Ends Ran.Refused Ran.Numbers a c
+ends-ran (Ran.Numbers n) e = ended n refl e
+ends-ran (Ran.Refused r) e = stops r refl e
+
 -- The calls, of every list of bytes
 
 module _ (s : List ℕ) (b : Bytes s) where
@@ -309,6 +322,11 @@ module _ (s : List ℕ) (b : Bytes s) where
       by-meaning written s (either-bytes (Rewrite.answerOf s order (length out))) (λ c e. record { answer = e; buffer = x .holds }) (x .answers) (λ n p h. rw h)
       (λ n p e. rewrite-refuses s b order (length out) (refusalOf n p) (sym e))
 
+  pub run-apart : (c : Sibling) (i j k first n : ℕ) (out out′ : List (Element c)) (a : Counted) → RunAnswers c s i j k first n out out′ a → TakenApart s (RunAnswer c s i j k first n out out′) Ran.Refused (λ d. flatCount (Runs.meaning d)) ofRun n (a .refusal) (a .position) a
+  run-apart c i j k first n out out′ a x =
+      by-meaning ran s (either (Runs.answerOf c s i j k first n (length out))) (λ d e. record { answer = e; buffer = x .holds }) (x .answers) (λ m p h. rw h)
+      (λ m p e. run-refuses s c i j k first n (length out) (refusalOf m p) (sym e))
+
   -- a question's refusals
   asked : {A : Type 0} {x : Answer A} → Proper s x → (n p : ℕ) → x ≡ refusal n p → Refuses ofQuestion (length s) 0 (refusalOf n p)
   asked h n p e = rw e at h
@@ -334,6 +352,8 @@ module _ (s : List ℕ) (b : Bytes s) where
     count = λ i j k a x. by-meaning count s (either (countOf s i j k)) (λ c e. e) x (λ n p h. rw h) (asked (proper-count s i j k));
     sample = λ i j k n a x. by-meaning sample s (either (sampleOf s i j k n)) (λ c e. e) x (λ n p h. rw h) (asked (proper-sample s i j k n));
     view = λ file e i j k a x. part-told file (rw e b) i j k a (rw e x);
+    run = run-apart;
+    run-keeps = λ c i j k first n out out′ a x. let y = run-apart c i j k first n out out′ a x in kept (run-keeps s c i j k first n out out′ (y .told) (y .met)) (ends-ran (y .told) (y .same));
   }
 
   -- accepted and refused exactly as the rules do

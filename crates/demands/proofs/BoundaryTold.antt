@@ -23,7 +23,8 @@ use Rattle.questions.specs.declared.channels.Descriptor.{Descriptor}
 use Rattle.questions.proofs.Readings.{alike-value, facts-read, numbers-read, montage-count-read, clock-read}
 use Rattle.questions.proofs.Texts.{channel-texts, montage-wired, item-text}
 use Rattle.questions.proofs.Views.{view-samples}
-use Rattle.answers.specs.Flat.{spellingNumber, flatHeading, flatChannel, flatMontage}
+use Rattle.runs.specs.Runs as Runs
+use Rattle.answers.specs.Flat.{spellingNumber, flatHeading, flatChannel, flatMontage, flatCount}
 use Rattle.answers.specs.declared.Heading.{Heading}
 use Rattle.answers.specs.declared.View.{View}
 use Rattle.psg.specs.Calls.{ViewAnswers}
@@ -31,6 +32,7 @@ use Rattle.demands.specs.Bits.{CalibrationIs, ChannelIs, MontageIs, Samp
 use Rattle.demands.specs.Demands.{Accepted, headerRead, HeadingIs, channelCode, TellsC, countsC, entryC, timeC, BoundaryTells}
 use Rattle.demands.proofs.Boundary.{Meant, facts, channel, montage-count, montage, item, clock, count, sample}
 use Rattle.demands.proofs.Floats.{calibration-bits, montage-bits, sample-bits}
+use Rattle.demands.proofs.Running.{run-read}
 use Rattle.demands.proofs.Telling.{header-told}
 
 -- Answers that are alike: in two ways, behind a value of the reading, and with the first taken apart
@@ -111,5 +113,9 @@ module _ (s : List ℕ) (b : Bytes s) {v : R.File} {t : List Event} (h : Accepte
     clock = λ i j a x. tells clock (λ c. ClockIs (timeC c)) x (clock-read s b h i j) (λ y u k. k);
     count = λ i j k a x. tells count (λ c vs. c .count ≡ length vs) x (view-samples s b h i j k) (λ y u w. w .count);
     sample = λ i j k n a x. tells sample (SampleIs s (reading v) i j k n) x (sample-bits s b h i j k n) (λ y u w. w);
+    run = λ c i j k first n out out′ a x. record {
+      answer = x .answers ∙ ap (λ (y : Answer (List Value)). flatCount (Runs.counted n (length out) y)) (run-read s b h c i j k first n);
+      buffer = x .holds ∙ ap (λ (y : Answer (List Value)). Runs.holding c n y out) (run-read s b h c i j k first n);
+    };
     view = samples-at;
   }

@@ -15,7 +15,7 @@ use Rattle.words.specs.Numbers.{Bytes, bytesAt, other}
 use Rattle.words.specs.declared.Order.{Order}
 use Rattle.walk.specs.Walk.{Row, Event, refused, rows}
 use Rattle.rules.specs.Canonical.{rewritten, canonical}
-use Rattle.rules.specs.Reading.{ChannelReading, channelReading, reading}
+use Rattle.rules.specs.Reading.{Value, ChannelReading, channelReading, reading}
 use Rattle.rules.specs.Rules as R
 use Rattle.rules.proofs.CanonicalForm.{canonical-form, form-unique}
 use Rattle.rules.proofs.Rewrite.{rewrite-bytes}
@@ -30,7 +30,7 @@ use Rattle.table.specs.Table.{Lists}
 use Rattle.table.specs.declared.Listed.{Listed}
 use Rattle.table.specs.declared.Listed.the-variants as Listed
 use Rattle.table.proofs.Answers.{lists-refused, table-unique}
-use Rattle.recordings.specs.Answers.{value, numbered}
+use Rattle.recordings.specs.Answers.{Answer, value, numbered}
 use Rattle.recordings.specs.declared.FactsTold.the-variants as FactsTold
 use Rattle.recordings.proofs.Chosen.{answered}
 use Rattle.samples.specs.declared.ClockTold.the-variants as ClockTold
@@ -49,6 +49,8 @@ use Rattle.questions.specs.declared.items.ItemTold.the-variants as ItemTold
 use Rattle.questions.proofs.Texts.{channel-texts, montage-wired, item-text}
 use Rattle.questions.proofs.Views.{view-samples}
 use Rattle.questions.proofs.Unique.{header-unique, facts-unique, channel-unique, montage-count-unique, montage-unique, patient-item-unique, event-item-unique, clock-unique, count-unique, sample-unique}
+use Rattle.runs.specs.Runs as Runs
+use Rattle.runs.proofs.Told.{runs-refused, run-unique}
 use Rattle.makers.specs.Makers.{firstMaker}
 use Rattle.permit.specs.Permit as Permit
 use Rattle.permit.specs.declared.Written.{Written}
@@ -67,6 +69,7 @@ use Rattle.psg.specs.Calls.{TableAnswers}
 use Rattle.demands.specs.Demands.{ofFile, refusalOf, Demand-1, Accepted, HandsUp, TableHolds, Tells, WrittenAnew, SufficesC, Reserved, Demand-2, headerRead, inOther, SameEnd, SameNumbers, BoundarySame, Same, Demand-3}
 use Rattle.demands.proofs.Agreeing.{agree-first, numbered-image}
 use Rattle.demands.proofs.Refusing.{of-file, header-refused, room-refused, table-refuses, table-keeps, turn-refuses, turn-keeps, rewrite-refuses, rewrite-keeps, question, proper-facts, proper-channel, proper-item, proper-clock, proper-count, proper-sample, proper-montage-count, proper-montage}
+use Rattle.demands.proofs.Running.{run-refuses, run-keeps, run-read, run-number, run-entry}
 use Rattle.demands.proofs.Samples.{recording-picked, view-words}
 use Rattle.demands.proofs.Telling.{channel-words, header-told, facts-told, channel-agrees, clock-told, count-told, sample-told, montage-count-told, montage-agrees}
 use Rattle.demands.proofs.Viewing.{view-long, shown}
@@ -94,6 +97,8 @@ demand-1 s b = record {
   count = λ i j k a x. question s meaningC CountTold.Refused (λ r. refl) (proper-count s i j k) a x;
   sample = λ i j k n a x. question s meaningS SampleTold.Refused (λ r. refl) (proper-sample s i j k n) a x;
   view = λ file e i j k r x. shown file (rw e b) i j k r x;
+  run = λ c i j k first n out out′ a x r e. run-refuses s c i j k first n (length out) r (sym (ap Runs.meaning e) ∙ x .answer);
+  run-keeps = run-keeps s;
   boundary = boundary s b;
 }
 
@@ -115,6 +120,7 @@ hands-up s n p h = record {
   clock = λ i j a x. clock-unique s i j a _ x (rw h);
   count = λ i j k a x. count-unique s i j k a _ x (rw h);
   sample = λ i j k m a x. sample-unique s i j k m a _ x (rw h);
+  run = λ c i j k first m out out′ a x. run-unique c s i j k first m out out′ out a _ x (runs-refused c s i j k first m out {m = n} {p = p} (rw h)) .0;
 }
 
 -- rows in front
@@ -143,6 +149,12 @@ tells s b h = record {
   count = λ i j k a x. x ∙ count-told s b h i j k;
   sample = λ i j k n a x. rw x (sample-told s b h i j k n);
   view = λ i j k a x. rw x (view-samples s b h i j k);
+  run = λ c i j k first n out out′ a x. record {
+    answer = x .answer ∙ ap (Runs.counted n (length out)) (run-read s b h c i j k first n);
+    buffer = x .buffer ∙ ap (λ (y : Answer (List Value)). Runs.holding c n y out) (run-read s b h c i j k first n);
+  };
+  run-number = λ c i j k first n out out′ a x m e. run-number x m e;
+  run-entry = run-entry s b h;
 }
 
 -- the file that `rewrite` wrote, whatever tells its length
@@ -295,6 +307,7 @@ module _ (s : List ℕ) (b : Bytes s) {v : R.File} {t : List Event} (h : Accepte
         count = λ i j k a c x y. x ∙ (rw e) ∙ sym y;
         sample = λ i j k n a c x y. x ∙ (rw e) ∙ sym y;
         view = λ i j k a c x y. x ∙ (rw e) ∙ sym y;
+        run = λ d i j k first n out out₁ out₂ a c x y. record { answer = x .answers ∙ (rw e) ∙ sym (y .answers); buffer = x .holds ∙ (rw e) ∙ sym (y .holds) };
         back = λ out₂ out₂′ c l z.
             let y = turn-apart s′ turned-bytes out₂ out₂′ c z in
             let w = turn-twice s h free b out out′ a room x out₂ out₂′ (y .told) l (y .met) in
@@ -334,6 +347,9 @@ module _ (s : List ℕ) (b : Bytes s) {v : R.File} {t : List Event} (h : Accepte
         count = λ i j k a c x y. count-unique s i j k a c x (rw e at y);
         sample = λ i j k n a c x y. sample-unique s i j k n a c x (rw e at y);
         view = λ i j k file r file′ r′ f f′ x x′. same-numbers i j k file r file′ r′ (rw f b) (rw f′ turned-bytes) {v = v} {t = t} (rw f h) (rw f′ (y .0)) x x′;
+        run = λ d i j k first n out out₁ out₂ a c x z.
+            let w = run-unique d s i j k first n out out₁ out₂ a c x (record { answer = rw e at (z .answer); buffer = rw e at (z .buffer) }) in
+            record { answer = w .0; buffer = w .1 };
         back = λ out₂ out₂′ c l z. let w = turn-twice s h free b out out′ a room x out₂ out₂′ c l z in record { answer = w .0; holds = w .1 };
         anew = λ order to names out₁ out₁′ c l₁ x₁ out₂ out₂′ d l₂ x₂.
             let w = rewrite-both s b h free out out′ a room x order to names out₁ out₁′ c l₁ x₁ out₂ out₂′ d l₂ x₂ in

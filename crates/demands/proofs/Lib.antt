@@ -5,6 +5,7 @@ pub mod Samples
 pub mod Telling
 pub mod Floats
 pub mod Viewing
+pub mod Running
 pub mod Boundary
 pub mod BoundaryTold
 pub mod Demands

@@ -56,7 +56,7 @@ use Rattle.demands.proofs.Makers.{maker-inside}
 -- The numbers 17, 18 and 19, of a call that has them
 
 module _ (numbers : ℕ → Bool) (size need : ℕ) (r : Refusal) where
-  short : numbers 17 ≡ true → r .0 ≡ 17 → r .1 ≡ need → Refuses numbers size need r
+  pub short : numbers 17 ≡ true → r .0 ≡ 17 → r .1 ≡ need → Refuses numbers size need r
   short ok e f = record { number = rw e ok; nonzero = omega arith; file = λ l. absurd (omega arith); maker = λ i. absurd (omega arith); room = λ i. f; range = λ i. absurd (omega arith) }
 
   barred : numbers 18 ≡ true → r .0 ≡ 18 → r .1 ≤ size → Refuses numbers size need r
@@ -69,7 +69,7 @@ module _ (numbers : ℕ → Bool) (size need : ℕ) (r : Refusal) where
 or-true : (b : Bool) {a : Bool} → a ≡ true → a || b ≡ true
 or-true b e = rw e
 
-or-right : (a : Bool) {b : Bool} → b ≡ true → a || b ≡ true
+pub or-right : (a : Bool) {b : Bool} → b ≡ true → a || b ≡ true
 or-right true e = refl
 or-right false e = e
 
@@ -146,7 +146,7 @@ module _ (s : List ℕ) where
 
   -- A question: every refusal on the way to its answer is the file's, or 19
 
-  proper-outside : Refuses ofQuestion (length s) 0 (refusalOf 19 0)
+  pub proper-outside : Refuses ofQuestion (length s) 0 (refusalOf 19 0)
   proper-outside = out-of-range ofQuestion (length s) 0 (refusalOf 19 0) (or-right (ofFile 19) refl) refl refl
 
   module _ {A : Type 0} where
@@ -165,7 +165,7 @@ module _ (s : List ℕ) where
     proper-numbered l zero = proper-outside
     proper-numbered l (suc n) = proper-indexed l n
 
-  proper-then : {A B : Type 0} (x : Answer A) (k : A → Answer B) → Proper x → ((a : A) → Proper (k a)) → Proper (x >>= k)
+  pub proper-then : {A B : Type 0} (x : Answer A) (k : A → Answer B) → Proper x → ((a : A) → Proper (k a)) → Proper (x >>= k)
   proper-then (value a) k h g = g a
   proper-then (refusal n p) k h g = h
 
@@ -179,7 +179,7 @@ module _ (s : List ℕ) where
   proper-frame : (i j : ℕ) → Proper (frameOf s i j)
   proper-frame i j = proper-then (recordingOf s i) _ (proper-recording i) (λ r. proper-then (numbered (r .this .recording .frames) j) _ (proper-numbered (r .this .recording .frames) j) (λ _. tt))
 
-  proper-samples : (i j k : ℕ) → Proper (samplesOf s i j k)
+  pub proper-samples : (i j k : ℕ) → Proper (samplesOf s i j k)
   proper-samples i j k = proper-then (frameOf s i j) _ (proper-frame i j) (λ f.
       let l = frameReading (f .of .this .recording .channels) (f .frame) .channels in
       proper-then (numbered (f .of .this .recording .channels) k) _ (proper-numbered (f .of .this .recording .channels) k) (λ c. proper-then (numbered l k) _ (proper-numbered l k) (λ _. tt)))

@@ -56,7 +56,7 @@ number-told format n h = go (eqb format 4) refl
     go true e = float-told n (wide e)
     go false e = refl
 
-sample-kept : {v : R.File} {t : List Event} {i k : ℕ} {l : List Value} {x : Samples} → Stand v t i k l x → (n : ℕ) {u : Value} → indexed (x .values) n ≡ value u → valueTold (numberIn u) ≡ u
+pub sample-kept : {v : R.File} {t : List Event} {i k : ℕ} {l : List Value} {x : Samples} → Stand v t i k l x → (n : ℕ) {u : Value} → indexed (x .values) n ≡ value u → valueTold (numberIn u) ≡ u
 sample-kept {x} st n {u} e =
     let f : ℕ → Value = valueOf (x .format) (width (x .format)) in
     let o = indexed-one (x .values) n e in

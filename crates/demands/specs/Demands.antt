@@ -6,7 +6,7 @@ use mathlib.Core.Path.{_≡_}
 use mathlib.Core.Bool.{Bool, true, _||_}
 use mathlib.Core.List.{List, []}
 use mathlib.Core.Option.{none}
-use Prim.Native.Nat.{ℕ, _+_, _*_, _≤_}
+use Prim.Native.Nat.{ℕ, _+_, _*_, _≤_, _<_}
 use denote.Ref.{RefT}
 use lib.Dec.{eqb}
 use lib.IntN.{ℤ}
@@ -37,7 +37,7 @@ use Rattle.table.specs.Table as Table
 use Rattle.table.specs.Table.{Lists}
 use Rattle.table.specs.declared.Listed.{Listed}
 use Rattle.table.specs.declared.Listed.the-variants as Listed
-use Rattle.recordings.specs.Answers.{Answer, value, refusal, _>>=_}
+use Rattle.recordings.specs.Answers.{Answer, value, refusal, _>>=_, indexed}
 use Rattle.recordings.specs.declared.Counts.{Counts}
 use Rattle.recordings.specs.declared.FactsTold.{FactsTold}
 use Rattle.recordings.specs.declared.FactsTold.the-variants as FactsTold
@@ -70,6 +70,11 @@ use Rattle.questions.specs.declared.headers.HeaderTold.{HeaderTold}
 use Rattle.questions.specs.declared.headers.HeaderTold.the-variants as HeaderTold
 use Rattle.questions.specs.declared.items.ItemTold.{ItemTold}
 use Rattle.questions.specs.declared.items.ItemTold.the-variants as ItemTold
+use Rattle.runs.specs.Runs as Runs
+use Rattle.runs.specs.Runs.{Element, elementOf, RunAnswer}
+use Rattle.runs.specs.declared.Ran.{Ran}
+use Rattle.runs.specs.declared.Ran.the-variants as Ran
+use Rattle.runs.specs.declared.Sibling.{Sibling}
 use Rattle.makers.specs.Makers.{firstMaker}
 use Rattle.permit.specs.Permit as Permit
 use Rattle.permit.specs.declared.Written.{Written}
@@ -88,7 +93,7 @@ use Rattle.answers.specs.declared.Item.{Item}
 use Rattle.answers.specs.declared.Montage.{Montage}
 use Rattle.answers.specs.declared.Sample.{Sample}
 use Rattle.answers.specs.declared.View.{View}
-use Rattle.psg.specs.Calls.{JudgeAnswers, TableAnswers, TurnAnswers, RewriteAnswers, RoomAnswers, HeaderAnswers, FactsAnswers, ChannelAnswers, MontageCountAnswers, MontageAnswers, PatientItemAnswers, EventItemAnswers, ClockAnswers, CountAnswers, SampleAnswers, ViewAnswers}
+use Rattle.psg.specs.Calls.{JudgeAnswers, TableAnswers, TurnAnswers, RewriteAnswers, RoomAnswers, HeaderAnswers, FactsAnswers, ChannelAnswers, MontageCountAnswers, MontageAnswers, PatientItemAnswers, EventItemAnswers, ClockAnswers, CountAnswers, SampleAnswers, ViewAnswers, RunAnswers}
 use Rattle.demands.specs.Bits.{ChannelIs, MontageIs, SampleIs, SamplesAt}
 
 -- Demand 1: every call answers, with a value or with a refusal that document 01 gives for it; and a buffer keeps what the answer does not state
@@ -108,6 +113,9 @@ ofRewrite n = ofFile n || (eqb n 19 || (eqb n 18 || eqb n 17))
 
 abbrev pub ofQuestion : ℕ → Bool
 ofQuestion n = ofFile n || eqb n 19
+
+abbrev pub ofRun : ℕ → Bool
+ofRun n = ofFile n || (eqb n 19 || eqb n 17)
 
 abbrev pub refusalOf : ℕ → ℕ → Refusal
 refusalOf n p = record { 0 = n; 1 = p }
@@ -231,6 +239,10 @@ pub record Boundary (s : List ℕ) : Type 0 where
   pub count : (i j k : ℕ) (a : Counted) → CountAnswers s i j k a → TakenApart s (CountAnswer s i j k) CountTold.Refused (λ b. flatCount (meaningC b)) ofQuestion 0 (a .refusal) (a .position) a
   pub sample : (i j k n : ℕ) (a : Sample) → SampleAnswers s i j k n a → TakenApart s (SampleAnswer s i j k n) SampleTold.Refused (λ b. flatSample (meaningS b)) ofQuestion 0 (a .refusal) (a .position) a
   pub view : (file : RefT (List ℕ)) → file .now ≡ s → (i j k : ℕ) (a : View) → ViewAnswers s i j k a → PartTold file i j k a
+  pub run : (b : Sibling) (i j k first n : ℕ) (out out′ : List (Element b)) (a : Counted) → RunAnswers b s i j k first n out out′ a →
+      TakenApart s (RunAnswer b s i j k first n out out′) Ran.Refused (λ c. flatCount (Runs.meaning c)) ofRun n (a .refusal) (a .position) a
+  pub run-keeps : (b : Sibling) (i j k first n : ℕ) (out out′ : List (Element b)) (a : Counted) → RunAnswers b s i j k first n out out′ a →
+      KeepsRest stoppedC wroteC 1 out out′ a
 
 -- of the file s: what each public call answers, whatever else it is asked
 pub record Demand-1 (s : List ℕ) : Type 0 where
@@ -259,6 +271,11 @@ pub record Demand-1 (s : List ℕ) : Type 0 where
   pub count : (i j k : ℕ) (a : CountTold) → CountAnswer s i j k a → Answered CountTold.Refused ofQuestion (length s) 0 a
   pub sample : (i j k n : ℕ) (a : SampleTold) → SampleAnswer s i j k n a → Answered SampleTold.Refused ofQuestion (length s) 0 a
   pub view : (file : RefT (List ℕ)) → file .now ≡ s → (i j k : ℕ) (r : RefT (List ℕ)) → ViewAnswer file i j k r → Shown file i j k r
+  -- a run of n samples, by either call: 17 counts the numbers asked for
+  pub run : (b : Sibling) (i j k first n : ℕ) (out out′ : List (Element b)) (a : Ran) → RunAnswer b s i j k first n out out′ a →
+      Answered Ran.Refused ofRun (length s) n a
+  pub run-keeps : (b : Sibling) (i j k first n : ℕ) (out out′ : List (Element b)) (a : Ran) → RunAnswer b s i j k first n out out′ a →
+      KeepsRest Ran.Refused Ran.Numbers 1 out out′ a
   -- each call that C links answers the same, taken apart; its number 0 is never a refusal
   pub boundary : Boundary s
 
@@ -299,6 +316,7 @@ pub record HandsUp (s : List ℕ) (n p : ℕ) : Type 0 where
   pub clock : (i j : ℕ) (a : ClockTold) → ClockAnswer s i j a → a ≡ ClockTold.Refused (refusalOf n p)
   pub count : (i j k : ℕ) (a : CountTold) → CountAnswer s i j k a → a ≡ CountTold.Refused (refusalOf n p)
   pub sample : (i j k m : ℕ) (a : SampleTold) → SampleAnswer s i j k m a → a ≡ SampleTold.Refused (refusalOf n p)
+  pub run : (b : Sibling) (i j k first m : ℕ) (out out′ : List (Element b)) (a : Ran) → RunAnswer b s i j k first m out out′ a → a ≡ Ran.Refused (refusalOf n p)
 
 -- the table of these rows: how many, and the numbers of each in front
 pub record TableHolds {E : Type 0} (wrote : ℕ → E) (rs : List Row) (out′ : List ℤ) (a : E) : Type 0 where
@@ -352,6 +370,26 @@ pub data Agree {A B : Type 0} (T : A → B → Type 0) : Answer A → Answer B �
   values : {a : A} {b : B} → T a b → Agree T (value a) (value b)
   refusals : {n p : ℕ} → Agree T (refusal n p) (refusal n p)
 
+-- A run of samples
+
+-- n samples from the first on that the reading has of channel k in frame j, by the call of the channel's format
+abbrev pub runRead : Sibling → Reading → (i j k first n : ℕ) → Answer (List Value)
+runRead b g i j k first n = do
+  vs ← samplesRead g i j k
+  c ← channelRead g i k
+  Runs.runWithin b first n (unsigned 4 (c .format)) vs
+
+-- a run of which the reading has xs, asked for with the buffer out: an answer of which this holds, and the buffer afterwards
+pub record RunTells (b : Sibling) (n : ℕ) (xs : Answer (List Value)) (out out′ : List (Element b)) (Says : Answer ℕ → Type 0) : Type 0 where
+  pub answer : Says (Runs.counted n (length out) xs)
+  pub buffer : out′ ≡ Runs.holding b n xs out
+
+-- entry q of the buffer is what the question answers about a sample: a whole number, or the 32 bits of a float
+pub record EntryTells (b : Sibling) (out′ : List (Element b)) (q : ℕ) (d : SampleTold) : Type 0 where
+  pub number : Number
+  pub told : d ≡ SampleTold.Value number
+  pub entry : indexed out′ q ≡ value (elementOf b (valueTold number))
+
 -- each question about a file with this reading answers what the reading says
 pub record Tells (s : List ℕ) (g : Reading) : Type 0 where
   pub header : (a : HeaderTold) → HeaderAnswer s a → meaningH a ≡ value (headerRead (R.orderOf s) g)
@@ -371,6 +409,13 @@ pub record Tells (s : List ℕ) (g : Reading) : Type 0 where
   pub sample : (i j k n : ℕ) (a : SampleTold) → SampleAnswer s i j k n a → (meaningS a >>= λ x. value (valueTold x)) ≡ sampleRead g i j k n
   -- the bytes of a view, by the channel's width and the file's order, are the reading's samples, as many as are counted
   pub view : (i j k : ℕ) (a : CountTold) → CountAnswer s i j k a → Alike (ViewIs s g i j k) (meaningC a) (samplesRead g i j k)
+  pub run : (b : Sibling) (i j k first n : ℕ) (out out′ : List (Element b)) (a : Ran) → RunAnswer b s i j k first n out out′ a →
+      RunTells b n (runRead b g i j k first n) out out′ (λ x. Runs.meaning a ≡ x)
+  -- where it is answered, the answer is the number asked for, and entry q is what the question answers about sample first + q
+  pub run-number : (b : Sibling) (i j k first n : ℕ) (out out′ : List (Element b)) (a : Ran) → RunAnswer b s i j k first n out out′ a →
+      (m : ℕ) → a ≡ Ran.Numbers m → m ≡ n
+  pub run-entry : (b : Sibling) (i j k first n : ℕ) (out out′ : List (Element b)) → RunAnswer b s i j k first n out out′ (Ran.Numbers n) →
+      (q : ℕ) → q < n → (d : SampleTold) → SampleAnswer s i j k (first + q) d → EntryTells b out′ q d
 
 -- an answer for C, in which n is the refusal and p its position, and what the reading has: the number 0 and a value of which this holds, or the refusal
 abbrev pub TellsC : {X : Type 0} → (X → Type 0) → (n p : ℕ) → Answer X → Type 0
@@ -419,6 +464,8 @@ pub record BoundaryTells (s : List ℕ) (g : Reading) : Type 0 where
   pub clock : (i j : ℕ) (a : Clock) → ClockAnswers s i j a → TellsC (ClockIs (timeC a)) (a .refusal) (a .position) (frameRead g i j)
   pub count : (i j k : ℕ) (a : Counted) → CountAnswers s i j k a → TellsC (λ vs. a .count ≡ length vs) (a .refusal) (a .position) (samplesRead g i j k)
   pub sample : (i j k n : ℕ) (a : Sample) → SampleAnswers s i j k n a → TellsC (SampleIs s g i j k n a) (a .refusal) (a .position) (sampleRead g i j k n)
+  pub run : (b : Sibling) (i j k first n : ℕ) (out out′ : List (Element b)) (a : Counted) → RunAnswers b s i j k first n out out′ a →
+      RunTells b n (runRead b g i j k first n) out out′ (λ x. a ≡ flatCount x)
   -- what is seen at the place that C is told
   pub view : (i j k : ℕ) (a : View) → ViewAnswers s i j k a → (vs : List Value) → samplesRead g i j k ≡ value vs → SamplesAt s g i k a vs
 
@@ -545,6 +592,8 @@ pub record BoundarySame (s s′ : List ℕ) : Type 0 where
   pub count : (i j k : ℕ) (a b : Counted) → CountAnswers s i j k a → CountAnswers s′ i j k b → a ≡ b
   pub sample : (i j k n : ℕ) (a b : Sample) → SampleAnswers s i j k n a → SampleAnswers s′ i j k n b → a ≡ b
   pub view : (i j k : ℕ) (a b : View) → ViewAnswers s i j k a → ViewAnswers s′ i j k b → a ≡ b
+  pub run : (c : Sibling) (i j k first n : ℕ) (out out₁ out₂ : List (Element c)) (a b : Counted) →
+      RunAnswers c s i j k first n out out₁ a → RunAnswers c s′ i j k first n out out₂ b → SameEnd a b out₁ out₂
   pub back : (out out′ : List ℕ) (a : Counted) → length s ≤ length out → TurnAnswers s′ out out′ a → Gives wroteC s out′ a
   pub anew : (order : ℕ) (to : Order) → lettered order ≡ Lettered.Names to →
       (out₁ out₁′ : List ℕ) (a : Counted) → length (rewritten to s) ≤ length out₁ → RewriteAnswers s order out₁ out₁′ a →
@@ -576,6 +625,9 @@ pub record Same (s : List ℕ) (g : Reading) (s′ : List ℕ) : Type 0 where
   pub count : (i j k : ℕ) (a b : CountTold) → CountAnswer s i j k a → CountAnswer s′ i j k b → a ≡ b
   pub sample : (i j k n : ℕ) (a b : SampleTold) → SampleAnswer s i j k n a → SampleAnswer s′ i j k n b → a ≡ b
   pub view : (i j k : ℕ) (file r file′ r′ : RefT (List ℕ)) → file .now ≡ s → file′ .now ≡ s′ → ViewAnswer file i j k r → ViewAnswer file′ i j k r′ → SameNumbers g i k file r file′ r′
+  -- the same run of samples: the answer, and the numbers in the buffer
+  pub run : (c : Sibling) (i j k first n : ℕ) (out out₁ out₂ : List (Element c)) (a b : Ran) →
+      RunAnswer c s i j k first n out out₁ a → RunAnswer c s′ i j k first n out out₂ b → SameEnd a b out₁ out₂
   -- turned again, with room, it is the first file, byte for byte
   pub back : (out out′ : List ℕ) (a : Written) → length s ≤ length out → Turns s′ out out′ a → Gives Written.Bytes s out′ a
   -- rewritten in one order, with room, either gives the same answer and bytes

@@ -5,10 +5,12 @@ use mathlib.Core.Path.{_≡_, sym, _∙_}
 use mathlib.Core.List.{List}
 use Prim.Native.Nat.{ℕ}
 use lib.IntN.{ℤ}
+use Rattle.runs.specs.Runs as Runs
+use Rattle.runs.specs.declared.Sibling.{Sibling}
 use Rattle.answers.specs.Flat.{Leaves}
 use Rattle.psg.specs.Calls.{JudgeAnswers, TableAnswers, TurnAnswers, RewriteAnswers, RoomAnswers}
 use Rattle.psg.specs.Calls.{HeaderAnswers, FactsAnswers, ChannelAnswers, MontageCountAnswers, MontageAnswers, PatientItemAnswers, EventItemAnswers}
-use Rattle.psg.specs.Calls.{ClockAnswers, CountAnswers, SampleAnswers, ViewAnswers}
+use Rattle.psg.specs.Calls.{ClockAnswers, CountAnswers, SampleAnswers, ViewAnswers, RunAnswers}
 use Rattle.answers.specs.declared.Channel.{Channel}
 use Rattle.answers.specs.declared.Clock.{Clock}
 use Rattle.answers.specs.declared.Counted.{Counted}
@@ -77,3 +79,7 @@ module _ (s : List ℕ) where
 
   pub psg-view-unique : (i j k : ℕ) (a b : View) → ViewAnswers s i j k a → ViewAnswers s i j k b → a ≡ b
   psg-view-unique i j k a b = only
+
+  -- a run of samples, by either call
+  pub psg-run-unique : (k : Sibling) (i j c first n : ℕ) (out out₁ out₂ : List (Runs.Element k)) (a b : Counted) → RunAnswers k s i j c first n out out₁ a → RunAnswers k s i j c first n out out₂ b → (a ≡ b) × (out₁ ≡ out₂)
+  psg-run-unique k i j c first n out out₁ out₂ a b = only-leaves

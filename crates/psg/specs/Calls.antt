@@ -12,6 +12,8 @@ use Rattle.turn.specs.Turn as Turn
 use Rattle.rewrite.specs.Rewrite as Rewrite
 use Rattle.room.specs.Room.{roomOf}
 use Rattle.questions.specs.Questions.{headerOf, factsOf, channelOf, montageCountOf, montageOf, patientItemOf, eventItemOf, clockOf, countOf, sampleOf, viewOf}
+use Rattle.runs.specs.Runs as Runs
+use Rattle.runs.specs.declared.Sibling.{Sibling}
 use Rattle.answers.specs.Flat.{Leaves, countedRows, countedBytes, flatHeader, flatHeading, flatFacts, flatChannel, flatMontage, flatItem, flatClock, flatCount, flatSample, flatView}
 use Rattle.answers.specs.declared.Channel.{Channel}
 use Rattle.answers.specs.declared.Clock.{Clock}
@@ -75,3 +77,7 @@ SampleAnswers s i j k n a = a ≡ flatSample (sampleOf s i j k n)
 
 abbrev pub ViewAnswers : List ℕ → ℕ → ℕ → ℕ → View → Type 0
 ViewAnswers s i j k a = a ≡ flatView (viewOf s i j k)
+
+-- n samples from the first on, by either call
+abbrev pub RunAnswers : (b : Sibling) → List ℕ → (i j k first n : ℕ) → (out out′ : List (Runs.Element b)) → Counted → Type 0
+RunAnswers b s i j k first n out out′ a = Leaves (flatCount (Runs.answerOf b s i j k first n (length out))) (Runs.afterwards b s i j k first n out) a out′

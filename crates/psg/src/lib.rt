@@ -2,7 +2,8 @@
 ghost use Rattle.psg.specs.Calls.{JudgeAnswers, TableAnswers, TurnAnswers, RewriteAnswers, RoomAnswers};
 ghost use Rattle.psg.specs.Calls.{HeaderAnswers, FactsAnswers, ChannelAnswers, MontageCountAnswers, MontageAnswers};
 ghost use Rattle.psg.specs.Calls.{PatientItemAnswers, EventItemAnswers, ClockAnswers};
-ghost use Rattle.psg.specs.Calls.{CountAnswers, SampleAnswers, ViewAnswers};
+ghost use Rattle.psg.specs.Calls.{CountAnswers, SampleAnswers, ViewAnswers, RunAnswers};
+ghost use Rattle.runs.specs.declared.Sibling.the-variants as Sibling;
 use answers::Channel;
 use answers::Clock;
 use answers::Counted;
@@ -153,4 +154,35 @@ pub extern "C" fn psg_view(file: &[u8], recording: usize, frame: usize, channel:
         start: part.at as u64,
         length: part.length as u64,
     }
+}
+
+// A run of samples: so many whole numbers, or the 32 bits of so many floats.
+#[no_mangle]
+pub extern "C" fn psg_run(
+    file: &[u8],
+    recording: usize,
+    frame: usize,
+    channel: usize,
+    first: usize,
+    number: usize,
+    samples: &mut [i64],
+) -> Counted
+    ensures { λ a. ⌜ RunAnswers Sibling.Whole (now (file .entry)) recording frame channel first number (now (samples .entry)) (now (samples .exit)) a ⌝ }
+{
+    answers::run_of(runs::run(file, recording, frame, channel, first, number, samples))
+}
+
+#[no_mangle]
+pub extern "C" fn psg_run_floats(
+    file: &[u8],
+    recording: usize,
+    frame: usize,
+    channel: usize,
+    first: usize,
+    number: usize,
+    bits: &mut [u32],
+) -> Counted
+    ensures { λ a. ⌜ RunAnswers Sibling.Floats (now (file .entry)) recording frame channel first number (now (bits .entry)) (now (bits .exit)) a ⌝ }
+{
+    answers::run_of(runs::run_floats(file, recording, frame, channel, first, number, bits))
 }

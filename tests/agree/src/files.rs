@@ -1,7 +1,7 @@
 //! Files made afresh, valid and damaged, through the library and the second program.
 
 use crate::buffers::written_differs;
-use ask::refused;
+use ask::{refused, Answer};
 use second::generate::{self, questions, Question};
 use second::judge::judge;
 use second::model::Model;
@@ -104,13 +104,42 @@ fn verdict_differs(file: &[u8], verdict: &Result<Model, Refusal>) -> Option<Stri
         .then(|| format!("judge: {found:?}, but the second program says {expected:?}"))
 }
 
+/// A difference in the answer, in the buffer where one was lent, or among a run's entries.
 fn answer_differs(file: &[u8], one: &Question) -> Option<String> {
-    let found = ask::answer(file, one.op, &one.args).map(|answer| answer.values);
-    let expected = second::ask::answer(file, one.op, &one.args);
-    (found != expected || found.is_none()).then(|| {
-        format!(
-            "{} {:?}: {found:?}, but the second program says {expected:?}",
-            one.op, one.args
-        )
-    })
+    let Question { op, args } = one;
+    let (found, stray) = match ask::answer(file, op, args) {
+        Some(Answer { values, stray }) => (Some(values), stray),
+        None => (None, None),
+    };
+    let expected = second::ask::answer(file, op, args);
+    let why = if found != expected || found.is_none() {
+        Some(format!(
+            "{found:?}, but the second program says {expected:?}"
+        ))
+    } else if let Some(place) = stray {
+        Some(format!("the lent buffer was written at {place}"))
+    } else {
+        entry_differs(file, one, found?.ok()?)
+    };
+    why.map(|why| format!("{op} {args:?}: {why}"))
+}
+
+/// The first entry of a run that is not what the single question answers.
+fn entry_differs(file: &[u8], run: &Question, values: String) -> Option<String> {
+    let is_float = match run.op {
+        "run_int" => 0,
+        "run_float" => 1,
+        _ => return None,
+    };
+    let [recording, frame, channel, first, ..] = run.args[..] else {
+        return None;
+    };
+    values
+        .split_whitespace()
+        .zip(first..)
+        .find_map(|(entry, sample)| {
+            let single = ask::answer(file, "sample", &[recording, frame, channel, sample])?.values;
+            let same = single == Ok(format!("{is_float} {entry}"));
+            (!same).then(|| format!("{entry}, but sample {sample} is {single:?}"))
+        })
 }

@@ -191,6 +191,33 @@ fn its_questions_are_answered_by_what_was_recorded() {
 }
 
 #[test]
+fn its_runs_are_what_was_recorded() {
+    let refused = |number, position| Err(Refusal { number, position });
+    for (_, file) in hours() {
+        for (channel, count) in (1..).zip(COUNTS) {
+            for frame in [1, 77, FRAMES] {
+                let run = |first, number, out: &mut [i64]| {
+                    psg::run(&file, 1, frame, channel, first, number, out)
+                };
+                for (first, number) in [(0, count), (1, count - 1), (count / 2, 3), (count, 0)] {
+                    let mut out = vec![i64::MAX; number + 1];
+                    assert_eq!(run(first, number, &mut out), Ok(number));
+                    assert_eq!(out.pop(), Some(i64::MAX));
+                    let samples = (first..first + number)
+                        .map(|sample| i64::from(recorded(frame, channel, sample)));
+                    assert!(out.into_iter().eq(samples), "{first} {number}");
+                }
+                assert_eq!(run(0, count, &mut [0; 9]), refused(17, count));
+                assert_eq!(run(0, count + 1, &mut []), refused(19, 0));
+                assert_eq!(run(count + 1, 0, &mut []), refused(19, 0));
+            }
+            let floats = psg::run_floats(&file, 1, 1, channel, 0, 0, &mut []);
+            assert_eq!(floats, refused(19, 0));
+        }
+    }
+}
+
+#[test]
 fn it_is_turned_there_and_back_and_rewritten_in_both_orders() {
     let [(_, little), (_, big)] = hours();
     assert!(psg::turned(&little).as_ref() == Ok(&big));

@@ -2,10 +2,11 @@
 
 use crate::refused;
 use second::header::MOST_RECORDINGS;
-use second::lines::{listed, written};
+use second::lines::{joined, listed, written};
 use second::record::MOST_MULTIPLIER;
 use second::refusal::Refusal;
 use second::table::ROW_NUMBERS;
+use std::fmt::Display;
 
 /// What a call came to.
 #[derive(Debug, PartialEq, Eq)]
@@ -25,6 +26,16 @@ pub fn marked<T: From<u8>>(length: usize) -> Vec<T> {
     (0..length).map(mark).collect()
 }
 
+/// What a call that writes floats answers; they are lent by their bits, so that these are compared and not the floats.
+pub fn by_bits<R>(bits: &mut [u32], call: impl FnOnce(&mut [f32]) -> R) -> R {
+    let mut floats: Vec<f32> = bits.iter().copied().map(f32::from_bits).collect();
+    let answer = call(&mut floats);
+    for (bits, float) in bits.iter_mut().zip(floats) {
+        *bits = float.to_bits();
+    }
+    answer
+}
+
 /// Room that no answer takes: padding may make each recording's canonical form longer, twice by less than a multiplier.
 const SPARE: usize = 2 * MOST_RECORDINGS * MOST_MULTIPLIER as usize;
 
@@ -35,7 +46,15 @@ pub struct Lent<T> {
 impl<T: From<u8> + PartialEq> Lent<T> {
     /// As much room as is asked for, but no more than the answer can depend on.
     pub fn new(file: &[u8], room: u64) -> Lent<T> {
-        let most = file.len() + SPARE;
+        Lent::up_to(file.len() + SPARE, room)
+    }
+
+    /// The same for a run: a channel has fewer samples than the file has bytes.
+    pub fn for_run(file: &[u8], room: u64) -> Lent<T> {
+        Lent::up_to(file.len(), room)
+    }
+
+    fn up_to(most: usize, room: u64) -> Lent<T> {
         let room = usize::try_from(room).map_or(most, |room| room.min(most));
         Lent {
             buffer: marked(room),
@@ -53,6 +72,13 @@ impl<T: From<u8> + PartialEq> Lent<T> {
             values: refused(count).map(|count| values(&self.buffer[..count])),
             stray: (from..self.buffer.len()).find(|&at| self.buffer[at] != mark(at)),
         }
+    }
+}
+
+impl<T: Display + From<u8> + PartialEq> Lent<T> {
+    /// What a call that writes samples came to.
+    pub fn numbers(&self, count: Result<usize, psg::Refusal>) -> Answer {
+        self.answer(count, joined)
     }
 }
 

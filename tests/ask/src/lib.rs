@@ -3,11 +3,13 @@
 
 mod lent;
 
+use lent::by_bits;
 pub use lent::{marked, Answer, Lent};
 
 use psg::{Calibration, Channel, FloatBits, Heading, Item, Montage, Text};
 use second::lines::joined;
 use second::refusal::Refusal;
+use std::fmt::Display;
 
 /// The library's answer; nothing when it has no such question.
 pub fn answer(file: &[u8], op: &str, args: &[u64]) -> Option<Answer> {
@@ -18,6 +20,18 @@ pub fn answer(file: &[u8], op: &str, args: &[u64]) -> Option<Answer> {
             let letter = u8::try_from(letter).ok()?;
             let rewrite = |out: &mut [u8]| psg::rewrite_by_letter(file, letter, out);
             return Some(bytes(file, room, rewrite));
+        }
+        ("run_int", args) => {
+            return run(file, args, |[r, f, c, first, number], out| {
+                psg::run(file, r, f, c, first, number, out)
+            });
+        }
+        ("run_float", args) => {
+            return run(file, args, |[r, f, c, first, number], bits| {
+                by_bits(bits, |out| {
+                    psg::run_floats(file, r, f, c, first, number, out)
+                })
+            });
         }
         _ => {}
     }
@@ -47,6 +61,19 @@ fn bytes(
     let mut lent = Lent::new(file, room);
     let length = call(&mut lent.buffer);
     lent.written(length)
+}
+
+/// A run of samples; nothing where the arguments are not as many as one has.
+fn run<T: Display + From<u8> + PartialEq>(
+    file: &[u8],
+    args: &[u64],
+    call: impl Fn([usize; 5], &mut [T]) -> Result<usize, psg::Refusal>,
+) -> Option<Answer> {
+    let (&room, place) = args.split_last()?;
+    let place: [u64; 5] = place.try_into().ok()?;
+    let mut lent = Lent::for_run(file, room);
+    let count = call(place.map(|arg| arg as usize), &mut lent.buffer);
+    Some(lent.numbers(count))
 }
 
 /// The questions that lend no buffer.

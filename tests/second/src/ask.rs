@@ -6,6 +6,7 @@ use crate::model::{Calibration, Item, Model, Sample, Span, Sub};
 use crate::questions;
 use crate::refusal::Refusal;
 use crate::rewrite::{rewrite, rewrite_room};
+use crate::run::{run_float, run_int, Run};
 use crate::table::table;
 use crate::turn::turn;
 
@@ -34,10 +35,30 @@ pub fn answer(file: &[u8], op: &str, args: &[u64]) -> Option<Result<String, Refu
         ("count", &[r, f, c]) => questions::count(file, r, f, c).map(|n| n.to_string()),
         ("view", &[r, f, c]) => Ok(span_values(questions::view(file, r, f, c))),
         ("sample", &[r, f, c, s]) => questions::sample(file, r, f, c, s).map(sample_values),
+        ("run_int", &[ref run @ .., room]) => {
+            run_int(file, run_of(run)?, room).map(|samples| joined(&samples))
+        }
+        ("run_float", &[ref run @ .., room]) => {
+            run_float(file, run_of(run)?, room).map(|samples| joined(&samples))
+        }
         ("rewrite", &[order, room]) => rewrite(file, order, room).map(|out| written(&out)),
         ("rewrite_room", &[]) => rewrite_room(file).map(|n| n.to_string()),
         ("turn", &[room]) => turn(file, room).map(|out| written(&out)),
         _ => return None,
+    })
+}
+
+/// The run that the arguments before the room ask for.
+fn run_of(args: &[u64]) -> Option<Run> {
+    let &[recording, frame, channel, first, number] = args else {
+        return None;
+    };
+    Some(Run {
+        recording,
+        frame,
+        channel,
+        first,
+        number,
     })
 }
 

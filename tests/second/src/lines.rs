@@ -57,6 +57,8 @@ impl Desk {
 /// The answer line.
 pub fn answer_line(answer: Result<String, Refusal>) -> String {
     match answer {
+        // A run of no samples has no values.
+        Ok(values) if values.is_empty() => "ok".to_string(),
         Ok(values) => format!("ok {values}"),
         Err(refusal) => refusal.to_string(),
     }

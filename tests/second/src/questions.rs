@@ -9,7 +9,7 @@ use crate::model::{Frame, Item, Model, Sample, Slot, Span, Sub};
 use crate::record::Format;
 use crate::refusal::{self, Refusal};
 
-const OUTSIDE: Refusal = Refusal::new(refusal::QUESTION, 0);
+pub const OUTSIDE: Refusal = Refusal::new(refusal::QUESTION, 0);
 
 /// The header's values. Nothing is outside its range.
 pub fn header(file: &[u8]) -> Result<Header, Refusal> {
@@ -118,7 +118,8 @@ pub fn sample_at(order: Order, file: &[u8], at: usize, format: Format) -> Sample
     }
 }
 
-fn samples_of(
+/// Where the samples of a channel stand in a frame.
+pub fn samples_of(
     model: &Model,
     recording: u64,
     frame: u64,

@@ -433,6 +433,11 @@ impl Format {
             Format::Signed32 | Format::Float32 => 4,
         }
     }
+
+    /// Whether a sample is a float, and no whole number.
+    pub fn is_float(self) -> bool {
+        self == Format::Float32
+    }
 }
 
 /// What a channel's rate counts.

@@ -68,17 +68,21 @@ fn every_question_is_answered_and_refused() {
         match (words.next(), words.next()) {
             (Some("refused"), Some(number)) => {
                 found.insert(format!("{op} refused"));
+                found.insert(format!("{op} refused {number}"));
                 found.insert(format!("refused {number}"));
             }
-            _ => {
+            (_, value) => {
                 let file = fs::read(folder.join(file)).unwrap();
                 found.insert(format!("{op} ok"));
+                let values = value.map_or("empty", |_| "with values");
+                found.insert(format!("{op} ok {values}"));
                 found.insert(format!("{op} ok {:?}", spelling(&file)));
                 found.insert(format!("{op} ok {:?}", form(&file)));
             }
         }
     }
-    let ops = "table header facts channel montage_count patient_item event_item clock count sample rewrite rewrite_room turn";
+    let ops = "table header facts channel montage_count patient_item event_item clock count sample run_int run_float \
+        rewrite rewrite_room turn";
     for op in ops.split(' ') {
         assert!(found.contains(&format!("{op} refused")), "{op} refused");
         let spellings = Spelling::ALL.map(|spelling| format!("{op} ok {:?}", Some(spelling)));
@@ -89,6 +93,12 @@ fn every_question_is_answered_and_refused() {
     }
     assert!(found.contains("montage ok") && found.contains("montage refused"));
     assert!(found.contains("view ok") && !found.contains("view refused"));
+    for op in ["run_int", "run_float"] {
+        for shown in "ok empty, ok with values, refused 17, refused 19".split(", ") {
+            let shown = format!("{op} {shown}");
+            assert!(found.contains(&shown), "{shown}");
+        }
+    }
     for number in 1..=19 {
         assert!(found.contains(&format!("refused {number}")), "{number}");
     }

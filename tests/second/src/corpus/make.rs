@@ -109,6 +109,8 @@ fn writing(file: &[u8]) -> Vec<Question> {
         rewrite(Order::Little.letter()),
         rewrite(Order::Big.letter()),
         rewrite(NO_ORDER),
+        ("run_int", whole_run(file, false)),
+        ("run_float", whole_run(file, true)),
     ];
     let mut all = Vec::new();
     for (op, before) in calls {
@@ -125,4 +127,16 @@ fn writing(file: &[u8]) -> Vec<Question> {
         all.extend(rooms.into_iter().map(question));
     }
     all
+}
+
+/// All samples of the first channel of whole numbers, or of floats, in the first frame. Where there is none, channel 1
+/// is asked for one.
+fn whole_run(file: &[u8], floats: bool) -> Vec<u64> {
+    let found = judge(file).ok().and_then(|model| {
+        let mut slots = (1..).zip(&model.recordings[0].block.slots);
+        let (channel, slot) = slots.find(|(_, slot)| slot.format.is_float() == floats)?;
+        Some((channel, slot.count))
+    });
+    let (channel, count) = found.unwrap_or((1, 1));
+    vec![1, 1, channel, 0, count]
 }

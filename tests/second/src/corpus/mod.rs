@@ -11,9 +11,15 @@ use std::io;
 use std::path::{Path, PathBuf};
 
 /// The names of a corpus' question lines; `count` and `view` may stand apart,
-/// and so may those of request 3, `header`, and of request 1, `montage_count` and
-/// `montage`.
-const QUESTIONS: &[&str] = &["questions", "questions-old", "questions-3", "questions-1"];
+/// and so may those of request 3, `header`, of request 1, `montage_count` and
+/// `montage`, and of request 4, `run_int` and `run_float`.
+const QUESTIONS: &[&str] = &[
+    "questions",
+    "questions-old",
+    "questions-3",
+    "questions-1",
+    "questions-4",
+];
 
 #[derive(Clone, Debug, Default, PartialEq, Eq)]
 pub struct Comparison {

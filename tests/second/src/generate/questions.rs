@@ -1,7 +1,7 @@
 //! Questions drawn for a file: each argument at the bounds of its range and far outside, the others inside it.
 
 use crate::judge::judge;
-use crate::model::Recording;
+use crate::model::{Recording, Slot};
 use crate::random::Random;
 
 #[derive(Clone, Debug, PartialEq, Eq)]
@@ -19,6 +19,12 @@ const fn plain(op: &'static str) -> Question {
         args: Vec::new(),
     }
 }
+
+/// The questions for a run of samples, and whether they are for floats.
+const RUNS: [(&str, bool); 2] = [("run_int", false), ("run_float", true)];
+
+/// Where a run's first sample stands among the arguments; the number and the room follow it.
+const FIRST: usize = 3;
 
 /// The first number of a range, and how many there are.
 type Range = (u64, u64);
@@ -48,7 +54,9 @@ pub fn questions(file: &[u8], random: &mut Random) -> Vec<Question> {
     let mut drawn = PLAIN.to_vec();
     match judge(file) {
         Err(_) => {
-            for (op, ranges) in ranges(1, None, random) {
+            let mut all = ranges(1, None, random);
+            all.extend(run_ranges(1, None, random));
+            for (op, ranges) in all {
                 let args = all_inside(random, &ranges);
                 drawn.push(Question { op, args });
             }
@@ -56,10 +64,16 @@ pub fn questions(file: &[u8], random: &mut Random) -> Vec<Question> {
         Ok(model) => {
             let count = model.recordings.len() as u64;
             let which = inside(random, (0, count)) as usize;
-            for (op, mut ranges) in ranges(count, model.recordings.get(which), random) {
+            let recording = model.recordings.get(which);
+            let number = which as u64 + 1;
+            for (op, mut ranges) in ranges(count, recording, random) {
                 about(op, &ranges, random, &mut drawn);
-                ranges[0] = (which as u64 + 1, 1);
+                ranges[0] = (number, 1);
                 about(op, &ranges, random, &mut drawn);
+            }
+            for (op, ranges) in run_ranges(number, recording, random) {
+                about(op, &ranges, random, &mut drawn);
+                runs(op, &ranges, random, &mut drawn);
             }
         }
     }
@@ -94,6 +108,34 @@ fn ranges(
     ]
 }
 
+/// The questions for a run, with the ranges of their arguments in a recording.
+fn run_ranges(
+    number: u64,
+    recording: Option<&Recording>,
+    random: &mut Random,
+) -> Vec<(&'static str, Ranges)> {
+    let slots: &[Slot] = recording.map_or(&[], |r| &r.block.slots);
+    let frames = recording.map_or(1, |r| r.block.frames.len() as u64);
+    let run = |(op, floats)| {
+        let channel = run_channel(slots, floats, random);
+        let count = slots.get(channel).map_or(1, |slot| slot.count);
+        let place = [(number, 1), (1, frames), (channel as u64 + 1, 1)];
+        (op, [place, [(0, count + 1); 3]].concat())
+    };
+    RUNS.into_iter().map(run).collect()
+}
+
+/// A channel that the question is for; now and then, and where there is none, any.
+fn run_channel(slots: &[Slot], floats: bool, random: &mut Random) -> usize {
+    const ANY_PERCENT: usize = 10;
+    let is_for = |&channel: &usize| slots[channel].format.is_float() == floats;
+    let channels: Vec<usize> = (0..slots.len()).filter(is_for).collect();
+    if channels.is_empty() || random.chance(ANY_PERCENT) {
+        return inside(random, (0, slots.len() as u64)) as usize;
+    }
+    random.pick(&channels)
+}
+
 /// One question with each argument in turn at its bounds, then with some inside and some of any size.
 fn about(op: &'static str, ranges: &Ranges, random: &mut Random, drawn: &mut Vec<Question>) {
     for (place, &(first, count)) in ranges.iter().enumerate() {
@@ -112,6 +154,41 @@ fn about(op: &'static str, ranges: &Ranges, random: &mut Random, drawn: &mut Vec
         });
         let place = random.below(args.len());
         args[place] = any(random);
+        drawn.push(Question { op, args });
+    }
+}
+
+/// Runs of one channel in a frame: first, number and room that belong together.
+fn runs(op: &'static str, ranges: &Ranges, random: &mut Random, drawn: &mut Vec<Question>) {
+    let count = ranges[FIRST].1 - 1;
+    let first = inside(random, ranges[FIRST]);
+    let rest = count - first;
+    let number = inside(random, (0, rest + 1));
+    let answered = [
+        [0, count, count],
+        [first, number, number + 3],
+        [first, rest, u64::MAX],
+        [count, 0, 0],
+    ];
+    let short = [[first, rest, rest.saturating_sub(1)], [0, count, 0]];
+    let behind = [
+        [first, rest + 1, u64::MAX],
+        [first, rest + 1, 0],
+        [count + 1, 0, 0],
+    ];
+    // Their end, or the bytes up to it, are more than 64 bits hold.
+    let far = [
+        [u64::MAX, 1, 1],
+        [1, u64::MAX, 0],
+        [1 << 63, 1 << 63, u64::MAX],
+        [first.wrapping_neg(), first + number, u64::MAX],
+        [1 << 62, number, number],
+        [u64::MAX / 3 + 1, number, number],
+        [first, 1 << 61, 0],
+    ];
+    for run in answered.iter().chain(&short).chain(&behind).chain(&far) {
+        let mut args = all_inside(random, ranges);
+        args[FIRST..].copy_from_slice(run);
         drawn.push(Question { op, args });
     }
 }
