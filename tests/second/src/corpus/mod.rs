@@ -12,13 +12,15 @@ use std::path::{Path, PathBuf};
 
 /// The names of a corpus' question lines; `count` and `view` may stand apart,
 /// and so may those of request 3, `header`, of request 1, `montage_count` and
-/// `montage`, and of request 4, `run_int` and `run_float`.
+/// `montage`, of request 4, `run_int` and `run_float`, and of request 7, `index` and
+/// `event_kind`.
 const QUESTIONS: &[&str] = &[
     "questions",
     "questions-old",
     "questions-3",
     "questions-1",
     "questions-4",
+    "questions-7",
 ];
 
 #[derive(Clone, Debug, Default, PartialEq, Eq)]
