@@ -23,7 +23,6 @@ const AGAIN: usize = 1000;
 /// Where less of a call than this is not judging, that rest is within the noise, and is not told.
 const LEAST_REST: f64 = 0.2;
 
-/// The goal is for little-endian files, against `from_le_bytes`.
 const GOAL: f64 = 1.0;
 
 /// The table, with a night of so many seconds.
@@ -159,10 +158,7 @@ fn line(name: &str, mut work: Work) {
         Default::default()
     } else {
         let ratio = timing::ratio(plain, &rest);
-        let goal = match work.order {
-            Order::Little => timing::goal(GOAL, ratio),
-            Order::Big => String::new(),
-        };
+        let goal = timing::goal(GOAL, ratio);
         let decoding = format!("{:.2}", micros(&rest));
         (decoding, format!("{ratio:.2}"), goal)
     };
