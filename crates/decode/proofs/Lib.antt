@@ -1,2 +1,3 @@
 pub mod Loops
 pub mod Centred
+pub mod Turned

@@ -1,32 +1,16 @@
 -- A loop that decodes words front to back: once over the width, the order, and what a word means.
 -- Assumes nothing.
-use mathlib.Core.Path.{_≡_, refl, sym, ap, subst, _∙_}
+use mathlib.Core.Path.{_≡_, refl, sym, ap, _∙_}
 use mathlib.Core.List.{List}
-use Prim.Native.Nat.{ℕ, _+_, _*_, _^_, _≤_, _<_, zero-le}
+use Prim.Native.Nat.{ℕ, _+_, _*_, _≤_, _<_, zero-le}
 use native.Mathlib.Nat.{zero-mul, add-mul, mul-le-mul-right}
 use native.Mathlib.Omega.{arith}
 use borrow.Author.Count.{below-more}
-use lib.IntN.{ℤ}
 use lib.ListN.{length, getD, set, length-set}
 use lib.Seq.{getD-set-same, getD-set-other}
-use lib.Signed.{mag}
-use mir.Syntax.{w32, w64}
-use mir.Val.{SFits, toZ, ofZ}
-use mir.Facts.{toZ-ofZ}
 use Rattle.words.specs.Numbers.{numberAt}
 use Rattle.words.specs.declared.Order.{Order}
-use Rattle.words.proofs.Ints.{kept}
 use Rattle.decode.specs.Decoded.{Decoded}
-
--- a signed number of 32 bits that a call gave, stored as one of 64
-wide : (z : ℤ) → mag z < 2 ^ 31 → SFits w64 z
-wide z h = record { sfits = omega arith }
-
-pub widens : (z : ℤ) → mag z < 2 ^ 31 → SFits w64 (toZ w32 (ofZ w32 z))
-widens z h = rw (kept z h) (wide z h)
-
-pub widened : {z n : ℤ} → mag z < 2 ^ 31 → z ≡ n → toZ w64 (ofZ w64 (toZ w32 (ofZ w32 z))) ≡ n
-widened {z} h e = rw (kept z h) (toZ-ofZ (wide z h)) ∙ e
 
 -- the first i words of s are decoded, and stand in front in d
 pub record Decoding {A : Type 0} (none : A) (means : ℕ → A) (o : Order) (w : ℕ) (s : List ℕ) (d₀ d : List A) (i at : ℕ) : Type 0 where

@@ -1,93 +1,188 @@
-// The numbers of a run of bytes, decoded into a lent buffer: one loop for each width, and the byte order told outside it.
+// The numbers of a run of bytes, decoded into a lent buffer: one loop for whole numbers and one for floats, the width and the byte order told outside it.
+// The order is a bool here and not an `Order`: a call that tells it as a constant is then made a loop of its own by the compiler.
 ghost use mathlib.Core.Path.{_≡_};
-ghost use Prim.Native.Nat.{_*_, _<_};
+ghost use Prim.Native.Nat.{_+_, _*_, _≤_, _<_};
 ghost use lib.IntN.{pos};
 ghost use lib.ListN.{length};
-ghost use Rattle.words.specs.Values.{signed};
+ghost use Rattle.words.specs.Numbers.{word, wordIn, bytesIn, numberAt};
+ghost use Rattle.words.specs.Values.{wordCount, signed};
+ghost use Rattle.words.specs.declared.Order.the-variants as Order;
 ghost use Rattle.rules.specs.Rules as R;
 ghost use Rattle.decode.specs.Decoded.{Decoded, itself};
+ghost use Rattle.decode.specs.Wide.{orderFor, Wide, NumberAt, Numbers};
 use rules::Channel;
 use words::Order;
-use words::int3;
-use words::int4;
-use words::number2;
-use words::number4;
+use words::byte;
+use words::number3;
 
-// The signed value of a word of two bytes, without a branch, in the form that the compiler makes one extension of the sign.
-fn short(n: u32) -> i64
-    requires { ⌜ n < 65536 ⌝ }
-    ensures { λ r. ⌜ r ≡ signed 2 n ⌝ }
+// The little-endian number of two bytes, at places that the compiler knows, so that it makes one load.
+fn little2(s: &[u8]) -> u32
+    requires { ⌜ length (now s) ≡ 2 ⌝ }
+    ensures { λ r. ⌜ r ≡ word (now (s .entry)) ⌝ }
 {
-    ((n + 32768) % 65536) as i64 - 32768
+    let b0 = byte(s, 0);
+    let b1 = byte(s, 1);
+    b0 + b1 * 256
 }
 
-// Signed numbers of two bytes.
-fn shorts(o: Order, s: &[u8], d: &mut [i64])
-    requires { ⌜ length (now s) ≡ length (now d) * 2 ⌝ }
-    ensures { λ _. ⌜ Decoded (pos 0) (signed 2) o 2 (now (s .entry)) (now (d .entry)) (now (d .exit)) ⌝ }
+// The same of four bytes.
+fn little4(s: &[u8]) -> u32
+    requires { ⌜ length (now s) ≡ 4 ⌝ }
+    ensures { λ r. ⌜ r ≡ word (now (s .entry)) ⌝ }
 {
-    let mut i = 0;
-    let mut at = 0;
-    while i < d.len() {
-        d[i] = short(number2(o, s, at));
-        at += 2;
-        i += 1;
+    let b0 = byte(s, 0);
+    let b1 = byte(s, 1);
+    let b2 = byte(s, 2);
+    let b3 = byte(s, 3);
+    b0 + b1 * 256 + b2 * 65536 + b3 * 16777216
+}
+
+// The big-endian number of the two bytes of a little-endian one, by arithmetic, for which the compiler turns a word.
+fn turned2(n: u32) -> u32
+    ensures { λ r. ⌜ r ≡ wordIn Order.Big (bytesIn Order.Little 2 n) ⌝ }
+{
+    n / 256 % 256 + 256 * (n % 256)
+}
+
+// The same of four bytes.
+fn turned4(n: u32) -> u32
+    ensures { λ r. ⌜ r ≡ wordIn Order.Big (bytesIn Order.Little 4 n) ⌝ }
+{
+    let b0 = n % 256;
+    let b1 = n / 256 % 256;
+    let b2 = n / 256 / 256 % 256;
+    let b3 = n / 256 / 256 / 256 % 256;
+    b3 + 256 * (b2 + 256 * (b1 + 256 * b0))
+}
+
+// The number of two bytes.
+fn word2(big: bool, s: &[u8], at: usize) -> u32
+    requires { ⌜ at + 2 ≤ length (now s) ⌝ }
+    ensures { λ r. ⌜ r ≡ numberAt (orderFor big) 2 (now (s .entry)) at ⌝ }
+{
+    let end = at + 2;
+    let n = little2(&s[at..end]);
+    if big {
+        return turned2(n);
     }
+    n
 }
 
-// Signed numbers of three bytes.
-fn triples(o: Order, s: &[u8], d: &mut [i64])
-    requires { ⌜ length (now s) ≡ length (now d) * 3 ⌝ }
-    ensures { λ _. ⌜ Decoded (pos 0) (signed 3) o 3 (now (s .entry)) (now (d .entry)) (now (d .exit)) ⌝ }
+// The number of four bytes.
+fn word4(big: bool, s: &[u8], at: usize) -> u32
+    requires { ⌜ at + 4 ≤ length (now s) ⌝ }
+    ensures { λ r. ⌜ r ≡ numberAt (orderFor big) 4 (now (s .entry)) at ⌝ }
 {
-    let mut i = 0;
-    let mut at = 0;
-    while i < d.len() {
-        d[i] = int3(o, s, at) as i64;
-        at += 3;
-        i += 1;
+    let end = at + 4;
+    let n = little4(&s[at..end]);
+    if big {
+        return turned4(n);
     }
+    n
 }
 
-// Signed numbers of four bytes.
-fn longs(o: Order, s: &[u8], d: &mut [i64])
-    requires { ⌜ length (now s) ≡ length (now d) * 4 ⌝ }
-    ensures { λ _. ⌜ Decoded (pos 0) (signed 4) o 4 (now (s .entry)) (now (d .entry)) (now (d .exit)) ⌝ }
+// The number of three bytes that have one before them: of the four together, without the first.
+fn word3(big: bool, s: &[u8], at: usize) -> u32
+    requires { ⌜ (1 ≤ at) × (at + 3 ≤ length (now s)) ⌝ }
+    ensures { λ r. ⌜ r ≡ numberAt (orderFor big) 3 (now (s .entry)) at ⌝ }
+{
+    let n = word4(big, s, at - 1);
+    if big {
+        return n % 16777216;
+    }
+    n / 256
+}
+
+// The number of three bytes at the start.
+fn first3(big: bool, s: &[u8]) -> u32
+    requires { ⌜ 3 ≤ length (now s) ⌝ }
+    ensures { λ r. ⌜ r ≡ numberAt (orderFor big) 3 (now (s .entry)) 0 ⌝ }
+{
+    if big {
+        return number3(Order::Big, s, 0);
+    }
+    number3(Order::Little, s, 0)
+}
+
+// The number of so many bytes.
+fn number(big: bool, width: usize, s: &[u8], at: usize) -> u32
+    requires { ⌜ NumberAt width (now s) at ⌝ }
+    ensures { λ r. ⌜ r ≡ numberAt (orderFor big) width (now (s .entry)) at ⌝ }
+{
+    if width == 2 {
+        return word2(big, s, at);
+    }
+    if width == 4 {
+        return word4(big, s, at);
+    }
+    if at == 0 {
+        return first3(big, s);
+    }
+    word3(big, s, at)
+}
+
+// The signed value of a word, without a branch, in the form that the compiler makes one extension of the sign.
+fn value(width: usize, n: u32) -> i64
+    requires { ⌜ Wide width × (n < wordCount width) ⌝ }
+    ensures { λ r. ⌜ r ≡ signed width n ⌝ }
+{
+    if width == 2 {
+        return ((n + 32768) % 65536) as i64 - 32768;
+    }
+    if width == 3 {
+        return ((n + 8388608) % 16777216) as i64 - 8388608;
+    }
+    ((n as u64 + 2147483648) % 4294967296) as i64 - 2147483648
+}
+
+// The signed number of so many bytes.
+fn whole(big: bool, width: usize, s: &[u8], at: usize) -> i64
+    requires { ⌜ NumberAt width (now s) at ⌝ }
+    ensures { λ r. ⌜ r ≡ signed width (numberAt (orderFor big) width (now (s .entry)) at) ⌝ }
+{
+    let n = number(big, width, s, at);
+    value(width, n)
+}
+
+// Signed numbers of so many bytes.
+fn wholes(big: bool, width: usize, s: &[u8], d: &mut [i64])
+    requires { ⌜ Numbers width (now s) (now d) ⌝ }
+    ensures { λ _. ⌜ Decoded (pos 0) (signed width) (orderFor big) width (now (s .entry)) (now (d .entry)) (now (d .exit)) ⌝ }
 {
     let mut i = 0;
     let mut at = 0;
     while i < d.len() {
-        d[i] = int4(o, s, at) as i64;
-        at += 4;
+        d[i] = whole(big, width, s, at);
+        at += width;
         i += 1;
     }
 }
 
 // The words of four bytes as they are, the 32 bits of floats.
-fn words_of(o: Order, s: &[u8], d: &mut [u32])
+fn words_of(big: bool, s: &[u8], d: &mut [u32])
     requires { ⌜ length (now s) ≡ length (now d) * 4 ⌝ }
-    ensures { λ _. ⌜ Decoded 0 itself o 4 (now (s .entry)) (now (d .entry)) (now (d .exit)) ⌝ }
+    ensures { λ _. ⌜ Decoded 0 itself (orderFor big) 4 (now (s .entry)) (now (d .entry)) (now (d .exit)) ⌝ }
 {
     let mut i = 0;
     let mut at = 0;
     while i < d.len() {
-        d[i] = number4(o, s, at);
+        d[i] = word4(big, s, at);
         at += 4;
         i += 1;
     }
 }
 
-// The whole numbers of a channel of this format, in an order that the compiler knows.
-fn numbers_in(o: Order, format: u32, s: &[u8], d: &mut [i64])
+// The whole numbers of a channel of this format: a width that the compiler knows in each call.
+fn numbers_in(big: bool, format: u32, s: &[u8], d: &mut [i64])
     requires { ⌜ length (now s) ≡ length (now d) * R.width format ⌝ }
-    ensures { λ _. ⌜ Decoded (pos 0) (signed (R.width format)) o (R.width format) (now (s .entry)) (now (d .entry)) (now (d .exit)) ⌝ }
+    ensures { λ _. ⌜ Decoded (pos 0) (signed (R.width format)) (orderFor big) (R.width format) (now (s .entry)) (now (d .entry)) (now (d .exit)) ⌝ }
 {
     if format == Channel::SHORTS {
-        shorts(o, s, d);
+        wholes(big, 2, s, d);
     } else if format == Channel::TRIPLES {
-        triples(o, s, d);
+        wholes(big, 3, s, d);
     } else {
-        longs(o, s, d);
+        wholes(big, 4, s, d);
     }
 }
 
@@ -97,8 +192,8 @@ pub fn numbers(o: Order, format: u32, s: &[u8], d: &mut [i64])
     ensures { λ _. ⌜ Decoded (pos 0) (signed (R.width format)) o (R.width format) (now (s .entry)) (now (d .entry)) (now (d .exit)) ⌝ }
 {
     match o {
-        Order::Little => numbers_in(Order::Little, format, s, d),
-        Order::Big => numbers_in(Order::Big, format, s, d),
+        Order::Little => numbers_in(false, format, s, d),
+        Order::Big => numbers_in(true, format, s, d),
     }
 }
 
@@ -108,7 +203,7 @@ pub fn patterns(o: Order, s: &[u8], d: &mut [u32])
     ensures { λ _. ⌜ Decoded 0 itself o 4 (now (s .entry)) (now (d .entry)) (now (d .exit)) ⌝ }
 {
     match o {
-        Order::Little => words_of(Order::Little, s, d),
-        Order::Big => words_of(Order::Big, s, d),
+        Order::Little => words_of(false, s, d),
+        Order::Big => words_of(true, s, d),
     }
 }

@@ -8,15 +8,14 @@ use native.Mathlib.Omega.{arith}
 use borrow.Author.Tests.{eq-eqb, ne-eqb, eqb-true, eqb-false}
 use lib.Dec.{eqb}
 use lib.IntN.{pos}
-use lib.ListN.{length, take, drop, length-drop}
-use lib.Seq.{length-take-le}
+use lib.ListN.{length}
 use Rattle.words.specs.Floats.{nanPattern}
 use Rattle.words.specs.Numbers.{Bytes, numberAt}
 use Rattle.words.specs.Values.{signed, unsigned}
 use Rattle.words.specs.declared.Order.{Order}
 use Rattle.words.proofs.Floats.{bitsOf-floatOf}
 use Rattle.words.proofs.Values.{signed-pos, unsigned-signed}
-use Rattle.words.proofs.Words.{bytes-take, bytes-drop, wordIn-lt}
+use Rattle.words.proofs.Words.{number-lt}
 use Rattle.walk.specs.Walk.{Event, pick, passed}
 use Rattle.rules.specs.Rules as R
 use Rattle.rules.specs.Rules.{orderOf, width}
@@ -40,13 +39,6 @@ use Rattle.demands.specs.Bits.{valueIn, WordIs, CalibrationIs, FloatAt, 
 use Rattle.demands.specs.Demands.{channelCode}
 use Rattle.answers.specs.Flat.{areFloats, flatChannel, flatSample}
 use Rattle.answers.specs.declared.Sample.{Sample}
-
--- a number of w bytes
-number-lt : (o : Order) (w : ℕ) (s : List ℕ) (p : ℕ) → Bytes s → p + w ≤ length s → numberAt o w s p < 256 ^ w
-unfolding numberAt
-number-lt o w s p b l =
-    let e : length (take w (drop p s)) ≡ w = length-take-le w (drop p s) (rw length-drop (omega arith)) in
-    rw e at (wordIn-lt o (take w (drop p s)) (bytes-take w (drop p s) (bytes-drop p s b)))
 
 -- Calibration
 

@@ -1,12 +1,13 @@
 -- Bytes and the numbers that they stand for, once over the width.
 -- Assumes nothing.
-use mathlib.Core.Path.{_≡_, refl, ap, _∙_}
+use mathlib.Core.Path.{_≡_, refl, sym, ap, _∙_}
 use mathlib.Core.List.{List, [], _∷_, reverse, reverseAux, reverse-reverse}
-use Prim.Native.Nat.{ℕ, zero, suc, _+_, _*_, _/_, _%_, _^_, _<_}
+use Prim.Native.Nat.{ℕ, zero, suc, _+_, _*_, _/_, _%_, _^_, _≤_, _<_}
 use native.Mathlib.Nat.{pow-zero, pow-suc, div-lt-iff-lt-mul, zero-lt-suc}
 use native.Mathlib.Omega.{arith}
-use lib.ListN.{length, take, drop, getD, length-reverse}
-use Rattle.words.specs.Numbers.{other, ordered, word, bytesOf, wordIn, bytesIn, Bytes}
+use lib.ListN.{length, take, drop, getD, length-reverse, length-drop}
+use lib.Seq.{length-take-le}
+use Rattle.words.specs.Numbers.{other, ordered, word, bytesOf, wordIn, bytesIn, numberAt, Bytes}
 use Rattle.words.specs.declared.Order.{Order}
 use Rattle.words.specs.declared.Order.the-variants.{Little, Big}
 
@@ -93,3 +94,21 @@ wordIn-bytesIn o w v h = rw ordered-ordered (word-bytesOf w v h)
 pub bytesIn-wordIn : (o : Order) (s : List ℕ) → Bytes s → bytesIn o (length s) (wordIn o s) ≡ s
 unfolding wordIn bytesIn
 bytesIn-wordIn o s h = rw (← length-ordered o s, bytesOf-word (ordered o s) (bytes-ordered o s h)) (ordered-ordered o s)
+
+-- the bytes at a place, and their number: it is below the count of words, and in the other order that of the same bytes
+length-at : (w : ℕ) (s : List ℕ) (at : ℕ) → at + w ≤ length s → length (take w (drop at s)) ≡ w
+length-at w s at l = length-take-le w (drop at s) (rw length-drop (omega arith))
+
+bytes-at : (w : ℕ) (s : List ℕ) (at : ℕ) → Bytes s → Bytes (take w (drop at s))
+bytes-at w s at b = bytes-take w (drop at s) (bytes-drop at s b)
+
+pub number-lt : (o : Order) (w : ℕ) (s : List ℕ) (at : ℕ) → Bytes s → at + w ≤ length s → numberAt o w s at < 256 ^ w
+unfolding numberAt
+number-lt o w s at b l = rw (length-at w s at l) at (wordIn-lt o (take w (drop at s)) (bytes-at w s at b))
+
+pub number-other : (o : Order) (w : ℕ) (s : List ℕ) (at : ℕ) → Bytes s → at + w ≤ length s → numberAt (other o) w s at ≡ wordIn (other o) (bytesIn o w (numberAt o w s at))
+unfolding numberAt
+number-other o w s at b l =
+    let t = take w (drop at s) in
+    let e : bytesIn o w (wordIn o t) ≡ t = ap (λ (n : ℕ). bytesIn o n (wordIn o t)) (sym (length-at w s at l)) ∙ bytesIn-wordIn o t (bytes-at w s at b) in
+    ap (wordIn (other o)) (sym e)

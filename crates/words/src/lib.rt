@@ -45,7 +45,7 @@ pub fn number2(o: Order, s: &[u8], at: usize) -> u32
 }
 
 // The number of three bytes.
-fn number3(o: Order, s: &[u8], at: usize) -> u32
+pub fn number3(o: Order, s: &[u8], at: usize) -> u32
     requires { ⌜ at + 3 ≤ length (now s) ⌝ }
     ensures { λ r. ⌜ (r ≡ numberAt o 3 (now (s .entry)) at) × (r < 16777216) ⌝ }
 {

@@ -6,15 +6,16 @@ use native.Mathlib.Omega.{arith}
 use lib.ListN.{length}
 use borrow.Author.Needs.{needs}
 use Rattle.decode.specs.Decoded.{itself}
+use Rattle.decode.specs.Wide.{orderFor}
 use Rattle.decode.proofs.Loops.{Decoding, decoding-none, decoding-room, decoding-more, decoding-all}
 use Rattle.decode.proofs.words_of.Statement.{statement}
 use Rattle.decode.proofs.words_of.Tie as tie
 
 abbrev Inv-loop : tie.InvT-loop
-Inv-loop o s d₀ i₀ at₀ d i at = Decoding 0 itself o 4 s d₀ d i at
+Inv-loop big s d₀ i₀ at₀ d i at = Decoding 0 itself (orderFor big) 4 s d₀ d i at
 
 abbrev μ-loop : tie.MeasureT-loop
-μ-loop o s d₀ i₀ at₀ d i at = length d₀ - i
+μ-loop big s d₀ i₀ at₀ d i at = length d₀ - i
 
 add-at : tie.Need-add-at Inv-loop μ-loop
 add-at c =
@@ -27,7 +28,7 @@ loop-less c = omega (arith, c .before .before .loop .inv .long, c .before .loop-
 loop-again : tie.Need-loop-again Inv-loop μ-loop
 loop-again c =
     let l = c .before .before .loop in
-    decoding-more (l .inv) _ _ (c .before .loop-test .taken) refl (c .number4 .ensures .0)
+    decoding-more (l .inv) _ _ (c .before .loop-test .taken) refl (c .word4 .ensures)
 
 pub words-of-spec : {M : Type 1} → statement M
 words-of-spec =

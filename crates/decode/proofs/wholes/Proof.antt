@@ -1,21 +1,23 @@
--- `decode::longs` meets its contract, by the laws of a decoding loop.
+-- `decode::wholes` meets its contract, by the laws of a decoding loop.
 -- Assumes nothing.
-use mathlib.Core.Path.{refl}
+use mathlib.Core.Path.{refl, _∙_}
 use Prim.Native.Nat.{_-_}
 use native.Mathlib.Omega.{arith}
 use lib.IntN.{pos}
 use lib.ListN.{length}
 use borrow.Author.Needs.{needs}
+use mir.Facts.{toZ-ofZ}
 use Rattle.words.specs.Values.{signed}
-use Rattle.decode.proofs.Loops.{widens, widened, Decoding, decoding-none, decoding-room, decoding-more, decoding-all}
-use Rattle.decode.proofs.longs.Statement.{statement}
-use Rattle.decode.proofs.longs.Tie as tie
+use Rattle.decode.specs.Wide.{orderFor}
+use Rattle.decode.proofs.Loops.{Decoding, decoding-none, decoding-room, decoding-more, decoding-all}
+use Rattle.decode.proofs.wholes.Statement.{statement}
+use Rattle.decode.proofs.wholes.Tie as tie
 
 abbrev Inv-loop : tie.InvT-loop
-Inv-loop o s d₀ i₀ at₀ d i at = Decoding (pos 0) (signed 4) o 4 s d₀ d i at
+Inv-loop big width s d₀ i₀ at₀ d i at = Decoding (pos 0) (signed width) (orderFor big) width s d₀ d i at
 
 abbrev μ-loop : tie.MeasureT-loop
-μ-loop o s d₀ i₀ at₀ d i at = length d₀ - i
+μ-loop big width s d₀ i₀ at₀ d i at = length d₀ - i
 
 add-at : tie.Need-add-at Inv-loop μ-loop
 add-at c =
@@ -28,17 +30,16 @@ loop-less c = omega (arith, c .before .before .loop .inv .long, c .before .loop-
 loop-again : tie.Need-loop-again Inv-loop μ-loop
 loop-again c =
     let l = c .before .before .loop in
-    decoding-more (l .inv) _ _ (c .before .loop-test .taken) refl (widened (c .int4 .ok) (c .int4 .ensures))
+    decoding-more (l .inv) _ _ (c .before .loop-test .taken) refl (toZ-ofZ (record { sfits = c .whole .ok }) ∙ c .whole .ensures)
 
-pub longs-spec : {M : Type 1} → statement M
-longs-spec =
+pub wholes-spec : {M : Type 1} → statement M
+wholes-spec =
     tie.close
     (tie.spec
     Inv-loop
     μ-loop
-    (λ c. decoding-none (c .before .pre))
-    (λ c κs. decoding-room (c .before .loop .inv) (c .loop-test .taken))
-    (λ c. widens (c .int4 .result) (c .int4 .ok))
+    (λ c. decoding-none (c .before .pre .source))
+    (λ c κs. record { wide = c .before .before .before .pre .wide; inside = decoding-room (c .before .loop .inv) (c .loop-test .taken) })
     (λ c. search needs)
     (λ c. search needs)
     add-at
