@@ -5,11 +5,11 @@ ghost use Prim.Native.Nat.{_+_, _*_, _≤_, _<_};
 ghost use lib.IntN.{pos};
 ghost use lib.ListN.{length};
 ghost use Rattle.words.specs.Numbers.{word, wordIn, bytesIn, numberAt};
-ghost use Rattle.words.specs.Values.{wordCount, signed};
+ghost use Rattle.words.specs.Values.{signed};
 ghost use Rattle.words.specs.declared.Order.the-variants as Order;
 ghost use Rattle.rules.specs.Rules as R;
 ghost use Rattle.decode.specs.Decoded.{Decoded, itself};
-ghost use Rattle.decode.specs.Wide.{orderFor, Wide, NumberAt, Numbers};
+ghost use Rattle.decode.specs.Wide.{orderFor, NumberAt, Numbers};
 use rules::Channel;
 use words::Order;
 use words::byte;
@@ -104,34 +104,26 @@ fn first3(big: bool, s: &[u8]) -> u32
     number3(Order::Little, s, 0)
 }
 
-// The number of so many bytes.
-fn number(big: bool, width: usize, s: &[u8], at: usize) -> u32
-    requires { ⌜ NumberAt width (now s) at ⌝ }
-    ensures { λ r. ⌜ r ≡ numberAt (orderFor big) width (now (s .entry)) at ⌝ }
+// The signed value of a word of two bytes, without a branch, in the form that the compiler makes one extension of the sign.
+fn short(n: u32) -> i64
+    requires { ⌜ n < 65536 ⌝ }
+    ensures { λ r. ⌜ r ≡ signed 2 n ⌝ }
 {
-    if width == 2 {
-        return word2(big, s, at);
-    }
-    if width == 4 {
-        return word4(big, s, at);
-    }
-    if at == 0 {
-        return first3(big, s);
-    }
-    word3(big, s, at)
+    ((n + 32768) % 65536) as i64 - 32768
 }
 
-// The signed value of a word, without a branch, in the form that the compiler makes one extension of the sign.
-fn value(width: usize, n: u32) -> i64
-    requires { ⌜ Wide width × (n < wordCount width) ⌝ }
-    ensures { λ r. ⌜ r ≡ signed width n ⌝ }
+// The same of three bytes.
+fn triple(n: u32) -> i64
+    requires { ⌜ n < 16777216 ⌝ }
+    ensures { λ r. ⌜ r ≡ signed 3 n ⌝ }
 {
-    if width == 2 {
-        return ((n + 32768) % 65536) as i64 - 32768;
-    }
-    if width == 3 {
-        return ((n + 8388608) % 16777216) as i64 - 8388608;
-    }
+    ((n + 8388608) % 16777216) as i64 - 8388608
+}
+
+// The same of four bytes.
+fn long(n: u32) -> i64
+    ensures { λ r. ⌜ r ≡ signed 4 n ⌝ }
+{
     ((n as u64 + 2147483648) % 4294967296) as i64 - 2147483648
 }
 
@@ -140,8 +132,16 @@ fn whole(big: bool, width: usize, s: &[u8], at: usize) -> i64
     requires { ⌜ NumberAt width (now s) at ⌝ }
     ensures { λ r. ⌜ r ≡ signed width (numberAt (orderFor big) width (now (s .entry)) at) ⌝ }
 {
-    let n = number(big, width, s, at);
-    value(width, n)
+    if width == 2 {
+        return short(word2(big, s, at));
+    }
+    if width == 4 {
+        return long(word4(big, s, at));
+    }
+    if at == 0 {
+        return triple(first3(big, s));
+    }
+    triple(word3(big, s, at))
 }
 
 // Signed numbers of so many bytes.
