@@ -2,7 +2,7 @@
 // The order is a bool here and not an `Order`: a call that tells it as a constant is then made a loop of its own by the compiler.
 ghost use mathlib.Core.Path.{_≡_};
 ghost use Prim.Native.Nat.{_+_, _*_, _≤_, _<_};
-ghost use lib.IntN.{pos};
+ghost use lib.IntN.{pos, _-ℤ_};
 ghost use lib.ListN.{length};
 ghost use Rattle.words.specs.Numbers.{word, wordIn, bytesIn, numberAt};
 ghost use Rattle.words.specs.Values.{signed};
@@ -104,12 +104,19 @@ fn first3(big: bool, s: &[u8]) -> u32
     number3(Order::Little, s, 0)
 }
 
+// A difference with its sign.
+fn less(m: u32, half: u32) -> i64
+    ensures { λ r. ⌜ r ≡ pos m -ℤ pos half ⌝ }
+{
+    m as i64 - half as i64
+}
+
 // The signed value of a word of two bytes, without a branch, in the form that the compiler makes one extension of the sign.
 fn short(n: u32) -> i64
     requires { ⌜ n < 65536 ⌝ }
     ensures { λ r. ⌜ r ≡ signed 2 n ⌝ }
 {
-    ((n + 32768) % 65536) as i64 - 32768
+    less((n + 32768) % 65536, 32768)
 }
 
 // The same of three bytes.
@@ -117,14 +124,14 @@ fn triple(n: u32) -> i64
     requires { ⌜ n < 16777216 ⌝ }
     ensures { λ r. ⌜ r ≡ signed 3 n ⌝ }
 {
-    ((n + 8388608) % 16777216) as i64 - 8388608
+    less((n + 8388608) % 16777216, 8388608)
 }
 
 // The same of four bytes.
 fn long(n: u32) -> i64
     ensures { λ r. ⌜ r ≡ signed 4 n ⌝ }
 {
-    ((n as u64 + 2147483648) % 4294967296) as i64 - 2147483648
+    less(((n as u64 + 2147483648) % 4294967296) as u32, 2147483648)
 }
 
 // The signed number of so many bytes.
