@@ -1,5 +1,6 @@
 //! Runs of samples by the library, against plain Rust over the same bytes, in a table. Each call of the library judges
-//! the file; what that takes is timed by runs of no samples at the same places, and taken out of the ratio.
+//! the file; what that takes is timed by runs of no samples at the same places, each with plain Rust behind it, so that
+//! judging finds the caches as it does in a call, and is taken out of the ratio.
 
 use crate::night::Night;
 use crate::{plain, timing};
@@ -12,36 +13,45 @@ const CHANNELS: usize = 20;
 /// The channel that is asked for, one of those with the most samples.
 const CHANNEL: usize = 1;
 
-/// The seconds of a frame that is decoded by itself, an epoch's, and those of the frames of a night that is decoded
-/// from end to end. Frames of one second, the usual ones, are so many that judging them is all that there is to see.
+/// The seconds of a frame: the usual ones, an epoch's, and those of a night in so few frames that judging does not
+/// hide what decoding takes.
+const SECOND: usize = 1;
 const EPOCH: usize = 30;
 const LONG: usize = 600;
 
-/// How often a frame by itself is asked for, since once is too short a time.
-const AGAIN: usize = 1000;
+/// A night in its usual frames is asked frame by frame, and each is a judging of the whole night: of every so many.
+const EVERY: usize = 300;
+
+/// How many samples a frame by itself is asked for in all, since once is too short a time.
+const SAMPLES: usize = 15_000_000;
 
 /// Where less of a call than this is not judging, that rest is within the noise, and is not told.
-const LEAST_REST: f64 = 0.2;
+const LEAST_REST: f64 = 0.05;
 
 const GOAL: f64 = 1.0;
 
 /// The table, with a night of so many seconds.
 pub fn measure(night: usize) {
-    println!("| run | call, µs | judging | decoding, µs | plain Rust, µs | ratio | goal |");
+    println!("| run, µs a frame | call | judging | decoding | plain Rust | ratio | goal |");
     println!("|---|---|---|---|---|---|---|");
     for format in Format::ALL {
         let of = |frames, seconds| Night::new(format, CHANNELS, frames, 1).of_seconds(seconds);
-        for order in [Order::Little, Order::Big] {
-            let epoch = Work::new(of(1, EPOCH), order, 1..2, AGAIN);
-            line(&format!("a frame of {EPOCH} s by itself"), epoch);
+        for seconds in [EPOCH, SECOND] {
+            for order in [Order::Little, Order::Big] {
+                let alone = Work::new(of(1, seconds), order, 1..2, 1);
+                let name = format!("a frame of {seconds} s by itself");
+                line(&name, alone.repeated());
+            }
         }
-        let middle = night / 2 + 1;
-        let usual = Work::new(of(night, 1), Order::Little, middle..middle + 1, 1);
-        line("a frame of 1 s of the night", usual);
+        let usual = Work::new(of(night, SECOND), Order::Little, 1..night + 1, EVERY);
+        let name = format!("every {EVERY}th of {night} frames of {SECOND} s");
+        line(&name, usual);
         let seconds = LONG.min(night);
         let frames = night / seconds;
-        let long = Work::new(of(frames, seconds), Order::Little, 1..frames + 1, 1);
-        line(&format!("the night, {frames} frames of {seconds} s"), long);
+        for order in [Order::Little, Order::Big] {
+            let long = Work::new(of(frames, seconds), order, 1..frames + 1, 1);
+            line(&format!("the night, {frames} frames of {seconds} s"), long);
+        }
     }
 }
 
@@ -58,15 +68,26 @@ struct Work {
     again: usize,
 }
 
+/// What is timed of each frame asked for: the library; its judging, with plain Rust behind it; plain Rust.
+const CALLS: [fn(&mut Work, usize); 3] = [
+    |work, index| work.library(index, work.count),
+    |work, index| {
+        work.library(index, 0);
+        work.plain(index);
+    },
+    |work, index| work.plain(index),
+];
+
 impl Work {
-    fn new(night: Night, order: Order, frames: Range<usize>, again: usize) -> Work {
+    /// Of these frames every so many.
+    fn new(night: Night, order: Order, frames: Range<usize>, every: usize) -> Work {
         let file = night.write(order).file;
         let place = |frame| {
             let view = psg::view(&file, 1, frame, CHANNEL);
             let start = view.as_ptr() as usize - file.as_ptr() as usize;
             (frame, start..start + view.len())
         };
-        let asked: Vec<_> = frames.map(place).collect();
+        let asked: Vec<_> = frames.step_by(every).map(place).collect();
         let count = night.count(CHANNEL);
         let room = |of_it: bool| if of_it { asked.len() * count } else { 0 };
         let float = night.format == Format::Float32;
@@ -79,40 +100,57 @@ impl Work {
             file,
             asked,
             count,
-            again,
+            again: 1,
         }
     }
 
-    /// Runs of so many samples of each frame asked for, by the library.
-    fn ask(&mut self, number: usize) {
-        let file = black_box(&self.file[..]);
-        for (index, &(frame, _)) in self.asked.iter().enumerate() {
-            let place = index * self.count..(index + 1) * self.count;
-            let counted = match self.format {
-                Format::Float32 => {
-                    let out = &mut self.floats[place];
-                    psg::run_floats(file, 1, frame, CHANNEL, 0, number, out)
-                }
-                _ => {
-                    let out = &mut self.numbers[place];
-                    psg::run(file, 1, frame, CHANNEL, 0, number, out)
-                }
-            };
-            black_box(counted).expect("a run is there");
-        }
+    /// Asked for so often that it takes a while.
+    fn repeated(self) -> Work {
+        let again = SAMPLES / self.count;
+        Work { again, ..self }
     }
 
-    fn decode(&mut self) {
+    /// Where the samples of a frame asked for are written.
+    fn place(&self, index: usize) -> Range<usize> {
+        index * self.count..(index + 1) * self.count
+    }
+
+    /// A run of so many samples of a frame asked for, by the library.
+    fn library(&mut self, index: usize, number: usize) {
         let file = black_box(&self.file[..]);
-        for (index, (_, bytes)) in self.asked.iter().enumerate() {
-            let place = index * self.count..(index + 1) * self.count;
-            let bytes = &file[bytes.clone()];
-            match self.format {
-                Format::Float32 => plain::floats(self.order, bytes, &mut self.floats[place]),
-                format => plain::numbers(format, self.order, bytes, &mut self.numbers[place]),
+        let frame = self.asked[index].0;
+        let place = self.place(index);
+        let counted = match self.format {
+            Format::Float32 => {
+                let out = &mut self.floats[place];
+                psg::run_floats(file, 1, frame, CHANNEL, 0, number, out)
             }
+            _ => {
+                let out = &mut self.numbers[place];
+                psg::run(file, 1, frame, CHANNEL, 0, number, out)
+            }
+        };
+        black_box(counted).expect("a run is there");
+    }
+
+    fn plain(&mut self, index: usize) {
+        let file = black_box(&self.file[..]);
+        let bytes = &file[self.asked[index].1.clone()];
+        let place = self.place(index);
+        match self.format {
+            Format::Float32 => plain::floats(self.order, bytes, &mut self.floats[place]),
+            format => plain::numbers(format, self.order, bytes, &mut self.numbers[place]),
         }
         black_box((&mut self.numbers, &mut self.floats));
+    }
+
+    /// A call for each frame asked for, as often as is told.
+    fn all(&mut self, call: fn(&mut Work, usize)) {
+        for _ in 0..self.again {
+            for index in 0..self.asked.len() {
+                call(self, index);
+            }
+        }
     }
 
     /// What was written, and the buffers cleared.
@@ -129,31 +167,34 @@ impl Work {
         black_box(&mut self.copy);
     }
 
-    fn repeat(&mut self, call: impl Fn(&mut Work)) {
-        for _ in 0..self.again {
-            call(self);
+    /// Its format and its order, as a line of the table begins.
+    fn kind(&self) -> String {
+        let letter = char::from(self.order.letter());
+        match self.format {
+            Format::Float32 => format!("floats {letter}"),
+            format => format!("{} bits {letter}", 8 * format.width()),
         }
     }
 }
 
 /// A line of the table. Both have to write the same before either is timed.
 fn line(name: &str, mut work: Work) {
-    work.ask(work.count);
+    let [library, _, plain] = CALLS;
+    work.all(library);
     let own = work.taken();
-    work.decode();
+    work.all(plain);
     assert!(own == work.taken(), "both decode the same: {name}");
-    let calls: [fn(&mut Work); 3] = [
-        |work| work.repeat(|work| work.ask(work.count)),
-        |work| work.repeat(|work| work.ask(0)),
-        |work| work.repeat(Work::decode),
-    ];
+    let calls = CALLS.map(|call| move |work: &mut Work| work.all(call));
     let took = timing::rounds(&mut work, Work::copy, &calls);
-    let [call, judging, plain] = &took[..] else {
+    let [call, judged, plain] = &took[..] else {
         unreachable!("times for each call");
     };
-    let rest: Vec<f64> = call.iter().zip(judging).map(|(all, no)| all - no).collect();
-    let share = timing::ratio(judging, call).min(1.0);
-    let micros = |took: &[f64]| 1e6 * timing::median(took.to_vec()) / work.again as f64;
+    let less = |a: &[f64], b: &[f64]| -> Vec<f64> { a.iter().zip(b).map(|(a, b)| a - b).collect() };
+    let judging = less(judged, plain);
+    let rest = less(call, &judging);
+    let share = timing::ratio(&judging, call).clamp(0.0, 1.0);
+    let frames = work.again * work.asked.len();
+    let micros = |took: &[f64]| 1e6 * timing::median(took.to_vec()) / frames as f64;
     let (decoding, ratio, goal) = if 1.0 - share < LEAST_REST {
         Default::default()
     } else {
@@ -162,13 +203,9 @@ fn line(name: &str, mut work: Work) {
         let decoding = format!("{:.2}", micros(&rest));
         (decoding, format!("{ratio:.2}"), goal)
     };
-    let bits = match work.format {
-        Format::Float32 => "floats".to_string(),
-        format => format!("{} bits", 8 * format.width()),
-    };
-    let letter = char::from(work.order.letter());
     println!(
-        "| {bits} {letter}, {name} | {:.2} | {:.1} % | {decoding} | {:.2} | {ratio} | {goal} |",
+        "| {}, {name} | {:.2} | {:.1} % | {decoding} | {:.2} | {ratio} | {goal} |",
+        work.kind(),
         micros(call),
         100.0 * share,
         micros(plain),
