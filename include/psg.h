@@ -9,16 +9,16 @@
  *
  * What the caller sees to. The proofs take it as given; no call can test it, and where it does not hold nothing is
  * promised:
- * - file points to length bytes, out to room bytes, rows, samples and bits to room numbers, all within one object each,
- *   and each of them holds a value: a buffer that was never written is cleared first (calloc, not malloc).
- * - No pointer is null, not even where length or room is 0; there any pointer to an object of its type serves. rows and
- *   samples are aligned as an int64_t is, bits as a uint32_t is.
+ * - file points to length bytes, out to room bytes, rows, samples, bits and entries to room numbers, all within one
+ *   object each, and each of them holds a value: a buffer that was never written is cleared first (calloc, not malloc).
+ * - No pointer is null, not even where length or room is 0; there any pointer to an object of its type serves. rows,
+ *   samples and entries are aligned as an int64_t is, bits as a uint32_t is.
  * - The file and the buffer do not overlap, not even in part: nothing is turned or rewritten in place.
  * - Until the call returns, nothing changes the file, and nothing else reads or changes the buffer: no other thread, no
  *   signal handler, and, where the bytes are a mapped file's, no other process, which may not shorten it either. Calls
  *   at the same time may share a file, but no buffer.
- * - length and room are below 2^63 bytes each, so the room of rows and samples below 2^60 numbers, that of bits below
- *   2^61.
+ * - length and room are below 2^63 bytes each, so the room of rows, samples and entries below 2^60 numbers, that of bits
+ *   below 2^61.
  * - The program is compiled for x86-64 Linux, for which the library is. */
 #ifndef PSG_H
 #define PSG_H
@@ -30,7 +30,7 @@
 extern "C" {
 #endif
 
-/* How many rows, bytes, samples or montage channels. */
+/* How many rows, bytes, samples, entries or montage channels. */
 struct psg_counted {
     uint32_t refusal;
     uint64_t position;
@@ -136,6 +136,32 @@ struct psg_view {
     uint64_t length;
 };
 
+/* What an event's code stands for, as one of the numbers below. */
+struct psg_kind {
+    uint32_t refusal;
+    uint64_t position;
+    uint32_t kind;
+};
+
+/* The kinds of codes: those that the standard publishes, then a user's own, which have bit 12 set, and all others. */
+enum {
+    PSG_EVENT_NONE = 0,
+    PSG_EVENT_RECORDING_START = 1,
+    PSG_EVENT_RECORDING_END = 2,
+    PSG_EVENT_CALIBRATION_START = 3,
+    PSG_EVENT_CALIBRATION_END = 4,
+    PSG_EVENT_INST_START = 5,
+    PSG_EVENT_INST_END = 6,
+    PSG_EVENT_SLEEP_ALLOWED = 7,
+    PSG_EVENT_WAKE_CALL = 8,
+    PSG_EVENT_LIGHTS_OUT = 9,
+    PSG_EVENT_LIGHTS_ON = 10,
+    PSG_EVENT_MEASUREMENT_STOPPED = 11,
+    PSG_EVENT_MEASUREMENT_RESUMED = 12,
+    PSG_EVENT_USER = 13,
+    PSG_EVENT_RESERVED = 14
+};
+
 /* Judges the file, and no more: what its header says where it is accepted. The other calls judge it themselves. */
 struct psg_header psg_judge(const uint8_t *file, size_t length);
 
@@ -188,6 +214,16 @@ struct psg_counted psg_run(const uint8_t *file, size_t length, size_t recording,
                            size_t first, size_t number, int64_t *samples, size_t room);
 struct psg_counted psg_run_floats(const uint8_t *file, size_t length, size_t recording, size_t frame, size_t channel,
                                   size_t first, size_t number, uint32_t *bits, size_t room);
+
+/* The index of night events: five numbers an entry (recording, frame, channel, place in the frame from 0, code), by
+   recording, frame, channel and place. An entry is a sample of a channel of type 1 and format 1, an electrode's too,
+   whose code is not 0 and is not that of the sample before it in the channel; that is looked for in the frame before
+   too, but not in another recording: the first sample of one comes behind 0. A code is 1 to 65535. The count is of
+   entries, the room of numbers; 17 has the numbers needed. */
+struct psg_counted psg_index(const uint8_t *file, size_t length, int64_t *entries, size_t room);
+
+/* What an event's code stands for. It asks for no file; 19 above 65535. */
+struct psg_kind psg_event_kind(uint64_t code);
 
 /* The bytes of a channel in a frame; start 0 and length 0 for a refusal (psg_count tells which) and for a channel without samples. */
 struct psg_view psg_view(const uint8_t *file, size_t length, size_t recording, size_t frame, size_t channel);

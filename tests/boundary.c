@@ -93,6 +93,11 @@ SIZE(psg_view, 16)
 AT(psg_view, start, 0)
 AT(psg_view, length, 8)
 
+SIZE(psg_kind, 24)
+AT(psg_kind, refusal, 0)
+AT(psg_kind, position, 8)
+AT(psg_kind, kind, 16)
+
 static int failed;
 
 static void expect(int holds, const char *what) {
@@ -224,10 +229,69 @@ static void floats(const uint8_t *small, size_t n) {
     EXPECT(psg_run(file, n, 1, 1, 1, 1, 0, samples, 1).refusal == 19 && samples[0] == 7);
 }
 
+/* The smallest file with its channel as one of events: its sample is the one entry, its code unsigned. It is none where
+   the type is another, and where it is 0. */
+static void events(const uint8_t *small, size_t n) {
+    static uint8_t file[1024];
+    int64_t entries[7] = {7, 7, 7, 7, 7, 7, 7};
+    memcpy(file, small, n);
+    struct psg_counted index = psg_index(file, n, entries, 0);
+    EXPECT(index.refusal == 0 && index.count == 0);
+    put(file, 232, 1);
+    index = psg_index(file, n, entries, 0);
+    EXPECT(index.refusal == 17 && index.position == 5 && index.count == 0);
+    index = psg_index(file, n, entries, 4);
+    EXPECT(index.refusal == 17 && index.position == 5 && index.count == 0);
+    EXPECT(psg_index(file, n - 1, entries, 7).refusal == 10);
+    for (int i = 0; i < 7; i++) EXPECT(entries[i] == 7);
+    index = psg_index(file, n, entries, 7);
+    EXPECT(index.refusal == 0 && index.count == 1);
+    EXPECT(entries[0] == 1 && entries[1] == 1 && entries[2] == 1 && entries[3] == 0 && entries[4] == 0x7fff);
+    EXPECT(entries[5] == 7 && entries[6] == 7);
+    file[544] = 6;
+    file[545] = 0xf0;
+    EXPECT(psg_index(file, n, entries, 5).count == 1 && entries[4] == 0xf006);
+    file[544] = file[545] = 0;
+    index = psg_index(file, n, entries, 5);
+    EXPECT(index.refusal == 0 && index.count == 0 && entries[4] == 0xf006);
+}
+
+/* Every published code; at 0006h and 8 the hexadecimal number decides. Then a user's own, and others. */
+static void kinds(void) {
+    const uint32_t codes[][2] = {
+        {0x0000, PSG_EVENT_NONE},
+        {0x0003, PSG_EVENT_RECORDING_START},
+        {0x0002, PSG_EVENT_RECORDING_END},
+        {0x0005, PSG_EVENT_CALIBRATION_START},
+        {0x0004, PSG_EVENT_CALIBRATION_END},
+        {0x0007, PSG_EVENT_INST_START},
+        {0x0006, PSG_EVENT_INST_END},
+        {0x0102, PSG_EVENT_SLEEP_ALLOWED},
+        {0x0104, PSG_EVENT_WAKE_CALL},
+        {0x0106, PSG_EVENT_LIGHTS_OUT},
+        {0x0108, PSG_EVENT_LIGHTS_ON},
+        {0x010a, PSG_EVENT_MEASUREMENT_STOPPED},
+        {0x010c, PSG_EVENT_MEASUREMENT_RESUMED},
+        {0x1000, PSG_EVENT_USER},
+        {0xffff, PSG_EVENT_USER},
+        {0x0008, PSG_EVENT_RESERVED},
+        {0x2000, PSG_EVENT_RESERVED},
+        {0xefff, PSG_EVENT_RESERVED},
+    };
+    for (size_t i = 0; i < sizeof codes / sizeof *codes; i++) {
+        struct psg_kind kind = psg_event_kind(codes[i][0]);
+        EXPECT(kind.refusal == 0 && kind.position == 0 && kind.kind == codes[i][1]);
+    }
+    struct psg_kind outside = psg_event_kind(0x10000);
+    EXPECT(outside.refusal == 19 && outside.position == 0 && outside.kind == 0);
+    EXPECT(psg_event_kind(UINT64_MAX).refusal == 19);
+}
+
 /* The smallest file as one of electrodes, with a montage: its channel's first input is electrode 1, the second a sum. A 325
    has no frequency at 52 and no sensitivity at 64, a 355 has both. */
 static void electrodes(const uint8_t *small, size_t n) {
     static uint8_t file[1024], out[1024], back[1024];
+    int64_t entries[5] = {0};
     const uint32_t numbers[][2] = {
         {32, 818},  {180, 320}, {212, 325}, {260, 7},   {272, 9},  {488, 288}, {492, 350}, {504, 1},
         {508, 256}, {520, 256}, {524, 355}, {528, 1},   {572, 11}, {584, 13},  {624, 1},   {628, 65536},
@@ -249,6 +313,8 @@ static void electrodes(const uint8_t *small, size_t n) {
     EXPECT(psg_montage(file, n, 1, 2).channel.refusal == 19);
     EXPECT(psg_turn(file, n, out, sizeof out).count == n && psg_turn(out, n, back, sizeof back).count == n);
     EXPECT(memcmp(back, file, n) == 0 && psg_montage(out, n, 1, 1).g1 == 1);
+    put(file, 232, 1);
+    EXPECT(psg_index(file, n, entries, 5).count == 1 && entries[2] == 1 && entries[4] == 0x7fff);
     put(file, 624, 2);
     montage = psg_montage(file, n, 1, 1);
     EXPECT(montage.channel.refusal == 13 && montage.channel.position == 624 && montage.g1 == 0 && montage.g2 == 0);
@@ -268,6 +334,8 @@ int main(void) {
     questions(file, n);
     runs(file, n);
     floats(file, n);
+    events(file, n);
+    kinds();
     electrodes(file, n);
     return failed;
 }

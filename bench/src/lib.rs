@@ -2,6 +2,8 @@
 //! with.
 
 pub mod fastest;
+pub mod index;
+mod judged;
 pub mod night;
 pub mod plain;
 pub mod runs;

@@ -1,6 +1,7 @@
-//! A night as a sleep laboratory's recorder writes it: one recording of one-second frames, with patient items and a few
-//! events, in either byte order and with the table that it has. The same seed gives the same samples in both orders, so
-//! that one file is what turning the other has to give, and in frames of any length.
+//! A night as a sleep laboratory's recorder writes it: one recording of one-second frames, with patient items and event
+//! items, if asked for with a channel of events, in either byte order and with the table that it has. The same seed
+//! gives the same samples in both orders, so that one file is what turning the other has to give, and in frames of any
+//! length.
 
 use second::bytes::Order;
 use second::header::{self, Form, Header, Spelling, Version};
@@ -19,6 +20,15 @@ pub struct Night {
     /// The length of a frame.
     pub seconds: usize,
     pub seed: u64,
+    pub events: Option<Events>,
+}
+
+/// A channel of events.
+pub struct Events {
+    /// Its number, from 1.
+    pub channel: usize,
+    /// How many events the night has.
+    pub count: usize,
 }
 
 /// A file and the rows of its table.
@@ -42,6 +52,14 @@ const PATIENT: [(i32, &str); 3] = [(1, "0001"), (11, "Night, Long"), (21, "1970"
 /// Two events of the user's own, and a spare slot.
 const EVENTS: [(i32, &str); 3] = [(4096, "lights out"), (4097, "lights on"), (0, "        ")];
 
+/// The samples a second of a channel of events, and for how many of them a code stands.
+const EVENTS_RATE: usize = 100;
+const EVENT_SAMPLES: usize = 500;
+
+/// The types of channels of events, and of the others.
+const EVENT: i32 = 1;
+const MARK: i32 = 2;
+
 impl Night {
     /// With so many channels, each at its usual rate.
     pub fn new(format: Format, channels: usize, frames: usize, seed: u64) -> Night {
@@ -51,12 +69,23 @@ impl Night {
             frames,
             seconds: 1,
             seed,
+            events: None,
         }
     }
 
     /// The same with frames of so many seconds.
     pub fn of_seconds(self, seconds: usize) -> Night {
         Night { seconds, ..self }
+    }
+
+    /// The same with so many events, in a channel that stands in the midst of the others; of samples of 16 bits alone.
+    pub fn with_events(mut self, count: usize) -> Night {
+        assert!(self.format == Format::Signed16);
+        let before = self.rates.len() / 2;
+        self.rates.insert(before, EVENTS_RATE);
+        let channel = before + 1;
+        self.events = Some(Events { channel, count });
+        self
     }
 
     /// How many samples a channel, from 1, has in a frame.
@@ -102,6 +131,12 @@ impl Night {
         }
     }
 
+    /// The events of a channel, from 0, if it has any.
+    fn events_of(&self, index: usize) -> Option<&Events> {
+        let events = self.events.as_ref();
+        events.filter(|events| events.channel == index + 1)
+    }
+
     fn channels_length(&self) -> usize {
         channels::FIRST + channel::LENGTH * self.rates.len()
     }
@@ -133,7 +168,8 @@ impl Night {
         for (index, &rate) in self.rates.iter().enumerate() {
             let serial = index as i32 + 1;
             page.head(Kind::Channel, serial, channel::LENGTH);
-            page.numbers(&[serial, 0, 2, self.format.number(), rate as i32]);
+            let kind = self.events_of(index).map_or(MARK, |_| EVENT);
+            page.numbers(&[serial, 0, kind, self.format.number(), rate as i32]);
             page.numbers(&[50, 1000, 0, 0, 0, 3, 70, 10, 0]);
             page.text("channel", channel::LABEL.1);
             page.text("uV", channel::UNIT.1);
@@ -153,8 +189,14 @@ impl Night {
         for frame in 0..self.frames {
             page.head(Kind::Frame, frame as i32 + 1, self.frame_length());
             page.clock(frame * self.seconds);
-            for (signal, &rate) in signals.iter_mut().zip(&self.rates) {
-                let values = (0..self.seconds * rate).map(|_| signal.sample(self.format));
+            for (index, signal) in signals.iter_mut().enumerate() {
+                let count = self.count(index + 1);
+                let (first, all) = (frame * count, self.frames * count);
+                let events = self.events_of(index);
+                let values = (first..first + count).map(|sample| match events {
+                    Some(events) => events.code(sample, all),
+                    None => signal.sample(self.format),
+                });
                 match self.format.width() {
                     2 => page.samples::<2>(values),
                     3 => page.samples::<3>(values),
@@ -163,6 +205,21 @@ impl Night {
             }
         }
         page.zeros(self.frames_length() - content);
+    }
+}
+
+impl Events {
+    /// The code of a sample, of so many: each event stands for a while in the midst of its share of the night.
+    fn code(&self, sample: usize, all: usize) -> i32 {
+        const CODES: [i32; 7] = [3, 0x102, 0x106, 4096, 4097, 0x108, 2];
+        let share = all / self.count;
+        let (event, at) = (sample / share, sample % share);
+        let held = at >= share / 2 && at - share / 2 < EVENT_SAMPLES;
+        if held && event < self.count {
+            CODES[event % CODES.len()]
+        } else {
+            0
+        }
     }
 }
 
@@ -264,7 +321,7 @@ impl Signal {
 #[cfg(test)]
 mod tests {
     use super::*;
-    use second::{table, turn};
+    use second::{index, table, turn};
 
     #[test]
     fn the_second_program_reads_a_night_and_turns_it_into_the_other() {
@@ -278,6 +335,20 @@ mod tests {
                 );
                 assert_eq!(turn::turn(&little.file, u64::MAX), Ok(big.file));
             }
+        }
+    }
+
+    #[test]
+    fn the_second_program_finds_the_events_of_a_night() {
+        for (frames, seconds) in [(90, 1), (3, 30), (7, 13)] {
+            let night = Night::new(Format::Signed16, 4, frames, 7).of_seconds(seconds);
+            let night = night.with_events(8);
+            let (little, big) = (night.write(Order::Little), night.write(Order::Big));
+            assert_eq!(turn::turn(&little.file, u64::MAX).as_ref(), Ok(&big.file));
+            let entries = index::index(&little.file, u64::MAX).expect("a night");
+            assert_eq!(entries.len(), 8);
+            assert!(entries.iter().all(|[.., channel, _, _]| *channel == 3));
+            assert_eq!(index::index(&big.file, u64::MAX), Ok(entries));
         }
     }
 }

@@ -1,4 +1,5 @@
-//! Decoding in plain Rust: a loop over the bytes of a run, a sample at a time, of which the compiler makes what it can.
+//! Decoding and looking for events in plain Rust: a loop over the bytes, a sample at a time, of which the compiler
+//! makes what it can.
 
 use second::bytes::Order;
 use second::record::Format;
@@ -36,6 +37,41 @@ pub fn floats(order: Order, bytes: &[u8], out: &mut [f32]) {
     }
 }
 
+/// A channel of events of a file's one recording.
+pub struct Channel {
+    pub number: usize,
+    /// Where its samples stand in the first frame, and how many bytes they are in each.
+    pub first: usize,
+    pub bytes: usize,
+    pub frames: usize,
+    pub frame_length: usize,
+}
+
+/// The index of the channel's events, five numbers an entry.
+pub fn index(order: Order, file: &[u8], channel: &Channel, out: &mut Vec<i64>) {
+    match order {
+        Order::Little => changes(file, channel, out, u16::from_le_bytes),
+        Order::Big => changes(file, channel, out, u16::from_be_bytes),
+    }
+}
+
+fn changes(file: &[u8], channel: &Channel, out: &mut Vec<i64>, code: impl Fn([u8; 2]) -> u16) {
+    out.clear();
+    let mut last = 0;
+    for frame in 0..channel.frames {
+        let start = channel.first + frame * channel.frame_length;
+        let samples = file[start..start + channel.bytes].as_chunks().0;
+        for (place, &bytes) in samples.iter().enumerate() {
+            let now = code(bytes);
+            if now != 0 && now != last {
+                let [frame, channel, place] = [frame + 1, channel.number, place].map(|n| n as i64);
+                out.extend([1, frame, channel, place, now.into()]);
+            }
+            last = now;
+        }
+    }
+}
+
 #[cfg(test)]
 mod tests {
     use super::*;
@@ -69,6 +105,29 @@ mod tests {
                     assert_eq!(run_int(&file, run, u64::MAX), Ok(out));
                 }
             }
+        }
+    }
+
+    #[test]
+    fn events_are_found_as_the_second_program_does() {
+        let night = Night::new(Format::Signed16, 3, 60, 5)
+            .of_seconds(2)
+            .with_events(9);
+        let number = night.events.as_ref().map_or(0, |events| events.channel);
+        for order in [Order::Little, Order::Big] {
+            let file = night.write(order).file;
+            let [one, other] = [1, 2].map(|frame| view(&file, 1, frame, number as u64));
+            let channel = Channel {
+                number,
+                first: one.at,
+                bytes: one.length,
+                frames: night.frames,
+                frame_length: other.at - one.at,
+            };
+            let mut out = vec![7];
+            index(order, &file, &channel, &mut out);
+            let entries = second::index::index(&file, u64::MAX).map(|entries| entries.concat());
+            assert_eq!(entries, Ok(out));
         }
     }
 }

@@ -3,7 +3,7 @@
 //! judging finds the caches as it does in a call, and is taken out of the ratio.
 
 use crate::night::Night;
-use crate::{plain, timing};
+use crate::{judged, plain, timing};
 use second::bytes::Order;
 use second::record::Format;
 use std::hint::black_box;
@@ -25,15 +25,9 @@ const EVERY: usize = 300;
 /// How many samples a frame by itself is asked for in all, since once is too short a time.
 const SAMPLES: usize = 15_000_000;
 
-/// Where less of a call than this is not judging, that rest is within the noise, and is not told.
-const LEAST_REST: f64 = 0.05;
-
-const GOAL: f64 = 1.0;
-
 /// The table, with a night of so many seconds.
 pub fn measure(night: usize) {
-    println!("| run, µs a frame | call | judging | decoding | plain Rust | ratio | goal |");
-    println!("|---|---|---|---|---|---|---|");
+    judged::head("run, µs a frame", "decoding");
     for format in Format::ALL {
         let of = |frames, seconds| Night::new(format, CHANNELS, frames, 1).of_seconds(seconds);
         for seconds in [EPOCH, SECOND] {
@@ -186,28 +180,6 @@ fn line(name: &str, mut work: Work) {
     assert!(own == work.taken(), "both decode the same: {name}");
     let calls = CALLS.map(|call| move |work: &mut Work| work.all(call));
     let took = timing::rounds(&mut work, Work::copy, &calls);
-    let [call, judged, plain] = &took[..] else {
-        unreachable!("times for each call");
-    };
-    let less = |a: &[f64], b: &[f64]| -> Vec<f64> { a.iter().zip(b).map(|(a, b)| a - b).collect() };
-    let judging = less(judged, plain);
-    let rest = less(call, &judging);
-    let share = timing::ratio(&judging, call).clamp(0.0, 1.0);
     let frames = work.again * work.asked.len();
-    let micros = |took: &[f64]| 1e6 * timing::median(took.to_vec()) / frames as f64;
-    let (decoding, ratio, goal) = if 1.0 - share < LEAST_REST {
-        Default::default()
-    } else {
-        let ratio = timing::ratio(plain, &rest);
-        let goal = timing::goal(GOAL, ratio);
-        let decoding = format!("{:.2}", micros(&rest));
-        (decoding, format!("{ratio:.2}"), goal)
-    };
-    println!(
-        "| {}, {name} | {:.2} | {:.1} % | {decoding} | {:.2} | {ratio} | {goal} |",
-        work.kind(),
-        micros(call),
-        100.0 * share,
-        micros(plain),
-    );
+    judged::line(&format!("{}, {name}", work.kind()), &took, frames);
 }

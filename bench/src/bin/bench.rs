@@ -1,14 +1,15 @@
 //! `bench [MINUTES]`: the proved library against plain Rust, the fastest safe Rust and memcpy, on one recording of a
 //! night (of so many minutes; eight hours if not said), a table of ratios with the goals beside them; then runs of
-//! samples, against plain Rust, with what judging takes of a call beside the ratio without it. Median of several
-//! rounds, in each of which every call is made once, in turn, so that a busy machine slows them alike.
+//! samples, and the index of events, each against plain Rust, with what judging takes of a call beside the ratio without
+//! it. Median of several rounds, in each of which every call is made once, in turn, so that a busy machine slows them
+//! alike.
 //!
 //!     cargo run --release --offline
 //!
 //! A ratio is the library's speed as a share of the other's: above 1 the library is the faster one.
 
 use nights::night::{Night, EIGHT_HOURS};
-use nights::{fastest, runs, timing};
+use nights::{fastest, index, runs, timing};
 use second::bytes::Order;
 use second::record::Format;
 use std::hint::black_box;
@@ -64,6 +65,8 @@ fn main() -> ExitCode {
     }
     println!();
     runs::measure(frames);
+    println!();
+    index::measure(frames);
     ExitCode::SUCCESS
 }
 

@@ -55,6 +55,7 @@ answers! {
     Item { code: i32, text: u64, text_length: u64 }
     Clock { hour: u32, minute: u32, second: u32 }
     Sample { is_float: u32, value: i32, bits: u32 }
+    Kind { kind: u32 }
 }
 
 /// A montage's channel. What refuses it is the channel's.
@@ -111,6 +112,7 @@ layouts! {
     Clock, 32 { refusal 0, position 8, hour 16, minute 20, second 24 }
     Sample, 32 { refusal 0, position 8, is_float 16, value 20, bits 24 }
     View, 16 { start 0, length 8 }
+    Kind, 24 { refusal 0, position 8, kind 16 }
 }
 
 /// A call that writes, and its safe call.
@@ -143,6 +145,7 @@ writers! {
     psg_run_floats, run_floats(
         recording: usize, frame: usize, channel: usize, first: usize, number: usize
     ) into u32;
+    psg_index, index() into i64;
 }
 
 const _: () =
@@ -184,6 +187,16 @@ questions! {
     psg_count, count(recording, frame, channel) -> Counted;
     psg_sample, sample(recording, frame, channel, sample) -> Sample;
     psg_view, view(recording, frame, channel) -> View;
+}
+
+extern "C" {
+    fn psg_event_kind(code: u64) -> Kind;
+}
+
+/// The one question that is about no file.
+pub fn event_kind(code: u64) -> Kind {
+    // SAFETY: it is lent nothing.
+    unsafe { psg_event_kind(code) }
 }
 
 #[cfg(test)]

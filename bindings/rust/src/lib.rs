@@ -1,10 +1,13 @@
-//! Recordings in the JSSR PSG common format, versions 1.00 to 3.00: a file's verdict and its table, questions about it, turning it to the
-//! other byte order, and writing it anew in its canonical form, by a library whose every function is proved to meet its
-//! contract.
+//! Recordings in the JSSR PSG common format, versions 1.00 to 3.00: a file's verdict and its table, questions about it,
+//! the index of its events, turning it to the other byte order, and writing it anew in its canonical form, by a library
+//! whose every function is proved to meet its contract.
 //!
 //! Every call judges the file itself and answers every file and every argument. Recordings, channels, items and frames
 //! are asked for from 1, samples from 0. Nothing is written in place: `out` is a buffer of its own, as its `&mut` says.
 //! Who makes a slice of a mapped file vouches that nothing writes to that file or shortens it during a call.
+//!
+//! [`timed_entries`] is a convenience of this crate and not a call of the library: what it adds to the index, the clock
+//! time of each entry, is worked out here and tested, not proved.
 //!
 //! ```
 //! use psg::{Order, Spelling};
@@ -26,12 +29,14 @@
 #![warn(missing_docs)]
 
 mod calls;
+mod events;
 mod float;
 mod order;
 mod refusal;
 mod spelling;
 
 use calls::Answer;
+pub use events::{Entry, EventKind, TimedEntry};
 pub use float::FloatBits;
 pub use order::Order;
 pub use refusal::Refusal;
@@ -435,6 +440,66 @@ pub fn run_floats(
     let counted =
         calls::run_floats(file, recording, frame, channel, first, number, bits).answer()?;
     Ok(counted.count as usize)
+}
+
+/// Writes the index of night events into `out`, five numbers an entry (recording, frame, channel, place, code), by
+/// recording, frame, channel and place: how many entries. [`Entry`] says what is one; [`entries`] has them in a vector.
+pub fn index(file: &[u8], out: &mut [i64]) -> Result<usize, Refusal> {
+    Ok(calls::index(file, out).answer()?.count as usize)
+}
+
+/// The index of night events, in a vector. A night of up to a hundred events is judged once, one of more twice.
+///
+/// ```
+/// use psg::EventKind;
+///
+/// let mut file = std::fs::read("../../crates/listing/stdin").unwrap();
+/// // Its channel becomes one of events, and its one sample lights out.
+/// file[232] = 1;
+/// file[544..546].copy_from_slice(&0x106_u16.to_le_bytes());
+/// for entry in psg::entries(&file)? {
+///     assert_eq!((entry.recording, entry.frame, entry.channel, entry.place), (1, 1, 1, 0));
+///     assert_eq!((entry.code, entry.kind()), (0x106, EventKind::LightsOut));
+/// }
+/// # assert_eq!(psg::entries(&file)?.len(), 1);
+/// # Ok::<(), psg::Refusal>(())
+/// ```
+pub fn entries(file: &[u8]) -> Result<Vec<Entry>, Refusal> {
+    let mut numbers = vec![0; events::USUAL_ROOM];
+    let count = match index(file, &mut numbers) {
+        Err(refusal) if refusal.number == 17 => {
+            numbers = vec![0; refusal.position];
+            index(file, &mut numbers)
+        }
+        other => other,
+    };
+    Ok(events::entries(&numbers, count?))
+}
+
+/// The same with the clock time of each, by the clock of its frame and by the channel's rate or period. A convenience,
+/// not a call of the library; [`TimedEntry`] says how exact it is. The file is judged a few times, and once for each
+/// channel that has entries, but not for each entry.
+///
+/// ```
+/// # let mut file = std::fs::read("../../crates/listing/stdin").unwrap();
+/// # file[232] = 1;
+/// # file[544..546].copy_from_slice(&0x106_u16.to_le_bytes());
+/// for timed in psg::timed_entries(&file)? {
+///     let (clock, millisecond) = (timed.clock, timed.nanosecond / 1_000_000);
+///     println!("{:02}:{:02}:{:02}.{millisecond:03}", clock.hour, clock.minute, clock.second);
+///     assert_eq!(Ok(clock), psg::clock(&file, timed.entry.recording, timed.entry.frame));
+/// }
+/// # assert_eq!(psg::timed_entries(&file)?.len(), 1);
+/// # Ok::<(), psg::Refusal>(())
+/// ```
+pub fn timed_entries(file: &[u8]) -> Result<Vec<TimedEntry>, Refusal> {
+    events::timed(file, entries(file)?)
+}
+
+/// What an event's code stands for. It asks for no file; 19 above 65535.
+pub fn event_kind(code: u64) -> Result<EventKind, Refusal> {
+    let kind = calls::event_kind(code).answer()?.kind;
+    Ok(EventKind::from_number(kind).expect("the library's numbers are the kinds'"))
 }
 
 /// The bytes of a channel in a frame, as a part of the file: empty for a channel without samples, and for a question

@@ -15,6 +15,8 @@ use Rattle.table.specs.Table as Table
 use Rattle.permit.specs.Permit as Permit
 use Rattle.recordings.specs.Answers.{Answer, value, refusal}
 use Rattle.recordings.specs.declared.Counts.{Counts}
+use Rattle.codes.specs.declared.EventKind.{EventKind}
+use Rattle.codes.specs.declared.EventKind.the-variants as EventKind
 use Rattle.samples.specs.declared.Number.{Number}
 use Rattle.samples.specs.declared.Number.the-variants as Number
 use Rattle.samples.specs.declared.Time.{Time}
@@ -33,6 +35,7 @@ use Rattle.answers.specs.declared.Facts.{Facts}
 use Rattle.answers.specs.declared.Header.{Header}
 use Rattle.answers.specs.declared.Heading.{Heading}
 use Rattle.answers.specs.declared.Item.{Item}
+use Rattle.answers.specs.declared.Kind.{Kind}
 use Rattle.answers.specs.declared.Montage.{Montage}
 use Rattle.answers.specs.declared.Patterns.{Patterns}
 use Rattle.answers.specs.declared.Sample.{Sample}
@@ -178,6 +181,28 @@ flatSample (value (Number.Whole z)) = record { refusal = 0; position = 0; «is_f
 flatSample (value (Number.Float v)) = record { refusal = 0; position = 0; «is_float» = 1; value = pos 0; bits = bitsOf v }
 flatSample (value (Number.Pattern n)) = record { refusal = 0; position = 0; «is_float» = 1; value = pos 0; bits = n }
 flatSample (refusal n p) = record { refusal = n; position = p; «is_float» = 0; value = pos 0; bits = 0 }
+
+-- the kinds of codes in the standard's order, a user's own, reserved
+abbrev pub kindNumber : EventKind → ℕ
+kindNumber EventKind.None = 0
+kindNumber EventKind.RecordingStart = 1
+kindNumber EventKind.RecordingEnd = 2
+kindNumber EventKind.CalibrationStart = 3
+kindNumber EventKind.CalibrationEnd = 4
+kindNumber EventKind.InstStart = 5
+kindNumber EventKind.InstEnd = 6
+kindNumber EventKind.SleepAllowed = 7
+kindNumber EventKind.WakeCall = 8
+kindNumber EventKind.LightsOut = 9
+kindNumber EventKind.LightsOn = 10
+kindNumber EventKind.MeasurementStopped = 11
+kindNumber EventKind.MeasurementResumed = 12
+kindNumber EventKind.User = 13
+kindNumber EventKind.Reserved = 14
+
+abbrev pub flatKind : Answer EventKind → Kind
+flatKind (value k) = record { refusal = 0; position = 0; kind = kindNumber k }
+flatKind (refusal n p) = record { refusal = n; position = p; kind = 0 }
 
 abbrev pub flatView : Text → View
 flatView p = record { start = p .at; length = p .length }

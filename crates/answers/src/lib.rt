@@ -5,11 +5,17 @@ ghost use Rattle.words.specs.Numbers.{letterOf};
 ghost use Rattle.words.specs.Values.{unsigned};
 ghost use Rattle.permit.specs.Permit.{meaning};
 ghost use Rattle.recordings.specs.Answers.{value, refusal};
+ghost use Rattle.codes.specs.Codes as Codes;
 ghost use Rattle.questions.specs.Meanings.{meaningH, meaningF, meaningD, meaningN, meaningM, meaningI, meaningT, meaningC, meaningS};
+ghost use Rattle.index.specs.Index as Index;
 ghost use Rattle.runs.specs.Runs as Runs;
 ghost use Rattle.answers.specs.Flat.{counted, stopped, countedBytes, headed, unheaded};
 ghost use Rattle.answers.specs.Flat.{spellingNumber, flatHeading, flatFacts, patternsOf, flatChannel, flatMontage};
 ghost use Rattle.answers.specs.Flat.{flatItem, flatClock, flatCount, flatSample};
+use index::Indexed;
+ghost use Rattle.answers.specs.Flat.{kindNumber, flatKind};
+use codes::EventKind;
+use codes::KindTold;
 use permit::Written;
 use questions::channels::Calibration;
 use questions::channels::ChannelTold;
@@ -132,6 +138,14 @@ pub struct Sample {
     pub is_float: u32,
     pub value: i32,
     pub bits: u32,
+}
+
+// What an event's code stands for: the number of its kind, in the order of `codes::EventKind` from 0.
+#[repr(C)]
+pub struct Kind {
+    pub refusal: u32,
+    pub position: u64,
+    pub kind: u32,
 }
 
 // A part of the file: its first byte and its length. It is never refused.
@@ -482,6 +496,15 @@ pub fn count_of(a: samples::CountTold) -> Counted
     }
 }
 
+pub fn index_of(a: Indexed) -> Counted
+    ensures { λ r. ⌜ r ≡ flatCount (Index.meaning a) ⌝ }
+{
+    match a {
+        Indexed::Entries(n) => answered(n),
+        Indexed::Refused(r) => refused(r),
+    }
+}
+
 pub fn run_of(a: Ran) -> Counted
     ensures { λ r. ⌜ r ≡ flatCount (Runs.meaning a) ⌝ }
 {
@@ -530,6 +553,45 @@ pub fn sample_of(a: SampleTold) -> Sample
             is_float: 0,
             value: 0,
             bits: 0,
+        },
+    }
+}
+
+fn kind_number(kind: EventKind) -> u32
+    ensures { λ r. ⌜ r ≡ kindNumber kind ⌝ }
+{
+    match kind {
+        EventKind::None => 0,
+        EventKind::RecordingStart => 1,
+        EventKind::RecordingEnd => 2,
+        EventKind::CalibrationStart => 3,
+        EventKind::CalibrationEnd => 4,
+        EventKind::InstStart => 5,
+        EventKind::InstEnd => 6,
+        EventKind::SleepAllowed => 7,
+        EventKind::WakeCall => 8,
+        EventKind::LightsOut => 9,
+        EventKind::LightsOn => 10,
+        EventKind::MeasurementStopped => 11,
+        EventKind::MeasurementResumed => 12,
+        EventKind::User => 13,
+        EventKind::Reserved => 14,
+    }
+}
+
+pub fn kind_of(a: KindTold) -> Kind
+    ensures { λ r. ⌜ r ≡ flatKind (Codes.meaning a) ⌝ }
+{
+    match a {
+        KindTold::Kind(k) => Kind {
+            refusal: 0,
+            position: 0,
+            kind: kind_number(k),
+        },
+        KindTold::Refused(r) => Kind {
+            refusal: r.0,
+            position: r.1 as u64,
+            kind: 0,
         },
     }
 }

@@ -181,10 +181,10 @@ one-several h = zero-one (cc)
 module _ (w : Way) (file : List ℕ) (q t : ℕ) (flags format rate wide n : ℕ) (at20 : flags ≡ numberAt (w .from) 4 file (q + 20)) (at28 : format ≡ numberAt (w .from) 4 file (q + 28)) (at32 : rate ≡ numberAt (w .from) 4 file (q + 32))
     (isWide : wide ≡ width format) (isMany : n ≡ samplesOf t flags rate) (s d : List ℕ) (p : ℕ) (c : Channel) (cs : List Channel) (kept : Kept (w .from) file q (c ∷ cs)) where
   read-wide : wide ≡ width (c .format)
-  read-wide = isWide ∙ ap width (at28 ∙ sym (kept .1))
+  read-wide = isWide ∙ ap width (at28 ∙ sym (kept .0 .format))
 
   read-many : n ≡ samplesIn t c
-  read-many = isMany ∙ rw (at20, at32, kept .0, kept .2)
+  read-many = isMany ∙ rw (at20, at32, kept .0 .flags, kept .0 .rate)
 
   pub samples-past : {X : Type 0} → length s - p < n * wide → p ≤ length s → p + samplesIn t c * width (c .format) ≤ length s → X
   samples-past l f h = absurd (omega (arith, rw (read-many, read-wide) at l))
@@ -236,7 +236,7 @@ module _ (w : Way) (file : List ℕ) (t : ℕ) (s : List ℕ) where
             record {
               rest = l;
               count = omega (arith, e);
-              kept = k .3;
+              kept = k .1;
               room = omega (arith, i .0);
               left =
                   left-pasted w b s d d′ (copy w b s (b + p) (numberList wide many)) (filling t cs) (samples t (c ∷ l)) (samples t l) p r
@@ -295,8 +295,8 @@ module _ (o : Order) (file : List ℕ) where
   unfolding allWide
   wide-kept v q [] k h = tt
   wide-kept v q (c ∷ cs) k h = (
-    rw (k .1) (eqb-true (width (numberAt o 4 file (q + 28))) v (and-left _ _ h)),
-    wide-kept v (q + 256) cs (k .3) (and-right (eqb (width (numberAt o 4 file (q + 28))) v) _ h),
+    rw (k .0 .format) (eqb-true (width (numberAt o 4 file (q + 28))) v (and-left _ _ h)),
+    wide-kept v (q + 256) cs (k .1) (and-right (eqb (width (numberAt o 4 file (q + 28))) v) _ h),
   )
 
   -- no channel is left; the next has the width, or another

@@ -79,7 +79,7 @@ fn wide(x: u8) -> u64
 }
 
 // The number of eight bytes, the least byte first, in the form that the compiler makes one load.
-fn word_of_8(s: &[u8]) -> u64
+pub fn word_of_8(s: &[u8]) -> u64
     requires { ⌜ length (now s) ≡ 8 ⌝ }
     ensures { λ r. ⌜ r ≡ word (now (s .entry)) ⌝ }
 {

@@ -60,6 +60,10 @@ use Rattle.questions.specs.declared.headers.HeaderTold.the-variants as HeaderTo
 use Rattle.questions.specs.declared.items.Entry.{Entry}
 use Rattle.questions.specs.declared.items.ItemTold.{ItemTold}
 use Rattle.questions.specs.declared.items.ItemTold.the-variants as ItemTold
+use Rattle.index.specs.Index as Index
+use Rattle.index.specs.Index.{entriesOf, Indexes}
+use Rattle.index.specs.declared.Indexed.{Indexed}
+use Rattle.index.specs.declared.Indexed.the-variants as Indexed
 use Rattle.runs.specs.Runs as Runs
 use Rattle.runs.specs.Runs.{Element, RunAnswer}
 use Rattle.runs.specs.declared.Ran.{Ran}
@@ -83,10 +87,11 @@ use Rattle.answers.specs.declared.Heading.{Heading}
 use Rattle.answers.specs.declared.Item.{Item}
 use Rattle.answers.specs.declared.Montage.{Montage}
 use Rattle.answers.specs.declared.Sample.{Sample}
-use Rattle.psg.specs.Calls.{JudgeAnswers, TableAnswers, TurnAnswers, RewriteAnswers, RoomAnswers, RunAnswers}
+use Rattle.psg.specs.Calls.{JudgeAnswers, TableAnswers, TurnAnswers, RewriteAnswers, RoomAnswers, RunAnswers, IndexAnswers}
 use Rattle.demands.specs.Demands.{ofFile, ofTable, ofTurn, ofRewrite, ofQuestion, ofRun, refusalOf, Refuses, Answered, KeepsRest, listedRows, wroteC, stoppedC, headerC, refusedC, flatJudged, TakenApart, Boundary, Accepted, headerJudged, JudgesByRules}
-use Rattle.demands.proofs.Refusing.{of-file, header-refused, room-refused, table-refuses, table-keeps, turn-refuses, turn-keeps, rewrite-refuses, rewrite-keeps, Proper, proper-facts, proper-channel, proper-item, proper-clock, proper-count, proper-sample, proper-montage-count, proper-montage}
+use Rattle.demands.proofs.Refusing.{of-file, header-refused, room-refused, table-refuses, table-keeps, turn-refuses, turn-keeps, rewrite-refuses, rewrite-keeps, index-refuses, index-keeps, Proper, proper-facts, proper-channel, proper-item, proper-clock, proper-count, proper-sample, proper-montage-count, proper-montage}
 use Rattle.demands.proofs.Running.{run-refuses, run-keeps}
+use Rattle.demands.proofs.Coding.{kind-apart}
 use Rattle.demands.proofs.Viewing.{part-told}
 
 -- An answer and its numbers
@@ -217,6 +222,9 @@ sample = record { meaning = meaningS; tell = SampleTold.Value; refuse = SampleTo
 abbrev ran : Meant {X = ℕ} value refusal Ran Counted
 ran = record { meaning = Runs.meaning; tell = Ran.Numbers; refuse = Ran.Refused; flat = flatCount; says = λ a. refusalOf (a .refusal) (a .position); tells = λ v. refl; refuses = λ r. refl; zero = λ v. refl; named = λ n p. refl }
 
+abbrev indexed : Meant {X = ℕ} value refusal Indexed Counted
+indexed = record { meaning = Index.meaning; tell = Indexed.Entries; refuse = Indexed.Refused; flat = flatCount; says = λ a. refusalOf (a .refusal) (a .position); tells = λ v. refl; refuses = λ r. refl; zero = λ v. refl; named = λ n p. refl }
+
 -- The verdict
 
 -- a test that the walk went past
@@ -291,6 +299,10 @@ ends-ran : {a : Counted} (c : Ran) → a ≡ flatCount (Runs.meaning c) → Ends
 ends-ran (Ran.Numbers n) e = ended n refl e
 ends-ran (Ran.Refused r) e = stops r refl e
 
+ends-indexed : {a : Counted} (c : Indexed) → a ≡ flatCount (Index.meaning c) → Ends Indexed.Refused Indexed.Entries a c
+ends-indexed (Indexed.Entries n) e = ended n refl e
+ends-indexed (Indexed.Refused r) e = stops r refl e
+
 -- The calls, of every list of bytes
 
 module _ (s : List ℕ) (b : Bytes s) where
@@ -327,6 +339,11 @@ module _ (s : List ℕ) (b : Bytes s) where
       by-meaning ran s (either (Runs.answerOf c s i j k first n (length out))) (λ d e. record { answer = e; buffer = x .holds }) (x .answers) (λ m p h. rw h)
       (λ m p e. run-refuses s c i j k first n (length out) (refusalOf m p) (sym e))
 
+  pub index-apart : (out out′ : List ℤ) (a : Counted) → IndexAnswers s out out′ a → TakenApart s (Indexes s out out′) Indexed.Refused (λ d. flatCount (Index.meaning d)) ofTable (5 * length (entriesOf (R.judge s))) (a .refusal) (a .position) a
+  index-apart out out′ a x =
+      by-meaning indexed s (either (Index.answerOf s (length out))) (λ d e. record { answer = e; buffer = x .holds }) (x .answers) (λ m p h. rw h)
+      (λ m p e. index-refuses s (length out) (refusalOf m p) (sym e))
+
   -- a question's refusals
   asked : {A : Type 0} {x : Answer A} → Proper s x → (n p : ℕ) → x ≡ refusal n p → Refuses ofQuestion (length s) 0 (refusalOf n p)
   asked h n p e = rw e at h
@@ -354,6 +371,9 @@ module _ (s : List ℕ) (b : Bytes s) where
     view = λ file e i j k a x. part-told file (rw e b) i j k a (rw e x);
     run = run-apart;
     run-keeps = λ c i j k first n out out′ a x. let y = run-apart c i j k first n out out′ a x in kept (run-keeps s c i j k first n out out′ (y .told) (y .met)) (ends-ran (y .told) (y .same));
+    index = index-apart;
+    index-keeps = λ out out′ a x. let y = index-apart out out′ a x in kept (index-keeps s out out′ (y .told) (y .met)) (ends-indexed (y .told) (y .same));
+    event-kind = kind-apart;
   }
 
   -- accepted and refused exactly as the rules do

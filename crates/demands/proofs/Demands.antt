@@ -11,9 +11,11 @@ use denote.Ref.{RefT}
 use lib.IntN.{ℤ}
 use lib.ListN.{length, take, drop}
 use lib.Seq.{take-at}
+use Rattle.words.specs.Lent.{written}
 use Rattle.words.specs.Numbers.{Bytes, bytesAt, other}
 use Rattle.words.specs.declared.Order.{Order}
-use Rattle.walk.specs.Walk.{Row, Event, refused, rows}
+use Rattle.words.proofs.Lent.{written-front}
+use Rattle.walk.specs.Walk.{Event, refused, rows}
 use Rattle.rules.specs.Canonical.{rewritten, canonical}
 use Rattle.rules.specs.Reading.{Value, ChannelReading, channelReading, reading}
 use Rattle.rules.specs.Rules as R
@@ -23,8 +25,7 @@ use Rattle.rules.proofs.Turn.{is-render, turn-bytes}
 use Rattle.header.specs.Letters.{lettered}
 use Rattle.header.specs.declared.Lettered.the-variants as Lettered
 use Rattle.judge.proofs.Verdicts.{judge-accepted, judge-refused}
-use Rattle.rows.specs.Rows.{written, flat}
-use Rattle.rows.proofs.Written.{length-flat}
+use Rattle.rows.specs.Rows as Rows
 use Rattle.table.specs.Table as Table
 use Rattle.table.specs.Table.{Lists}
 use Rattle.table.specs.declared.Listed.{Listed}
@@ -51,6 +52,13 @@ use Rattle.questions.proofs.Views.{view-samples}
 use Rattle.questions.proofs.Unique.{header-unique, facts-unique, channel-unique, montage-count-unique, montage-unique, patient-item-unique, event-item-unique, clock-unique, count-unique, sample-unique}
 use Rattle.runs.specs.Runs as Runs
 use Rattle.runs.proofs.Told.{runs-refused, run-unique}
+use Rattle.index.specs.Events.{entries}
+use Rattle.index.specs.Index as Index
+use Rattle.index.specs.Index.{Indexes}
+use Rattle.index.specs.declared.Indexed.{Indexed}
+use Rattle.index.specs.declared.Indexed.the-variants as Indexed
+use Rattle.index.proofs.Answers.{indexes-refused, index-unique}
+use Rattle.index.proofs.Exact.{exact}
 use Rattle.makers.specs.Makers.{firstMaker}
 use Rattle.permit.specs.Permit as Permit
 use Rattle.permit.specs.declared.Written.{Written}
@@ -63,17 +71,18 @@ use Rattle.rewrite.proofs.Answers.{rewrites-refused}
 use Rattle.rewrite.proofs.Demands.{rewrite-unique, rewrite-answers, rewrite-accepted, rewrite-both}
 use Rattle.room.proofs.Enough.{room-unique, rewrite-enough, room-told, reserved}
 use Rattle.room.proofs.Growth.{no-longer}
-use Rattle.answers.specs.Flat.{countedRows, countedBytes, flatHeading}
+use Rattle.answers.specs.Flat.{countedRows, countedBytes, flatHeading, flatCount}
 use Rattle.answers.specs.declared.Counted.{Counted}
 use Rattle.psg.specs.Calls.{TableAnswers}
-use Rattle.demands.specs.Demands.{ofFile, refusalOf, Demand-1, Accepted, HandsUp, TableHolds, Tells, WrittenAnew, SufficesC, Reserved, Demand-2, headerRead, inOther, SameEnd, SameNumbers, BoundarySame, Same, Demand-3}
+use Rattle.demands.specs.Demands.{ofFile, refusalOf, Demand-1, Accepted, HandsUp, TableHolds, IndexHolds, Tells, WrittenAnew, SufficesC, Reserved, Demand-2, headerRead, inOther, SameEnd, SameNumbers, BoundarySame, Same, Demand-3}
 use Rattle.demands.proofs.Agreeing.{agree-first, numbered-image}
-use Rattle.demands.proofs.Refusing.{of-file, header-refused, room-refused, table-refuses, table-keeps, turn-refuses, turn-keeps, rewrite-refuses, rewrite-keeps, question, proper-facts, proper-channel, proper-item, proper-clock, proper-count, proper-sample, proper-montage-count, proper-montage}
+use Rattle.demands.proofs.Refusing.{of-file, header-refused, room-refused, table-refuses, table-keeps, turn-refuses, turn-keeps, rewrite-refuses, rewrite-keeps, index-refuses, index-keeps, question, proper-facts, proper-channel, proper-item, proper-clock, proper-count, proper-sample, proper-montage-count, proper-montage}
 use Rattle.demands.proofs.Running.{run-refuses, run-keeps, run-read, run-number, run-entry}
+use Rattle.demands.proofs.Coding.{kind-answered, kinds, boundary-kinds}
 use Rattle.demands.proofs.Samples.{recording-picked, view-words}
 use Rattle.demands.proofs.Telling.{channel-words, header-told, facts-told, channel-agrees, clock-told, count-told, sample-told, montage-count-told, montage-agrees}
 use Rattle.demands.proofs.Viewing.{view-long, shown}
-use Rattle.demands.proofs.Boundary.{boundary, boundary-accepted, boundary-judges, table-apart, turn-apart, rewrite-apart}
+use Rattle.demands.proofs.Boundary.{boundary, boundary-accepted, boundary-judges, table-apart, turn-apart, rewrite-apart, index-apart}
 use Rattle.demands.proofs.BoundaryTold.{boundary-tells}
 
 pub demand-1 : (s : List ℕ) → Bytes s → Demand-1 s
@@ -99,6 +108,9 @@ demand-1 s b = record {
   view = λ file e i j k r x. shown file (rw e b) i j k r x;
   run = λ c i j k first n out out′ a x r e. run-refuses s c i j k first n (length out) r (sym (ap Runs.meaning e) ∙ x .answer);
   run-keeps = run-keeps s;
+  index = λ out out′ a x r i. index-refuses s (length out) r (sym (ap Index.meaning i) ∙ x .answer);
+  index-keeps = index-keeps s;
+  event-kind = λ c a x. kind-answered c (length s) a x;
   boundary = boundary s b;
 }
 
@@ -121,18 +133,21 @@ hands-up s n p h = record {
   count = λ i j k a x. count-unique s i j k a _ x (rw h);
   sample = λ i j k m a x. sample-unique s i j k m a _ x (rw h);
   run = λ c i j k first m out out′ a x. run-unique c s i j k first m out out′ out a _ x (runs-refused c s i j k first m out {m = n} {p = p} (rw h)) .0;
+  index = λ out out′ a x. index-unique s out out′ out a _ x (indexes-refused s out h) .0;
 }
-
--- rows in front
-written-front : (out : List ℤ) (rs : List Row) → take (4 * length rs) (written true out 0 rs) ≡ flat rs
-unfolding written
-written-front out rs = take-at (flat rs) (drop (0 + 4 * length rs) out) (4 * length rs) (length-flat rs)
 
 described : (s : List ℕ) {v : R.File} {t : List Event} → Accepted s v t → (out out′ : List ℤ) (a : Listed) → 4 * length (rows 0 t) ≤ length out → Lists s out out′ a → TableHolds Listed.Rows (rows 0 t) out′ a
 described s {v} {t} h out out′ a room x =
     let l = le-leb (4 * length (rows 0 t)) (length out) room in
-    let y = table-unique s out out′ (written true out 0 (rows 0 t)) a (Listed.Rows (length (rows 0 t))) x (record { answer = rw (h, l); buffer = rw (h, l) }) in
-    record { answer = y .0; holds = ap (take (4 * length (rows 0 t))) (y .1) ∙ written-front out (rows 0 t) }
+    let y = table-unique s out out′ (written Rows.numbers 4 true out 0 (rows 0 t)) a (Listed.Rows (length (rows 0 t))) x (record { answer = rw (h, l); buffer = rw (h, l) }) in
+    record { answer = y .0; holds = ap (take (4 * length (rows 0 t))) (y .1) ∙ written-front Rows.numbers 4 (λ _. refl) out (rows 0 t) }
+
+indexed : (s : List ℕ) {v : R.File} {t : List Event} → Accepted s v t → (out out′ : List ℤ) (a : Indexed) → 5 * length (entries (R.contents v)) ≤ length out → Indexes s out out′ a → IndexHolds Indexed.Entries (entries (R.contents v)) out′ a
+indexed s {v} h out out′ a room x =
+    let es = entries (R.contents v) in
+    let l = le-leb (5 * length es) (length out) room in
+    let y = index-unique s out out′ (written Index.numbers 5 true out 0 es) a (Indexed.Entries (length es)) x (record { answer = rw (h, l); buffer = rw (h, l) }) in
+    record { answer = y .0; holds = ap (take (5 * length es)) (y .1) ∙ written-front Index.numbers 5 (λ _. refl) out es }
 
 tells : (s : List ℕ) → Bytes s → {v : R.File} {t : List Event} → Accepted s v t → Tells s (reading v)
 tells s b h = record {
@@ -210,19 +225,27 @@ demand-2 s b = record {
   accepted = λ a x h i. rw i at x;
   refuses = hands-up s;
   lists = λ v t h out out′ a room x. described s h out out′ a room x;
+  indexes = λ v t h out out′ a room x. indexed s h out out′ a room x;
+  events = λ v t h. exact (R.contents v);
   answers = λ v t h. tells s b h;
   rewrites = λ v t h order to names free out out′ a room x. written-anew s b h order to names free out out′ a room x a (rewrite-told s b h order to names free out out′ a room x);
   reserved = λ v t h. room-reserved s b h;
+  kinds = kinds;
   boundary-judges = boundary-judges s b;
   boundary-accepted = boundary-accepted s b;
   boundary-lists = λ v t h out out′ a room x.
       let y = table-apart s b out out′ a x in
       let z = described s h out out′ (y .told) room (y .met) in
       record { answer = y .same ∙ ap (λ (c : Listed). countedRows (Table.meaning c)) (z .answer); holds = z .holds };
+  boundary-indexes = λ v t h out out′ a room x.
+      let y = index-apart s b out out′ a x in
+      let z = indexed s h out out′ (y .told) room (y .met) in
+      record { answer = y .same ∙ ap (λ (c : Indexed). flatCount (Index.meaning c)) (z .answer); holds = z .holds };
   boundary-answers = λ v t h. boundary-tells s b h;
   boundary-rewrites = λ v t h order to names free out out′ a room x.
       let y = rewrite-apart s b order out out′ a x in
       written-anew s b h order to names free out out′ (y .told) room (y .met) a (y .same ∙ ap (λ (c : Written). countedBytes (Permit.meaning c)) (rewrite-told s b h order to names free out out′ (y .told) room (y .met)));
+  boundary-kinds = boundary-kinds;
 }
 
 -- Demand 3
@@ -232,6 +255,11 @@ module _ (s s′ : List ℕ) (e : R.judge s′ ≡ R.judge s) where
   table-same : (out out₁ out₂ : List ℤ) (a c : Listed) → Lists s out out₁ a → Lists s′ out out₂ c → SameEnd a c out₁ out₂
   table-same out out₁ out₂ a c x y =
       let z = table-unique s out out₁ out₂ a c x (record { answer = rw e at (y .answer); buffer = rw e at (y .buffer) }) in
+      record { answer = z .0; buffer = z .1 }
+
+  index-same : (out out₁ out₂ : List ℤ) (a c : Indexed) → Indexes s out out₁ a → Indexes s′ out out₂ c → SameEnd a c out₁ out₂
+  index-same out out₁ out₂ a c x y =
+      let z = index-unique s out out₁ out₂ a c x (record { answer = rw e at (y .answer); buffer = rw e at (y .buffer) }) in
       record { answer = z .0; buffer = z .1 }
 
   boundary-table-same : (out out₁ out₂ : List ℤ) (a c : Counted) → TableAnswers s out out₁ a → TableAnswers s′ out out₂ c → SameEnd a c out₁ out₂
@@ -308,6 +336,7 @@ module _ (s : List ℕ) (b : Bytes s) {v : R.File} {t : List Event} (h : Accepte
         sample = λ i j k n a c x y. x ∙ (rw e) ∙ sym y;
         view = λ i j k a c x y. x ∙ (rw e) ∙ sym y;
         run = λ d i j k first n out out₁ out₂ a c x y. record { answer = x .answers ∙ (rw e) ∙ sym (y .answers); buffer = x .holds ∙ (rw e) ∙ sym (y .holds) };
+        index = λ out out₁ out₂ a c x y. record { answer = x .answers ∙ (rw e) ∙ sym (y .answers); buffer = x .holds ∙ (rw e) ∙ sym (y .holds) };
         back = λ out₂ out₂′ c l z.
             let y = turn-apart s′ turned-bytes out₂ out₂′ c z in
             let w = turn-twice s h free b out out′ a room x out₂ out₂′ (y .told) l (y .met) in
@@ -350,6 +379,7 @@ module _ (s : List ℕ) (b : Bytes s) {v : R.File} {t : List Event} (h : Accepte
         run = λ d i j k first n out out₁ out₂ a c x z.
             let w = run-unique d s i j k first n out out₁ out₂ a c x (record { answer = rw e at (z .answer); buffer = rw e at (z .buffer) }) in
             record { answer = w .0; buffer = w .1 };
+        index = index-same s s′ e;
         back = λ out₂ out₂′ c l z. let w = turn-twice s h free b out out′ a room x out₂ out₂′ c l z in record { answer = w .0; holds = w .1 };
         anew = λ order to names out₁ out₁′ c l₁ x₁ out₂ out₂′ d l₂ x₂.
             let w = rewrite-both s b h free out out′ a room x order to names out₁ out₁′ c l₁ x₁ out₂ out₂′ d l₂ x₂ in

@@ -6,6 +6,7 @@ pub mod Telling
 pub mod Floats
 pub mod Viewing
 pub mod Running
+pub mod Coding
 pub mod Boundary
 pub mod BoundaryTold
 pub mod Demands

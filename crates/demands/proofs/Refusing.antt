@@ -13,6 +13,8 @@ use lib.IntN.{ℤ}
 use lib.ListN.{length, drop}
 use lib.Seq.{drop-at}
 use Rattle.words.specs.Numbers.{Bytes}
+use Rattle.words.specs.Lent.{written}
+use Rattle.words.proofs.Lent.{length-written, written-beyond}
 use Rattle.words.proofs.Runs.{length-pasted, drop-pasted}
 use Rattle.walk.specs.Walk.{pick, Row, Event, Outcome, refused, passed, rows}
 use Rattle.walk.proofs.Apart.{none-some}
@@ -26,8 +28,7 @@ use Rattle.rules.proofs.Turn.{nothing-left, turn-length}
 use Rattle.header.specs.Letters.{lettered}
 use Rattle.header.specs.declared.Lettered.{Lettered}
 use Rattle.header.specs.declared.Lettered.the-variants as Lettered
-use Rattle.rows.specs.Rows.{written, flat}
-use Rattle.rows.proofs.Written.{length-flat, length-written}
+use Rattle.rows.specs.Rows as Rows
 use Rattle.table.specs.Table as Table
 use Rattle.table.specs.declared.Listed.{Listed}
 use Rattle.table.specs.declared.Listed.the-variants as Listed
@@ -50,6 +51,11 @@ use Rattle.turn.specs.Turn.{Turns}
 use Rattle.rewrite.specs.Rewrite as Rewrite
 use Rattle.rewrite.specs.Rewrite.{barrier, rewrittenIn, Rewrites}
 use Rattle.room.specs.Room.{roomIn, roomOf}
+use Rattle.index.specs.Events.{entries}
+use Rattle.index.specs.Index as Index
+use Rattle.index.specs.Index.{entriesOf}
+use Rattle.index.specs.declared.Indexed.{Indexed}
+use Rattle.index.specs.declared.Indexed.the-variants as Indexed
 use Rattle.demands.specs.Demands.{ofFile, ofTable, ofTurn, ofRewrite, ofQuestion, Refuses, Answered, KeepsRest, listedRows, refusalOf}
 use Rattle.demands.proofs.Makers.{maker-inside}
 
@@ -62,7 +68,7 @@ module _ (numbers : ℕ → Bool) (size need : ℕ) (r : Refusal) where
   barred : numbers 18 ≡ true → r .0 ≡ 18 → r .1 ≤ size → Refuses numbers size need r
   barred ok e f = record { number = rw e ok; nonzero = omega arith; file = λ l. f; maker = λ i. f; room = λ i. absurd (omega arith); range = λ i. absurd (omega arith) }
 
-  out-of-range : numbers 19 ≡ true → r .0 ≡ 19 → r .1 ≡ 0 → Refuses numbers size need r
+  pub out-of-range : numbers 19 ≡ true → r .0 ≡ 19 → r .1 ≡ 0 → Refuses numbers size need r
   out-of-range ok e f = record { number = rw e ok; nonzero = omega arith; file = λ l. absurd (omega arith); maker = λ i. absurd (omega arith); room = λ i. absurd (omega arith); range = λ i. f }
 
 -- each call has the file's numbers, and its own
@@ -80,17 +86,27 @@ module _ (s : List ℕ) where
       let x = refusals s h in
       record { number = has (r .0) (in-between 1 16 (r .0) (x .0) (x .1)); nonzero = x .0; file = λ _. x .2; maker = λ _. x .2; room = λ e. absurd (omega (arith, x .1)); range = λ e. absurd (omega (arith, x .1)) }
 
+  -- a call that lists things of n numbers each: 17, and how many numbers they are
+  module _ {M : Type 0} (many : ℕ → M) (ref : ℕ → ℕ → M) (apart : (m n p : ℕ) → many m ≡ ref n p → ⊥) (same : (m q n p : ℕ) → ref m q ≡ ref n p → (m ≡ n) × (q ≡ p)) where
+    listing-refuses : (n count : ℕ) (b : Bool) (r : Refusal) → ref (r .0) (r .1) ≡ pick b (many count) (ref 17 (n * count)) → Refuses ofTable (length s) (n * count) r
+    listing-refuses n count true r h = absurd (apart count (r .0) (r .1) (sym h))
+    listing-refuses n count false r h = let e = same (r .0) (r .1) 17 (n * count) h in short ofTable (length s) (n * count) r (or-right (ofFile 17) refl) (e .0) (e .1)
+
   -- the table
   pub table-refuses : (room : ℕ) (r : Refusal) → Table.refusal (r .0) (r .1) ≡ Table.answerOf s room → Refuses ofTable (length s) (4 * length (listedRows (R.judge s))) r
   table-refuses room r h = go (R.judge s) refl h
     where
-      room-for : (rs : List Row) (b : Bool) → Table.refusal (r .0) (r .1) ≡ pick b (Table.rows (length rs)) (Table.refusal 17 (4 * length rs)) → Refuses ofTable (length s) (4 * length rs) r
-      room-for rs true h = rows-refusal (sym h)
-      room-for rs false h = short ofTable (length s) (4 * length rs) r (or-right (ofFile 17) refl) (cc) (cc)
-
       go : (x : Outcome R.File) → R.judge s ≡ x → Table.refusal (r .0) (r .1) ≡ Table.answered x room → Refuses ofTable (length s) (4 * length (listedRows x)) r
       go (refused n p) e h = of-file ofTable 0 (λ n. or-true _) r (cc)
-      go (passed v l t) e h = room-for (rows 0 t) (leb (4 * length (rows 0 t)) room) h
+      go (passed v l t) e h = listing-refuses Table.rows Table.refusal (λ _ _ _ h. rows-refusal h) (λ _ _ _ _ h. (cc, cc)) 4 (length (rows 0 t)) (leb (4 * length (rows 0 t)) room) r h
+
+  -- the index
+  pub index-refuses : (room : ℕ) (r : Refusal) → refusal (r .0) (r .1) ≡ Index.answerOf s room → Refuses ofTable (length s) (5 * length (entriesOf (R.judge s))) r
+  index-refuses room r h = go (R.judge s) refl h
+    where
+      go : (x : Outcome R.File) → R.judge s ≡ x → refusal (r .0) (r .1) ≡ Index.answered x room → Refuses ofTable (length s) (5 * length (entriesOf x)) r
+      go (refused n p) e h = of-file ofTable 0 (λ n. or-true _) r (cc)
+      go (passed v l t) e h = listing-refuses value refusal (λ _ _ _ h. refusal-value (sym h)) (λ _ _ _ _ h. (cc, cc)) 5 (length (entries (R.contents v))) (leb (5 * length (entries (R.contents v))) room) r h
 
   -- leave to write: 18, then 17
   module _ (numbers : ℕ → Bool) (has17 : numbers 17 ≡ true) (has18 : numbers 18 ≡ true) (need room : ℕ) (r : Refusal) where
@@ -216,33 +232,43 @@ module _ (s : List ℕ) where
 
 -- What is left of a buffer
 
--- rows in front: what is behind them stands
-written-beyond : (out : List ℤ) (rs : List Row) → drop (4 * length rs) (written true out 0 rs) ≡ drop (4 * length rs) out
-unfolding written
-written-beyond out rs = rw zero-add (drop-at (flat rs) (drop (4 * length rs) out) (4 * length rs) (length-flat rs))
+-- a call that lists things of n numbers each, and answers how many: in front their numbers, behind them what stood there; a refusal leaves the buffer
+module _ {A E M : Type 0} (numbers : A → List ℤ) (n : ℕ) (each : (a : A) → length (numbers a) ≡ n) (refuse : Refusal → E) (tell : ℕ → E) (meaning : E → M) (many : ℕ → M) (ref : ℕ → ℕ → M)
+    (apart : (m k p : ℕ) → many m ≡ ref k p → ⊥) (one : (m k : ℕ) → many m ≡ many k → m ≡ k) (tells : (m : ℕ) → meaning (tell m) ≡ many m) (refuses : (r : Refusal) → meaning (refuse r) ≡ ref (r .0) (r .1))
+    (out out′ : List ℤ) (a : E) where
+  unwritten : (k p : ℕ) → meaning a ≡ ref k p → out′ ≡ out → KeepsRest refuse tell n out out′ a
+  unwritten k p h e =
+      let no : (m : ℕ) → a ≡ tell m → ⊥ = λ m i. apart m k p (sym (tells m) ∙ sym (ap meaning i) ∙ h) in
+      record { refused = λ _ _. e; fits = λ m i. absurd (no m i); beyond = λ m i. absurd (no m i); long = ap length e }
 
--- a refusal that left it
-unwritten : (out out′ : List ℤ) (a : Listed) {n p : ℕ} → Table.meaning a ≡ Table.refusal n p → out′ ≡ out → KeepsRest Listed.Refused Listed.Rows 4 out out′ a
-unwritten out out′ a h e = record { refused = λ _ _. e; fits = λ m i. rows-refusal (sym (ap Table.meaning i) ∙ h); beyond = λ m i. rows-refusal (sym (ap Table.meaning i) ∙ h); long = ap length e }
-
-table-kept : (s : List ℕ) (out out′ : List ℤ) (a : Listed) (x : Outcome R.File) → Table.meaning a ≡ Table.answered x (length out) → out′ ≡ Table.holding x out → KeepsRest Listed.Refused Listed.Rows 4 out out′ a
-table-kept s out out′ a (refused n p) h e = unwritten out out′ a h e
-table-kept s out out′ a (passed v l t) h e = go (leb (4 * length (rows 0 t)) (length out)) refl h e
-  where
-    go : (b : Bool) → leb (4 * length (rows 0 t)) (length out) ≡ b → Table.meaning a ≡ pick b (Table.rows (length (rows 0 t))) (Table.refusal 17 (4 * length (rows 0 t))) →
-        out′ ≡ pick b (written true out 0 (rows 0 t)) out → KeepsRest Listed.Refused Listed.Rows 4 out out′ a
-    go true r h e =
-        let room : 4 * length (rows 0 t) ≤ length out = leb-true _ _ r in
-        record {
-          refused = λ u i. rows-refusal (sym h ∙ ap Table.meaning i);
-          fits = λ m i. let z : m ≡ length (rows 0 t) = cc (ap Table.meaning i) in omega arith;
-          beyond = λ m i. let z : m ≡ length (rows 0 t) = cc (ap Table.meaning i) in rw (e, z) (written-beyond out (rows 0 t));
-          long = ap length e ∙ length-written true out 0 (rows 0 t) (λ _. omega arith);
-        }
-    go false r h e = unwritten out out′ a h e
+  listing-keeps : (xs : List A) (b : Bool) → leb (n * length xs) (length out) ≡ b → meaning a ≡ pick b (many (length xs)) (ref 17 (n * length xs)) → out′ ≡ pick b (written numbers n true out 0 xs) out →
+      KeepsRest refuse tell n out out′ a
+  listing-keeps xs true r h e =
+      let room : n * length xs ≤ length out = leb-true _ _ r in
+      let same : (m : ℕ) → a ≡ tell m → m ≡ length xs = λ m i. one m (length xs) (sym (tells m) ∙ sym (ap meaning i) ∙ h) in
+      record {
+        refused = λ u i. absurd (apart (length xs) (u .0) (u .1) (sym h ∙ ap meaning i ∙ refuses u));
+        fits = λ m i. rw (same m i) room;
+        beyond = λ m i. rw (e, same m i) (written-beyond numbers n each out xs);
+        long = ap length e ∙ length-written numbers n each true out 0 xs (λ _. omega arith);
+      }
+  listing-keeps xs false r h e = unwritten 17 (n * length xs) h e
 
 pub table-keeps : (s : List ℕ) (out out′ : List ℤ) (a : Listed) → Table.Lists s out out′ a → KeepsRest Listed.Refused Listed.Rows 4 out out′ a
-table-keeps s out out′ a x = table-kept s out out′ a (R.judge s) (x .answer) (x .buffer)
+table-keeps s out out′ a x = go (R.judge s) (x .answer) (x .buffer)
+  where
+    go : (y : Outcome R.File) → Table.meaning a ≡ Table.answered y (length out) → out′ ≡ Table.holding y out → KeepsRest Listed.Refused Listed.Rows 4 out out′ a
+    go (refused n p) h e = unwritten Rows.numbers 4 (λ _. refl) Listed.Refused Listed.Rows Table.meaning Table.rows Table.refusal (λ _ _ _ h. rows-refusal h) (λ _ _ h. cc) (λ m. refl) (λ r. refl) out out′ a n p h e
+    go (passed v l t) h e = listing-keeps Rows.numbers 4 (λ _. refl) Listed.Refused Listed.Rows Table.meaning Table.rows Table.refusal (λ _ _ _ h. rows-refusal h) (λ _ _ h. cc) (λ m. refl) (λ r. refl) out out′ a (rows 0 t) (leb (4 * length (rows 0 t)) (length out)) refl h e
+
+pub index-keeps : (s : List ℕ) (out out′ : List ℤ) (a : Indexed) → Index.Indexes s out out′ a → KeepsRest Indexed.Refused Indexed.Entries 5 out out′ a
+index-keeps s out out′ a x = go (R.judge s) (x .answer) (x .buffer)
+  where
+    go : (y : Outcome R.File) → Index.meaning a ≡ Index.answered y (length out) → out′ ≡ Index.holding y out → KeepsRest Indexed.Refused Indexed.Entries 5 out out′ a
+    go (refused n p) h e = unwritten Index.numbers 5 (λ _. refl) Indexed.Refused Indexed.Entries Index.meaning value refusal (λ _ _ _ h. refusal-value (sym h)) (λ _ _ h. cc) (λ m. refl) (λ r. refl) out out′ a n p h e
+    go (passed v l t) h e =
+        let es = entries (R.contents v) in
+        listing-keeps Index.numbers 5 (λ _. refl) Indexed.Refused Indexed.Entries Index.meaning value refusal (λ _ _ _ h. refusal-value (sym h)) (λ _ _ h. cc) (λ m. refl) (λ r. refl) out out′ a es (leb (5 * length es) (length out)) refl h e
 
 -- bytes in front, as many as the answer says, and with room for them
 writes-keep : (x : Permit.Answer) (xs out out′ : List ℕ) (a : Written) → ((n : ℕ) → Permit.bytes n ≡ x → (length xs ≡ n) × (n ≤ length out)) → Writes x xs out out′ a → KeepsRest Written.Refused Written.Bytes 1 out out′ a

@@ -12,6 +12,7 @@ use lib.Dec.{eqb}
 use lib.IntN.{ℤ}
 use lib.ListN.{length, take, drop}
 use Rattle.words.specs.Floats.{bitsOf}
+use Rattle.words.specs.Lent.{flat}
 use Rattle.words.specs.Numbers.{Bytes, letterOf, bytesAt, other}
 use Rattle.words.specs.Runs.{numbersIn}
 use Rattle.words.specs.Values.{unsigned}
@@ -32,7 +33,7 @@ use Rattle.header.specs.declared.Lettered.the-variants as Lettered
 use Rattle.judge.specs.Judged.{AcceptedAs, JudgedAs}
 use Rattle.judge.specs.declared.Judged.{Judged}
 use Rattle.judge.specs.declared.Judged.the-variants as Judged
-use Rattle.rows.specs.Rows.{flat}
+use Rattle.rows.specs.Rows as Rows
 use Rattle.table.specs.Table as Table
 use Rattle.table.specs.Table.{Lists}
 use Rattle.table.specs.declared.Listed.{Listed}
@@ -41,6 +42,11 @@ use Rattle.recordings.specs.Answers.{Answer, value, refusal, _>>=_, indexed}
 use Rattle.recordings.specs.declared.Counts.{Counts}
 use Rattle.recordings.specs.declared.FactsTold.{FactsTold}
 use Rattle.recordings.specs.declared.FactsTold.the-variants as FactsTold
+use Rattle.codes.specs.Codes as Codes
+use Rattle.codes.specs.Codes.{KindAnswer, KindIs}
+use Rattle.codes.specs.declared.EventKind.{EventKind}
+use Rattle.codes.specs.declared.KindTold.{KindTold}
+use Rattle.codes.specs.declared.KindTold.the-variants as KindTold
 use Rattle.samples.specs.declared.ClockTold.{ClockTold}
 use Rattle.samples.specs.declared.ClockTold.the-variants as ClockTold
 use Rattle.samples.specs.declared.CountTold.{CountTold}
@@ -75,6 +81,12 @@ use Rattle.runs.specs.Runs.{Element, elementOf, RunAnswer}
 use Rattle.runs.specs.declared.Ran.{Ran}
 use Rattle.runs.specs.declared.Ran.the-variants as Ran
 use Rattle.runs.specs.declared.Sibling.{Sibling}
+use Rattle.index.specs.Events as Events
+use Rattle.index.specs.Events.{entries}
+use Rattle.index.specs.Index as Index
+use Rattle.index.specs.Index.{entriesOf, Indexes}
+use Rattle.index.specs.declared.Indexed.{Indexed}
+use Rattle.index.specs.declared.Indexed.the-variants as Indexed
 use Rattle.makers.specs.Makers.{firstMaker}
 use Rattle.permit.specs.Permit as Permit
 use Rattle.permit.specs.declared.Written.{Written}
@@ -83,6 +95,7 @@ use Rattle.turn.specs.Turn.{Turns}
 use Rattle.rewrite.specs.Rewrite.{barrier, rewrittenIn, Rewrites}
 use Rattle.room.specs.Room.{RoomAnswer, ShortAnew}
 use Rattle.answers.specs.Flat.{countedRows, countedBytes, flatHeading, flatFacts, flatChannel, flatMontage, flatItem, flatClock, flatCount, flatSample}
+use Rattle.answers.specs.Flat.{kindNumber, flatKind}
 use Rattle.answers.specs.declared.Channel.{Channel}
 use Rattle.answers.specs.declared.Clock.{Clock}
 use Rattle.answers.specs.declared.Counted.{Counted}
@@ -90,10 +103,12 @@ use Rattle.answers.specs.declared.Facts.{Facts}
 use Rattle.answers.specs.declared.Header.{Header}
 use Rattle.answers.specs.declared.Heading.{Heading}
 use Rattle.answers.specs.declared.Item.{Item}
+use Rattle.answers.specs.declared.Kind.{Kind}
 use Rattle.answers.specs.declared.Montage.{Montage}
 use Rattle.answers.specs.declared.Sample.{Sample}
 use Rattle.answers.specs.declared.View.{View}
-use Rattle.psg.specs.Calls.{JudgeAnswers, TableAnswers, TurnAnswers, RewriteAnswers, RoomAnswers, HeaderAnswers, FactsAnswers, ChannelAnswers, MontageCountAnswers, MontageAnswers, PatientItemAnswers, EventItemAnswers, ClockAnswers, CountAnswers, SampleAnswers, ViewAnswers, RunAnswers}
+use Rattle.psg.specs.Calls.{JudgeAnswers, TableAnswers, TurnAnswers, RewriteAnswers, RoomAnswers, HeaderAnswers, FactsAnswers, ChannelAnswers, MontageCountAnswers, MontageAnswers, PatientItemAnswers, EventItemAnswers, ClockAnswers, CountAnswers, SampleAnswers, ViewAnswers, RunAnswers, IndexAnswers}
+use Rattle.psg.specs.Calls.{KindAnswers}
 use Rattle.demands.specs.Bits.{ChannelIs, MontageIs, SampleIs, SamplesAt}
 
 -- Demand 1: every call answers, with a value or with a refusal that document 01 gives for it; and a buffer keeps what the answer does not state
@@ -116,6 +131,10 @@ ofQuestion n = ofFile n || eqb n 19
 
 abbrev pub ofRun : ℕ → Bool
 ofRun n = ofFile n || (eqb n 19 || eqb n 17)
+
+-- about a code, and no file
+abbrev pub ofCode : ℕ → Bool
+ofCode n = eqb n 19
 
 abbrev pub refusalOf : ℕ → ℕ → Refusal
 refusalOf n p = record { 0 = n; 1 = p }
@@ -205,6 +224,19 @@ pub record TakenApart {E A : Type 0} (s : List ℕ) (meets : E → Type 0) (refu
   pub proper : 1 ≤ n → Refuses numbers (length s) need (refusalOf n p)
   pub rest : 1 ≤ n → a ≡ apart (refuse (refusalOf n p))
 
+-- the answer a for C about the code c: as `TakenApart`, but that no file is refused
+pub record KindTaken (c : ℕ) (a : Kind) : Type 0 where
+  -- what the call of Rattle answers about the same code
+  pub told : KindTold
+  pub met : KindAnswer c told
+  pub same : a ≡ flatKind (Codes.meaning told)
+  -- the number 0: told is no refusal
+  pub answered : a .refusal ≡ 0 → (r : Refusal) → told ≡ KindTold.Refused r → ⊥
+  -- another number: told is that refusal, and the kind is 0
+  pub refused : 1 ≤ a .refusal → told ≡ KindTold.Refused (refusalOf (a .refusal) (a .position))
+  pub proper : 1 ≤ a .refusal → Refuses ofCode 0 0 (refusalOf (a .refusal) (a .position))
+  pub rest : 1 ≤ a .refusal → a .kind ≡ 0
+
 -- the part a of the file that C is told
 pub record PartTold (file : RefT (List ℕ)) (i j k : ℕ) (a : View) : Type 0 where
   -- what `view` answers of the same file
@@ -243,6 +275,10 @@ pub record Boundary (s : List ℕ) : Type 0 where
       TakenApart s (RunAnswer b s i j k first n out out′) Ran.Refused (λ c. flatCount (Runs.meaning c)) ofRun n (a .refusal) (a .position) a
   pub run-keeps : (b : Sibling) (i j k first n : ℕ) (out out′ : List (Element b)) (a : Counted) → RunAnswers b s i j k first n out out′ a →
       KeepsRest stoppedC wroteC 1 out out′ a
+  pub index : (out out′ : List ℤ) (a : Counted) → IndexAnswers s out out′ a →
+      TakenApart s (Indexes s out out′) Indexed.Refused (λ b. flatCount (Index.meaning b)) ofTable (5 * length (entriesOf (R.judge s))) (a .refusal) (a .position) a
+  pub index-keeps : (out out′ : List ℤ) (a : Counted) → IndexAnswers s out out′ a → KeepsRest stoppedC wroteC 5 out out′ a
+  pub event-kind : (c : ℕ) (a : Kind) → KindAnswers c a → KindTaken c a
 
 -- of the file s: what each public call answers, whatever else it is asked
 pub record Demand-1 (s : List ℕ) : Type 0 where
@@ -276,6 +312,11 @@ pub record Demand-1 (s : List ℕ) : Type 0 where
       Answered Ran.Refused ofRun (length s) n a
   pub run-keeps : (b : Sibling) (i j k first n : ℕ) (out out′ : List (Element b)) (a : Ran) → RunAnswer b s i j k first n out out′ a →
       KeepsRest Ran.Refused Ran.Numbers 1 out out′ a
+  -- index: 17 counts in numbers, five an entry
+  pub index : (out out′ : List ℤ) (a : Indexed) → Indexes s out out′ a → Answered Indexed.Refused ofTable (length s) (5 * length (entriesOf (R.judge s))) a
+  pub index-keeps : (out out′ : List ℤ) (a : Indexed) → Indexes s out out′ a → KeepsRest Indexed.Refused Indexed.Entries 5 out out′ a
+  -- the kind of a code, whatever the file is: refused by 19 at 0 alone
+  pub event-kind : (c : ℕ) (a : KindTold) → KindAnswer c a → Answered KindTold.Refused ofCode (length s) 0 a
   -- each call that C links answers the same, taken apart; its number 0 is never a refusal
   pub boundary : Boundary s
 
@@ -317,11 +358,19 @@ pub record HandsUp (s : List ℕ) (n p : ℕ) : Type 0 where
   pub count : (i j k : ℕ) (a : CountTold) → CountAnswer s i j k a → a ≡ CountTold.Refused (refusalOf n p)
   pub sample : (i j k m : ℕ) (a : SampleTold) → SampleAnswer s i j k m a → a ≡ SampleTold.Refused (refusalOf n p)
   pub run : (b : Sibling) (i j k first m : ℕ) (out out′ : List (Element b)) (a : Ran) → RunAnswer b s i j k first m out out′ a → a ≡ Ran.Refused (refusalOf n p)
+  pub index : (out out′ : List ℤ) (a : Indexed) → Indexes s out out′ a → a ≡ Indexed.Refused (refusalOf n p)
 
--- the table of these rows: how many, and the numbers of each in front
-pub record TableHolds {E : Type 0} (wrote : ℕ → E) (rs : List Row) (out′ : List ℤ) (a : E) : Type 0 where
-  pub answer : a ≡ wrote (length rs)
-  pub holds : take (4 * length rs) out′ ≡ flat rs
+-- things of n numbers each in a buffer: how many, and the numbers of each in front
+pub record Holds {A E : Type 0} (numbers : A → List ℤ) (n : ℕ) (wrote : ℕ → E) (xs : List A) (out′ : List ℤ) (a : E) : Type 0 where
+  pub answer : a ≡ wrote (length xs)
+  pub holds : take (n * length xs) out′ ≡ flat numbers xs
+
+-- the table of these rows, and the index of these entries
+abbrev pub TableHolds : {E : Type 0} → (ℕ → E) → List Row → List ℤ → E → Type 0
+TableHolds wrote rs out′ a = Holds Rows.numbers 4 wrote rs out′ a
+
+abbrev pub IndexHolds : {E : Type 0} → (ℕ → E) → List Events.Entry → List ℤ → E → Type 0
+IndexHolds wrote es out′ a = Holds Index.numbers 5 wrote es out′ a
 
 -- What an answer of the code tells, as the reading has it: a float is its bits
 
@@ -492,6 +541,20 @@ Suffices s n = (order : ℕ) (out out′ : List ℕ) (a : Written) → n ≤ len
 abbrev pub SufficesC : List ℕ → ℕ → Type 0
 SufficesC s n = (order : ℕ) (out out′ : List ℕ) (a : Counted) → n ≤ length out → RewriteAnswers s order out out′ a → a .refusal ≡ 17 → ⊥
 
+-- The kind of a code
+
+-- the answer a about the code c: of 16 bits its kind, as document 02 says it, else 19
+pub record KindTells {E : Type 0} (tell : EventKind → E) (refuse : Refusal → E) (c : ℕ) (a : E) : Type 0 where
+  pub kind : c ≤ 65535 → (k : EventKind) × KindIs c k × (a ≡ tell k)
+  pub outside : 65535 < c → a ≡ refuse (refusalOf 19 0)
+
+-- what C is answered: the kind's number, and a refusal
+abbrev pub kindC : EventKind → Kind
+kindC k = record { refusal = 0; position = 0; kind = kindNumber k }
+
+abbrev pub unkindC : Refusal → Kind
+unkindC r = record { refusal = r .0; position = r .1; kind = 0 }
+
 -- how much room the file s needs, of which v was read
 pub record Reserved (s : List ℕ) (v : R.File) : Type 0 where
   -- the canonical file is at most 254 bytes a recording longer, and no longer where no recording's canonical length exceeds 2,147,483,647
@@ -513,6 +576,10 @@ pub record Demand-2 (s : List ℕ) : Type 0 where
   pub refuses : (n p : ℕ) → R.judge s ≡ refused n p → HandsUp s n p
   -- the table, with room, is that of the rules' rows
   pub lists : (v : R.File) (t : List Event) → Accepted s v t → (out out′ : List ℤ) (a : Listed) → 4 * length (rows 0 t) ≤ length out → Lists s out out′ a → TableHolds Listed.Rows (rows 0 t) out′ a
+  -- the index, with room, is that of the entries: every event of the reading once, and nothing else, by recording, frame, channel and place
+  pub indexes : (v : R.File) (t : List Event) → Accepted s v t → (out out′ : List ℤ) (a : Indexed) → 5 * length (entries (R.contents v)) ≤ length out → Indexes s out out′ a →
+      IndexHolds Indexed.Entries (entries (R.contents v)) out′ a
+  pub events : (v : R.File) (t : List Event) → Accepted s v t → Events.Index (R.contents v) (entries (R.contents v))
   -- the questions
   pub answers : (v : R.File) (t : List Event) → Accepted s v t → Tells s (reading v)
   -- with a letter that names an order, no maker's record in the way, and room, the file is written anew
@@ -520,13 +587,18 @@ pub record Demand-2 (s : List ℕ) : Type 0 where
       (out out′ : List ℕ) (a : Written) → length (rewritten to s) ≤ length out → Rewrites s order out out′ a → WrittenAnew Written.Bytes (reading v) to out′ a
   -- in a buffer as long as `room` says
   pub reserved : (v : R.File) (t : List Event) → Accepted s v t → Reserved s v
+  -- the kind of a code, whatever the file is
+  pub kinds : (c : ℕ) (a : KindTold) → KindAnswer c a → KindTells KindTold.Kind KindTold.Refused c a
   -- what C is answered
   pub boundary-judges : (a : Header) → JudgeAnswers s a → JudgesByRules headerC refusedC s a
   pub boundary-accepted : (a : Header) → JudgeAnswers s a → a .refusal ≡ 0 → (h : FileHeader) × AcceptedAs s h × (a ≡ headerC h)
   pub boundary-lists : (v : R.File) (t : List Event) → Accepted s v t → (out out′ : List ℤ) (a : Counted) → 4 * length (rows 0 t) ≤ length out → TableAnswers s out out′ a → TableHolds wroteC (rows 0 t) out′ a
+  pub boundary-indexes : (v : R.File) (t : List Event) → Accepted s v t → (out out′ : List ℤ) (a : Counted) → 5 * length (entries (R.contents v)) ≤ length out → IndexAnswers s out out′ a →
+      IndexHolds wroteC (entries (R.contents v)) out′ a
   pub boundary-answers : (v : R.File) (t : List Event) → Accepted s v t → BoundaryTells s (reading v)
   pub boundary-rewrites : (v : R.File) (t : List Event) → Accepted s v t → (order : ℕ) (to : Order) → lettered order ≡ Lettered.Names to → barrier (R.orderOf s) to (firstMaker (rows 0 t)) ≡ none →
       (out out′ : List ℕ) (a : Counted) → length (rewritten to s) ≤ length out → RewriteAnswers s order out out′ a → WrittenAnew wroteC (reading v) to out′ a
+  pub boundary-kinds : (c : ℕ) (a : Kind) → KindAnswers c a → KindTells kindC unkindC c a
 
 -- Demand 3: a file and what `turn` wrote of it say the same
 
@@ -594,6 +666,7 @@ pub record BoundarySame (s s′ : List ℕ) : Type 0 where
   pub view : (i j k : ℕ) (a b : View) → ViewAnswers s i j k a → ViewAnswers s′ i j k b → a ≡ b
   pub run : (c : Sibling) (i j k first n : ℕ) (out out₁ out₂ : List (Element c)) (a b : Counted) →
       RunAnswers c s i j k first n out out₁ a → RunAnswers c s′ i j k first n out out₂ b → SameEnd a b out₁ out₂
+  pub index : (out out₁ out₂ : List ℤ) (a b : Counted) → IndexAnswers s out out₁ a → IndexAnswers s′ out out₂ b → SameEnd a b out₁ out₂
   pub back : (out out′ : List ℕ) (a : Counted) → length s ≤ length out → TurnAnswers s′ out out′ a → Gives wroteC s out′ a
   pub anew : (order : ℕ) (to : Order) → lettered order ≡ Lettered.Names to →
       (out₁ out₁′ : List ℕ) (a : Counted) → length (rewritten to s) ≤ length out₁ → RewriteAnswers s order out₁ out₁′ a →
@@ -628,6 +701,8 @@ pub record Same (s : List ℕ) (g : Reading) (s′ : List ℕ) : Type 0 where
   -- the same run of samples: the answer, and the numbers in the buffer
   pub run : (c : Sibling) (i j k first n : ℕ) (out out₁ out₂ : List (Element c)) (a b : Ran) →
       RunAnswer c s i j k first n out out₁ a → RunAnswer c s′ i j k first n out out₂ b → SameEnd a b out₁ out₂
+  -- the same index: the answer, and the entries in the buffer
+  pub index : (out out₁ out₂ : List ℤ) (a b : Indexed) → Indexes s out out₁ a → Indexes s′ out out₂ b → SameEnd a b out₁ out₂
   -- turned again, with room, it is the first file, byte for byte
   pub back : (out out′ : List ℕ) (a : Written) → length s ≤ length out → Turns s′ out out′ a → Gives Written.Bytes s out′ a
   -- rewritten in one order, with room, either gives the same answer and bytes

@@ -10,11 +10,11 @@ use native.Mathlib.Omega.{arith}
 use borrow.Author.Tests.{eqb-true}
 use lib.ListN.{length, take, drop}
 use Rattle.words.specs.declared.Order.{Order}
-use Rattle.words.specs.Numbers.{wordIn, bytesAt, numberAt}
+use Rattle.words.specs.Numbers.{bytesAt, numberAt}
 use Rattle.walk.specs.Walk.{laid, Walk, give, refuse, check, number, read, skip, list, pick, _>>=_, _>>_}
 use Rattle.walk.specs.See.{stops, goes, see, Yields, over, ends}
 use Rattle.walk.proofs.Apart.{none-some}
-use Rattle.walk.proofs.Seen.{see-refuse, yields, yields-bind, part-bytes}
+use Rattle.walk.proofs.Seen.{see-refuse, yields, yields-bind, part-number}
 use Rattle.rules.specs.Rules as R
 use Rattle.rules.specs.declared.Form.the-variants as Form
 use Rattle.rules.specs.declared.Head.{Head}
@@ -109,15 +109,21 @@ owned o b s label room h p q n l cs k =
 -- what stands in a part of the file stands in the file
 module _ (o : Order) (base n : ℕ) (s file : List ℕ) (is : s ≡ take n (drop base file)) where
   number-part : (p d : ℕ) → p + d + 4 ≤ n → numberAt o 4 s (p + d) ≡ numberAt o 4 file (base + p + d)
-  unfolding numberAt
   number-part p d l =
       let z : base + (p + d) ≡ base + p + d = omega arith in
-      ap (λ (x : List ℕ). wordIn o (take 4 (drop (p + d) x))) is ∙ ap (wordIn o) (part-bytes file base n (p + d) 4 l) ∙ ap (λ (x : ℕ). wordIn o (take 4 (drop x file))) z
+      ap (λ (x : List ℕ). numberAt o 4 x (p + d)) is ∙ part-number o file base n 4 (p + d) l ∙ ap (numberAt o 4 file) z
 
   kept-part : (p : ℕ) (cs : List R.Channel) → p + 256 * length cs ≤ n → Kept o s p cs → Kept o file (base + p) cs
   kept-part p [] l k = tt
-  kept-part p (c ∷ cs) l k =
-      (k .0 ∙ number-part p 20 (omega arith), k .1 ∙ number-part p 28 (omega arith), k .2 ∙ number-part p 32 (omega arith), rw (add-assoc base p 256) (kept-part (p + 256) cs (omega arith) (k .3)))
+  kept-part p (c ∷ cs) l k = (
+    record {
+      flags = k .0 .flags ∙ number-part p 20 (omega arith);
+      type = k .0 .type ∙ number-part p 24 (omega arith);
+      format = k .0 .format ∙ number-part p 28 (omega arith);
+      rate = k .0 .rate ∙ number-part p 32 (omega arith);
+    },
+    rw (add-assoc base p 256) (kept-part (p + 256) cs (omega arith) (k .1)),
+  )
 
   stand-part : (p m : ℕ) (cs : List R.Channel) → p + 32 + 256 * m ≤ n → ChannelsStand o s (subsAt p m) cs → ChannelsStand o file (subsAt (base + p) m) cs
   stand-part p m cs l k = record { count = k .count; kept = rw (add-assoc base p 32) (kept-part (p + 32) cs (rw (k .count) l) (k .kept)) }

@@ -10,7 +10,8 @@ use Rattle.runs.specs.declared.Sibling.{Sibling}
 use Rattle.answers.specs.Flat.{Leaves}
 use Rattle.psg.specs.Calls.{JudgeAnswers, TableAnswers, TurnAnswers, RewriteAnswers, RoomAnswers}
 use Rattle.psg.specs.Calls.{HeaderAnswers, FactsAnswers, ChannelAnswers, MontageCountAnswers, MontageAnswers, PatientItemAnswers, EventItemAnswers}
-use Rattle.psg.specs.Calls.{ClockAnswers, CountAnswers, SampleAnswers, ViewAnswers, RunAnswers}
+use Rattle.psg.specs.Calls.{ClockAnswers, CountAnswers, SampleAnswers, ViewAnswers, RunAnswers, IndexAnswers}
+use Rattle.psg.specs.Calls.{KindAnswers}
 use Rattle.answers.specs.declared.Channel.{Channel}
 use Rattle.answers.specs.declared.Clock.{Clock}
 use Rattle.answers.specs.declared.Counted.{Counted}
@@ -18,6 +19,7 @@ use Rattle.answers.specs.declared.Facts.{Facts}
 use Rattle.answers.specs.declared.Header.{Header}
 use Rattle.answers.specs.declared.Heading.{Heading}
 use Rattle.answers.specs.declared.Item.{Item}
+use Rattle.answers.specs.declared.Kind.{Kind}
 use Rattle.answers.specs.declared.Montage.{Montage}
 use Rattle.answers.specs.declared.Sample.{Sample}
 use Rattle.answers.specs.declared.View.{View}
@@ -83,3 +85,11 @@ module _ (s : List ℕ) where
   -- a run of samples, by either call
   pub psg-run-unique : (k : Sibling) (i j c first n : ℕ) (out out₁ out₂ : List (Runs.Element k)) (a b : Counted) → RunAnswers k s i j c first n out out₁ a → RunAnswers k s i j c first n out out₂ b → (a ≡ b) × (out₁ ≡ out₂)
   psg-run-unique k i j c first n out out₁ out₂ a b = only-leaves
+
+  -- the night events
+  pub psg-index-unique : (out out₁ out₂ : List ℤ) (a b : Counted) → IndexAnswers s out out₁ a → IndexAnswers s out out₂ b → (a ≡ b) × (out₁ ≡ out₂)
+  psg-index-unique out out₁ out₂ a b = only-leaves
+
+-- of a code, and no file
+pub psg-event-kind-unique : (c : ℕ) (a b : Kind) → KindAnswers c a → KindAnswers c b → a ≡ b
+psg-event-kind-unique c a b = only

@@ -11,10 +11,13 @@ use Rattle.table.specs.Table as Table
 use Rattle.turn.specs.Turn as Turn
 use Rattle.rewrite.specs.Rewrite as Rewrite
 use Rattle.room.specs.Room.{roomOf}
+use Rattle.codes.specs.Codes.{kindTold}
 use Rattle.questions.specs.Questions.{headerOf, factsOf, channelOf, montageCountOf, montageOf, patientItemOf, eventItemOf, clockOf, countOf, sampleOf, viewOf}
+use Rattle.index.specs.Index as Index
 use Rattle.runs.specs.Runs as Runs
 use Rattle.runs.specs.declared.Sibling.{Sibling}
 use Rattle.answers.specs.Flat.{Leaves, countedRows, countedBytes, flatHeader, flatHeading, flatFacts, flatChannel, flatMontage, flatItem, flatClock, flatCount, flatSample, flatView}
+use Rattle.answers.specs.Flat.{flatKind}
 use Rattle.answers.specs.declared.Channel.{Channel}
 use Rattle.answers.specs.declared.Clock.{Clock}
 use Rattle.answers.specs.declared.Counted.{Counted}
@@ -22,6 +25,7 @@ use Rattle.answers.specs.declared.Facts.{Facts}
 use Rattle.answers.specs.declared.Header.{Header}
 use Rattle.answers.specs.declared.Heading.{Heading}
 use Rattle.answers.specs.declared.Item.{Item}
+use Rattle.answers.specs.declared.Kind.{Kind}
 use Rattle.answers.specs.declared.Montage.{Montage}
 use Rattle.answers.specs.declared.Sample.{Sample}
 use Rattle.answers.specs.declared.View.{View}
@@ -78,6 +82,14 @@ SampleAnswers s i j k n a = a ≡ flatSample (sampleOf s i j k n)
 abbrev pub ViewAnswers : List ℕ → ℕ → ℕ → ℕ → View → Type 0
 ViewAnswers s i j k a = a ≡ flatView (viewOf s i j k)
 
+-- the night events
+abbrev pub IndexAnswers : List ℕ → List ℤ → List ℤ → Counted → Type 0
+IndexAnswers s out out′ a = Leaves (flatCount (Index.answerOf s (length out))) (Index.afterwards s out) a out′
+
 -- n samples from the first on, by either call
 abbrev pub RunAnswers : (b : Sibling) → List ℕ → (i j k first n : ℕ) → (out out′ : List (Runs.Element b)) → Counted → Type 0
 RunAnswers b s i j k first n out out′ a = Leaves (flatCount (Runs.answerOf b s i j k first n (length out))) (Runs.afterwards b s i j k first n out) a out′
+
+-- the code c, of no file
+abbrev pub KindAnswers : ℕ → Kind → Type 0
+KindAnswers c a = a ≡ flatKind (kindTold c)

@@ -2,7 +2,8 @@
 ghost use Rattle.psg.specs.Calls.{JudgeAnswers, TableAnswers, TurnAnswers, RewriteAnswers, RoomAnswers};
 ghost use Rattle.psg.specs.Calls.{HeaderAnswers, FactsAnswers, ChannelAnswers, MontageCountAnswers, MontageAnswers};
 ghost use Rattle.psg.specs.Calls.{PatientItemAnswers, EventItemAnswers, ClockAnswers};
-ghost use Rattle.psg.specs.Calls.{CountAnswers, SampleAnswers, ViewAnswers, RunAnswers};
+ghost use Rattle.psg.specs.Calls.{CountAnswers, SampleAnswers, ViewAnswers, RunAnswers, IndexAnswers};
+ghost use Rattle.psg.specs.Calls.{KindAnswers};
 ghost use Rattle.runs.specs.declared.Sibling.the-variants as Sibling;
 use answers::Channel;
 use answers::Clock;
@@ -11,6 +12,7 @@ use answers::Facts;
 use answers::Header;
 use answers::Heading;
 use answers::Item;
+use answers::Kind;
 use answers::Montage;
 use answers::Sample;
 use answers::View;
@@ -185,4 +187,20 @@ pub extern "C" fn psg_run_floats(
     ensures { λ a. ⌜ RunAnswers Sibling.Floats (now (file .entry)) recording frame channel first number (now (bits .entry)) (now (bits .exit)) a ⌝ }
 {
     answers::run_of(runs::run_floats(file, recording, frame, channel, first, number, bits))
+}
+
+// The night events: how many entries of five numbers were written.
+#[no_mangle]
+pub extern "C" fn psg_index(file: &[u8], entries: &mut [i64]) -> Counted
+    ensures { λ a. ⌜ IndexAnswers (now (file .entry)) (now (entries .entry)) (now (entries .exit)) a ⌝ }
+{
+    answers::index_of(index::index(file, entries))
+}
+
+// The kind of an event's code. It needs no file.
+#[no_mangle]
+pub extern "C" fn psg_event_kind(code: u64) -> Kind
+    ensures { λ a. ⌜ KindAnswers code a ⌝ }
+{
+    answers::kind_of(codes::event_kind(code))
 }

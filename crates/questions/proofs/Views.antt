@@ -12,7 +12,7 @@ use lib.ListN.{length}
 use Rattle.words.specs.Numbers.{Bytes, bytesAt, numberAt}
 use Rattle.words.specs.declared.Order.{Order}
 use Rattle.walk.specs.Walk.{Event, pick, passed}
-use Rattle.walk.proofs.Seen.{part-bytes}
+use Rattle.walk.proofs.Seen.{part-number}
 use Rattle.rules.specs.Rules as R
 use Rattle.rules.specs.Rules.{orderOf, width}
 use Rattle.rules.specs.Reading.{Value, valueOf, channelReading, reading}
@@ -46,8 +46,8 @@ module _ (o : Order) (format : ℕ) (s : List ℕ) where
 
 -- a number in a part of the file
 number-part : (o : Order) (w n m : ℕ) (s : List ℕ) (a : ℕ) → m < n → numberAt o w s (a + w * m) ≡ numberAt o w (bytesAt (w * n) s a) (0 + w * m)
-unfolding numberAt bytesAt
-number-part o w n m s a l = rw (zero-add, part-bytes s a (w * n) (w * m) w (omega (arith, mul-le-mul-left w l)))
+unfolding bytesAt
+number-part o w n m s a l = rw zero-add (sym (part-number o s a (w * n) w (w * m) (omega (arith, mul-le-mul-left w l))))
 
 -- the part of the file that samples are
 record PartShows (s : List ℕ) (x : Samples) (p : Text) : Type 0 where

@@ -224,7 +224,7 @@ pub record Walked (o : Order) (label : Label) (s : List ℕ) (n i : ℕ) (a : Re
 
 -- The recording asked for
 
-one-ok : (label : Label) (held : Option R.Held) (ps : List R.Placed) → RecordingsOk label held (readings ps) → (k : ℕ) (x : R.Placed) → One ps k x → (before : Option R.Held) × RecordingOk label before (x .recording)
+pub one-ok : (label : Label) (held : Option R.Held) (ps : List R.Placed) → RecordingsOk label held (readings ps) → (k : ℕ) (x : R.Placed) → One ps k x → (before : Option R.Held) × RecordingOk label before (x .recording)
 one-ok label held [] ok k x o = absurd (omega (arith, o .inside))
 one-ok label held (p ∷ ps) ok zero x o = let e : p ≡ x = o .is p in (held, rw e at (ok .0))
 one-ok label held (p ∷ ps) ok (suc k) x o = one-ok label _ ps (ok .1) k x (tail-one o)

@@ -20,7 +20,7 @@ use Rattle.walk.proofs.Seen.{yields-bind, yields-then, places, back, add-sub-ad
 use Rattle.rules.specs.declared.Label.{Label}
 use Rattle.rules.specs.Rules.{mostOf, itemsBody, Head, head, admit, span, makerCode, next, zeros, padding, more, series, Item, item, itemSize, itemBytes, itemList, between, dated, daysIn, isMains, basicBody, Channel, width, samplesIn, samplesOf, sampleBytes, numberList, samples, coded, fixed, Sub, Group, anything, fieldIf, channelBody, channel, channels, frames, channelsBody, items}
 use Rattle.rules.proofs.Room.{stays-item, stays-itemList}
-use Rattle.records.specs.Says.{Kept, headroom}
+use Rattle.records.specs.Says.{KeptOne, Kept, headroom}
 
 -- an answer put before a list that follows, of which only the place is kept
 pub ends-cons : {A B : Type 0} (f : A → B) (v : Verdict A) → ends (onward v (λ l e. goes (f l) e)) ≡ ends v
@@ -196,14 +196,9 @@ module _ {o : Order} {s : List ℕ} {p t sum : ℕ} {cs : List Channel} where
     where
       go : (r : List Channel) → length r ≡ n → Kept o s p r → sum + sampleBytes t r ≡ sampleBytes t cs → Rest o s (p + 256) t m (sum + width format * samplesOf t flags rate) cs
       go [] e k q = absurd (omega (arith, e))
-      go (c ∷ r) e k q = record { rest = r; count = omega (arith, e); kept = k .3; total = rw (e₁, e₂, e₃, ← k .0, ← k .1, ← k .2, mul-comm (width (c .format)) (samplesIn t c), add-assoc) q }
+      go (c ∷ r) e k q = record { rest = r; count = omega (arith, e); kept = k .1; total = rw (e₁, e₂, e₃, ← k .0 .flags, ← k .0 .format, ← k .0 .rate, mul-comm (width (c .format)) (samplesIn t c), add-assoc) q }
 
 -- what a sub that passed holds is what stands in its bytes
-pub record KeptOne (o : Order) (s : List ℕ) (p : ℕ) (c : Channel) : Type 0 where
-  pub flags : c .flags ≡ numberAt o 4 s (p + 20)
-  pub format : c .format ≡ numberAt o 4 s (p + 28)
-  pub rate : c .rate ≡ numberAt o 4 s (p + 32)
-
 module _ (o : Order) (b : ℕ) (s : List ℕ) where
   -- a field that only some subs have takes its 4 bytes either way
   pub yields-fieldIf : {A : Type 0} (c : Bool) (ok : ℕ → Bool) (f : ℕ → Walk A) (at : ℕ) (Q : A → ℕ → Type 0) → ((n : ℕ) → Yields o b s (at + 4) (f n) Q) → Yields o b s at (fieldIf c ok >>= f) Q
@@ -215,7 +210,7 @@ module _ (o : Order) (b : ℕ) (s : List ℕ) where
   unfolding channelBody _>>=_ _>>_
   yields-channelBody k p _ _ _ _ =
       yields-fieldIf (k .calibrated) anything _ _ _ λ _. yields-fieldIf (k .calibrated) anything _ _ _ λ _. yields-fieldIf (k .wired) (k .input) _ _ _ λ _. yields-fieldIf (k .wired) (k .input) _ _ _ λ _.
-      (record { flags = simp places; format = simp places; rate = simp places }, simp places)
+      (record { flags = simp places; type = simp places; format = simp places; rate = simp places }, simp places)
 
   yields-head : (room p : ℕ) → Yields o b s (b + p) (head room) (λ h e. e ≡ b + (p + 16))
   unfolding head _>>=_ _>>_
@@ -239,7 +234,7 @@ module _ (o : Order) (b : ℕ) (s : List ℕ) where
   yields-channels k room (suc n) i p =
       yields-bind o b s (channel k room i) _ (b + p) _ _ (yields-channel k room i p)
       (λ c e q. rw (q .1) (yields-bind o b s (series n (suc i) 256 (room - 256) (channel k)) _ (b + (p + 256)) _ _ (yields-channels k (room - 256) n (suc i) (p + 256))
-      (λ cs x r. ((q .0 .flags, q .0 .format, q .0 .rate, r .0), ap suc (r .1), r .2 ∙ omega arith))))
+      (λ cs x r. ((q .0, r .0), ap suc (r .1), r .2 ∙ omega arith))))
 
 -- samples are read, whatever they are
 module _ (o : Order) (b : ℕ) (s : List ℕ) where

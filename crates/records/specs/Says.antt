@@ -52,10 +52,17 @@ abbrev pub headed : ℕ → Headed → Verdict R.Head
 headed base (Headed.At h) = goes (headOf h) (base + (h .at + 16))
 headed base (Headed.Stop r) = halts r
 
--- channels whose descriptors stand in s from byte p on
+-- what the code reads of a channel's sub, at byte p of s
+pub record KeptOne (o : Order) (s : List ℕ) (p : ℕ) (c : R.Channel) : Type 0 where
+  pub flags : c .flags ≡ numberAt o 4 s (p + 20)
+  pub type : c .type ≡ numberAt o 4 s (p + 24)
+  pub format : c .format ≡ numberAt o 4 s (p + 28)
+  pub rate : c .rate ≡ numberAt o 4 s (p + 32)
+
+-- channels whose subs stand in s from byte p on
 abbrev pub Kept : Order → List ℕ → ℕ → List R.Channel → Type 0
 Kept o s p [] = Unit {0}
-Kept o s p (c ∷ cs) = (c .flags ≡ numberAt o 4 s (p + 20)) × (c .format ≡ numberAt o 4 s (p + 28)) × (c .rate ≡ numberAt o 4 s (p + 32)) × Kept o s (p + 256) cs
+Kept o s p (c ∷ cs) = KeptOne o s p c × Kept o s (p + 256) cs
 
 -- the records that hold subs, as the rules have them
 abbrev pub groupOf : Group → R.Group
@@ -99,7 +106,7 @@ pub record ChannelsIn (n : ℕ) (cs : Channels) : Type 0 where
 pub record ChannelsStand (o : Order) (s : List ℕ) (cs : Channels) (ch : List R.Channel) : Type 0 where
   -- as many as there are subs
   pub count : length ch ≡ cs .count
-  -- flags, format and rate of each
+  -- the subs of each
   pub kept : Kept o s (cs .subs) ch
 
 -- a maker's own record, and what follows: the head of the next record, and the room that is left from its start

@@ -11,13 +11,13 @@ use borrow.Author.Tests.{leb-true, eqb-true}
 use lib.Dec.{eqb}
 use lib.ListN.{length, take, drop, replicate, length-drop}
 use lib.Seq.{take-all, length-take-le}
-use Rattle.words.specs.Numbers.{bytesIn, numberAt}
+use Rattle.words.specs.Numbers.{bytesIn, numberAt, numbersAt}
 use Rattle.words.specs.declared.Order.{Order}
 use Rattle.words.specs.declared.Order.the-variants.{Little, Big}
 use Rattle.words.proofs.Fronts.{put, front-more, front-all}
 use Rattle.walk.specs.See.{goes, see}
 use Rattle.walk.specs.Walk.{laid, Event, numeral, render, Walk, give, _>>=_, _>>_}
-use Rattle.walk.proofs.Seen.{part-bytes, stays-goes, and-left}
+use Rattle.walk.proofs.Seen.{part-number, part-numbers, stays-goes, and-left}
 use Rattle.walk.proofs.Tracing.{render-append}
 use Rattle.walk.proofs.Went.{gate-went, went-first, goes-same}
 use Rattle.rules.specs.Canonical.{blanks, zeroes, numerals, rowOf, plainHead, recordOf, sampleEvents, frameWritten, frameSize, frameEvents, framesBytes, framesHead, framesWritten}
@@ -36,17 +36,13 @@ use Rattle.rewrite.specs.FramesAnew.{FrameAnew, FramesAnew}
 
 -- numbers of a width one after the other, and channels' samples, as they stand in the bytes s from byte k on
 module _ (o : Order) where
-  abbrev numbersAt : ℕ → ℕ → List ℕ → ℕ → List ℕ
-  numbersAt w zero s k = []
-  numbersAt w (suc n) s k = numberAt o w s k ∷ numbersAt w n s (k + w)
-
   abbrev samplesAt : ℕ → List Channel → List ℕ → ℕ → List (List ℕ)
   samplesAt t [] s k = []
-  samplesAt t (c ∷ cs) s k = numbersAt (width (c .format)) (samplesIn t c) s k ∷ samplesAt t cs s (k + samplesIn t c * width (c .format))
+  samplesAt t (c ∷ cs) s k = numbersAt o (width (c .format)) (samplesIn t c) s k ∷ samplesAt t cs s (k + samplesIn t c * width (c .format))
 
   module _ (b : ℕ) (s : List ℕ) where
     -- the walk gives them
-    sees-numbers : (w n k : ℕ) → see o b s (b + k) (numberList w n) ≡ goes (numbersAt w n s k) (b + (k + n * w))
+    sees-numbers : (w n k : ℕ) → see o b s (b + k) (numberList w n) ≡ goes (numbersAt o w n s k) (b + (k + n * w))
     unfolding numberList see _>>=_
     sees-numbers w zero k = ap (λ (x : ℕ). goes [] (b + x)) (omega (arith, zero-mul w))
     sees-numbers w (suc n) k =
@@ -56,7 +52,7 @@ module _ (o : Order) where
         let v : ℕ → Walk (List ℕ) = λ x. numberList w n >>= λ l. give (numberAt o w s x ∷ l) in
         ap (λ (x : ℕ). see o b s (b + k + w) (v x)) i
         ∙ (ap (λ (x : ℕ). see o b s x (v k)) j
-        ∙ (bind-goes o b s (b + (k + w)) (numberList w n) (λ l. give (numberAt o w s k ∷ l)) (sees-numbers w n (k + w)) ∙ ap (λ (x : ℕ). goes (numbersAt w (suc n) s k) (b + x)) l))
+        ∙ (bind-goes o b s (b + (k + w)) (numberList w n) (λ l. give (numberAt o w s k ∷ l)) (sees-numbers w n (k + w)) ∙ ap (λ (x : ℕ). goes (numbersAt o w (suc n) s k) (b + x)) l))
 
     sees-samples : (t : ℕ) (cs : List Channel) (k : ℕ) → see o b s (b + k) (samples t cs) ≡ goes (samplesAt t cs s k) (b + (k + sampleBytes t cs))
     unfolding samples sampleBytes see
@@ -65,22 +61,11 @@ module _ (o : Order) where
         let w : ℕ = width (c .format) in
         let n : ℕ = samplesIn t c in
         bind-goes o b s (b + k) (numberList w n) (λ l. samples t cs >>= λ r. give (l ∷ r)) (sees-numbers w n k)
-        ∙ (bind-goes o b s (b + (k + n * w)) (samples t cs) (λ r. give (numbersAt w n s k ∷ r)) (sees-samples t cs (k + n * w))
+        ∙ (bind-goes o b s (b + (k + n * w)) (samples t cs) (λ r. give (numbersAt o w n s k ∷ r)) (sees-samples t cs (k + n * w))
         ∙ ap (λ (x : ℕ). goes (samplesAt t (c ∷ cs) s k) (b + x)) (omega arith))
 
   -- a part of s has them where the whole has them
   module _ (s : List ℕ) (a m : ℕ) where
-    part-number : (w k : ℕ) → k + w ≤ m → numberAt o w (take m (drop a s)) k ≡ numberAt o w s (a + k)
-    unfolding numberAt
-    part-number w k h = rw (part-bytes s a m k w h)
-
-    part-numbers : (w n k : ℕ) → k + n * w ≤ m → numbersAt w n (take m (drop a s)) k ≡ numbersAt w n s (a + k)
-    part-numbers w zero k h = refl
-    part-numbers w (suc n) k h =
-        let l = suc-mul n w in
-        let i : a + (k + w) ≡ a + k + w = omega arith in
-        rw (part-number w k (omega arith), part-numbers w n (k + w) (omega arith), i)
-
     part-samples : (t : ℕ) (cs : List Channel) (k : ℕ) → k + sampleBytes t cs ≤ m → samplesAt t cs (take m (drop a s)) k ≡ samplesAt t cs s (a + k)
     unfolding sampleBytes
     part-samples t [] k h = refl
@@ -88,7 +73,7 @@ module _ (o : Order) where
         let w : ℕ = width (c .format) in
         let n : ℕ = samplesIn t c in
         let i : a + (k + n * w) ≡ a + k + n * w = omega arith in
-        rw (part-numbers w n k (omega arith), part-samples t cs (k + n * w) (omega arith), i)
+        rw (part-numbers o s a m w n k (omega arith), part-samples t cs (k + n * w) (omega arith), i)
 
 -- a record's bytes, and those of events with padding behind them
 

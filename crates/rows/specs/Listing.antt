@@ -7,17 +7,14 @@ use Prim.Native.Nat.{ℕ, zero, suc, _+_, _-_, _*_, _≤_}
 use lib.IntN.{ℤ}
 use lib.ListN.{length}
 use lib.Dec.{eqb}
+use Rattle.words.specs.Lent as Lent
 use Rattle.words.specs.Sizes.{Addressable}
 use Rattle.words.specs.Numbers.{numberAt}
 use Rattle.words.specs.declared.Order.{Order}
 use Rattle.walk.specs.Walk.{pick, Row}
 use Rattle.records.specs.Says.{isGroup, subCode}
 use Rattle.children.specs.Recordings.{OfBody, OfRecording, OfFile}
-use Rattle.rows.specs.Rows.{written}
-
--- where the next row goes
-abbrev pub behind : ℕ → List Row → ℕ
-behind k rs = k + 4 * length rs
+use Rattle.rows.specs.Rows.{numbers}
 
 -- so many records of one length, one after the other, numbered from i on
 unfoldable pub seriesRows : ℕ → ℕ → ℕ → ℕ → ℕ → List Row
@@ -53,11 +50,8 @@ pub record HasRoom (o : Order) (s : List ℕ) (p q code : ℕ) : Type 0 where
 -- What is asked and said of rows in a buffer
 
 -- k numbers were there before the rows, and k′ are there behind them
-pub record Wrote (write : Bool) (out out′ : List ℤ) (k k′ : ℕ) (rs : List Row) : Type 0 where
-  -- where the next row goes
-  pub next : k′ ≡ behind k rs
-  -- the buffer, where there is room for them all
-  pub holds : (write ≡ true → behind k rs ≤ length out) → out′ ≡ written write out k rs
+abbrev pub Wrote : Bool → List ℤ → List ℤ → ℕ → ℕ → List Row → Type 0
+Wrote = Lent.Wrote numbers 4
 
 -- a record at `start` of this size, with k numbers before its row: there are never more numbers than bytes
 pub record Ahead (k start size : ℕ) : Type 0 where

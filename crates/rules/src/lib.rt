@@ -363,6 +363,9 @@ impl Channel {
 
     pub const MICROSECONDS: u64 = 1000000;
 
+    // The type of a channel of events.
+    pub const EVENTS: u32 = 1;
+
     // The formats of samples that are not whole numbers of 32 bits: whole numbers of 16 and of 24, and floats of 32.
     pub const SHORTS: u32 = 1;
 

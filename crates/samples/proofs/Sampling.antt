@@ -43,7 +43,7 @@ module _ (s : List ℕ) (b : Bytes s) (i : ℕ) (r : Chosen) (x : ChosenIn s i r
       rw (o .is f) at (all-one (FrameOk (r .this .recording .seconds) (r .this .recording .channels)) f (r .this .recording .frames) (n - 1) (o .inside) (rw (this-one s b i r x) at (k .frames .each)) .samples)
 
   -- sample m of channel c, both from 0
-  sample-there : (c : ℕ) (y : R.Channel) → One (r .this .recording .channels) c y → (m : ℕ) → m < samplesIn (r .this .recording .seconds) y →
+  pub sample-there : (c : ℕ) (y : R.Channel) → One (r .this .recording .channels) c y → (m : ℕ) → m < samplesIn (r .this .recording .seconds) y →
       getD (getD (f .channels) c []) m 0 ≡ numberAt (R.orderOf s) (width (y .format)) s (frameAt r n + (24 + sampleBytes (r .this .recording .seconds) (take c (r .this .recording .channels))) + width (y .format) * m)
   sample-there c y p m l =
       let e = this-one s b i r x in

@@ -14,8 +14,7 @@ use Rattle.words.specs.Values.{signed}
 use Rattle.rules.specs.Rules as R
 use Rattle.rules.specs.Reading.{valueOf}
 use Rattle.rules.specs.Rules.{sampleBytes, samplesIn, samplesOf, width}
-use Rattle.records.specs.Says.{Kept}
-use Rattle.records.proofs.Steps.{KeptOne}
+use Rattle.records.specs.Says.{KeptOne, Kept}
 use Rattle.recordings.specs.Answers.{value, indexed}
 use Rattle.recordings.proofs.Chosen.{refusal-value}
 use Rattle.samples.specs.Asked.{RunInside, runOf, RunAt}
@@ -60,17 +59,17 @@ module _ (o : Order) (s : List ℕ) where
   pub kept-take : (p n : ℕ) (cs : List R.Channel) → Kept o s p cs → Kept o s p (take n cs)
   kept-take p zero cs k = tt
   kept-take p (suc n) [] k = tt
-  kept-take p (suc n) (c ∷ cs) k = (k .0, k .1, k .2, kept-take (p + 256) n cs (k .3))
+  kept-take p (suc n) (c ∷ cs) k = (k .0, kept-take (p + 256) n cs (k .1))
 
   pub kept-indexed : (p n : ℕ) (cs : List R.Channel) {x : R.Channel} → Kept o s p cs → indexed cs n ≡ value x → KeptOne o s (p + 256 * n) x
   unfolding indexed
   kept-indexed p n [] k h = refusal-value h
   kept-indexed p zero (c ∷ cs) {x} k h =
       let d : x ≡ c = cc in
-      rw (d, add-zero p) (record { flags = k .0; format = k .1; rate = k .2 })
+      rw (d, add-zero p) (k .0)
   kept-indexed p (suc n) (c ∷ cs) k h =
       let d : p + 256 * suc n ≡ p + 256 + 256 * n = omega arith in
-      rw d (kept-indexed (p + 256) n cs (k .3) h)
+      rw d (kept-indexed (p + 256) n cs (k .1) h)
 
 -- the samples of the channels before it, and its own, are among those of all
 pub bytes-before : (t n : ℕ) (cs : List R.Channel) {x : R.Channel} → indexed cs n ≡ value x → sampleBytes t (take n cs) + width (x .format) * samplesIn t x ≤ sampleBytes t cs

@@ -34,7 +34,7 @@ module _ {o : Order} {s : List ℕ} {p t : ℕ} {cs : List Channel} where
       where
         go : (r : List Channel) → length r ≡ n → Kept o s p r → all (sampled t) r ≡ all (sampled t) cs → false ≡ all (sampled t) cs
         go [] e k q = absurd (omega (arith, e))
-        go (c ∷ r) e k q = rw (← is c (k .0) (k .2), f) at q
+        go (c ∷ r) e k q = rw (← is c (k .0 .flags) (k .0 .rate), f) at q
 
     pub sampled-more : (m : ℕ) → n ≡ suc m → d ≡ true → Sampled o s (p + 256) t m cs
     unfolding all
@@ -42,4 +42,4 @@ module _ {o : Order} {s : List ℕ} {p t : ℕ} {cs : List Channel} where
       where
         go : (r : List Channel) → length r ≡ n → Kept o s p r → all (sampled t) r ≡ all (sampled t) cs → Sampled o s (p + 256) t m cs
         go [] e k q = absurd (omega (arith, e))
-        go (c ∷ r) e k q = record { rest = r; count = omega (arith, e); kept = k .3; same = rw (← is c (k .0) (k .2), f) at q }
+        go (c ∷ r) e k q = record { rest = r; count = omega (arith, e); kept = k .1; same = rw (← is c (k .0 .flags) (k .0 .rate), f) at q }

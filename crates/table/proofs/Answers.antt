@@ -8,6 +8,7 @@ use native.Mathlib.Omega.{arith}
 use borrow.Author.Tests.{le-leb, lt-leb}
 use lib.IntN.{ℤ}
 use lib.ListN.{length}
+use Rattle.words.specs.Lent as Lent
 use Rattle.walk.specs.Walk as W
 use Rattle.walk.specs.Walk.{Row, refused}
 use Rattle.walk.proofs.Apart.{zero-one, false-true}
@@ -56,7 +57,7 @@ module _ (s : List ℕ) (h : FileHeader) (x : AcceptedAs s h) where
     needs = omega (arith, wrote-listed false out out₁ need first .next)
 
     leaves : out₁ ≡ out
-    unfolding written
+    unfolding Lent.written
     leaves = wrote-listed false out out₁ need first .holds false-true
 
     pub lists-short : length out₁ < need → Lists s out out₁ (Listed.Refused (record { 0 = 17; 1 = need }))

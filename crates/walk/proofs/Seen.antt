@@ -4,14 +4,14 @@
 use mathlib.Core.Path.{_≡_, refl, sym, ap, _∙_}
 use mathlib.Core.Bool.{Bool, true, false, _&&_}
 use mathlib.Core.List.{List, [], _∷_}
-use Prim.Native.Nat.{ℕ, zero, suc, _+_, _-_, _≤_}
-use native.Mathlib.Nat.{add-assoc, add-zero, zero-add, sub-zero, sub-self, add-sub-cancel-left}
+use Prim.Native.Nat.{ℕ, zero, suc, _+_, _*_, _-_, _≤_}
+use native.Mathlib.Nat.{add-assoc, add-zero, zero-add, sub-zero, sub-self, add-sub-cancel-left, suc-mul}
 use native.Mathlib.Omega.{arith}
 use borrow.Author.Tests.{lt-ltb, le-ltb, le-leb, lt-leb, eq-eqb, ne-eqb, leb-true, leb-false, eqb-true, eqb-false}
 use lib.Dec.{leb, eqb, when}
 use lib.ListN.{length, take, drop, length-take, length-drop}
 use lib.Seq.{drop-drop, take-take, length-take-le}
-use Rattle.words.specs.Numbers.{wordIn, bytesAt, numberAt}
+use Rattle.words.specs.Numbers.{wordIn, bytesAt, numberAt, numbersAt}
 use Rattle.words.specs.declared.Order.{Order}
 use Rattle.walk.specs.See.{Verdict, stops, goes, verdict, gate, see, Goes, over, ends, Stays, Holds, Yields, onward, numbered}
 use Rattle.walk.specs.Walk.{Kind, laid, Event, numeral, piece, blank, row, size, Walk, give, refuse, check, number, read, skip, list, Outcome, refused, passed, _>>_, logged, run, _>>=_, require}
@@ -168,6 +168,18 @@ take-drop-take (suc k) (suc m) n (x ∷ l) h = take-drop-take k m n l (omega ari
 
 pub part-bytes : (s : List ℕ) (a m k n : ℕ) → k + n ≤ m → take n (drop k (take m (drop a s))) ≡ take n (drop (a + k) s)
 part-bytes s a m k n h = rw (take-drop-take k m n (drop a s) h, drop-drop k a s)
+
+-- a number in a part of a file
+pub part-number : (o : Order) (s : List ℕ) (a m w k : ℕ) → k + w ≤ m → numberAt o w (take m (drop a s)) k ≡ numberAt o w s (a + k)
+unfolding numberAt
+part-number o s a m w k h = rw (part-bytes s a m k w h)
+
+pub part-numbers : (o : Order) (s : List ℕ) (a m w n k : ℕ) → k + n * w ≤ m → numbersAt o w n (take m (drop a s)) k ≡ numbersAt o w n s (a + k)
+part-numbers o s a m w zero k h = refl
+part-numbers o s a m w (suc n) k h =
+    let l = suc-mul n w in
+    let i : a + (k + w) ≡ a + k + w = omega arith in
+    rw (part-number o s a m w k (omega arith), part-numbers o s a m w n (k + w) (omega arith), i)
 
 -- what is read where there is room has its length
 pub length-bytesAt : (o : Order) (b : ℕ) (s : List ℕ) (k : Kind) (n at : ℕ) → at + n ≤ b + length s → b ≤ at → length (laid o k (take n (drop (at - b) s))) ≡ n

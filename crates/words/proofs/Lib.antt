@@ -6,3 +6,4 @@ pub mod Floats
 pub mod Runs
 pub mod Zeros
 pub mod Fronts
+pub mod Lent

@@ -4,3 +4,4 @@ pub mod Values
 pub mod Floats
 pub mod Runs
 pub mod Sizes
+pub mod Lent

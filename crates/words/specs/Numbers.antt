@@ -43,6 +43,11 @@ bytesAt n s k = take n (drop k s)
 unfoldable pub numberAt : Order → ℕ → List ℕ → ℕ → ℕ
 numberAt o n s k = wordIn o (take n (drop k s))
 
+-- n numbers of w bytes each, one after the other from k on
+abbrev pub numbersAt : Order → (w n : ℕ) → List ℕ → ℕ → List ℕ
+numbersAt o w zero s k = []
+numbersAt o w (suc n) s k = numberAt o w s k ∷ numbersAt o w n s (k + w)
+
 -- numbers that are bytes
 abbrev pub Bytes : List ℕ → Type 0
 Bytes [] = Unit {0}

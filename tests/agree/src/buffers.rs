@@ -1,6 +1,7 @@
 //! Calls that write into a buffer lent to them: the answer, what they wrote, and that no other place was touched.
 
 use ask::{marked, refused};
+use second::index::{index, ENTRY_NUMBERS};
 use second::refusal::Refusal;
 use second::table::{table, ROW_NUMBERS};
 use second::turn::turn;
@@ -9,6 +10,7 @@ use std::fmt::Debug;
 /// The first difference of the calls that write.
 pub fn written_differs(file: &[u8]) -> Option<String> {
     table_differs(file)
+        .or_else(|| index_differs(file))
         .or_else(|| turn_differs(file))
         .or_else(|| rewrite_differs(file))
 }
@@ -19,6 +21,15 @@ fn table_differs(file: &[u8]) -> Option<String> {
         file,
         |rows| psg::table(file, rows).map(|count| ROW_NUMBERS * count),
         |room| table(file, room).map(|rows| rows.concat()),
+    )
+}
+
+fn index_differs(file: &[u8]) -> Option<String> {
+    call_differs(
+        "index",
+        file,
+        |entries| psg::index(file, entries).map(|count| ENTRY_NUMBERS * count),
+        |room| index(file, room).map(|entries| entries.concat()),
     )
 }
 

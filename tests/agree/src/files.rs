@@ -1,6 +1,7 @@
 //! Files made afresh, valid and damaged, through the library and the second program.
 
 use crate::buffers::written_differs;
+use crate::events::times_differ;
 use ask::{refused, Answer};
 use second::generate::{self, questions, Question};
 use second::judge::judge;
@@ -78,8 +79,8 @@ fn share(seed: u64, indices: impl Iterator<Item = u64>, until: Until) -> Compare
     compared
 }
 
-/// Where the library differs from the second program, whose verdict this is: the verdict, what is written, and the
-/// answers to questions.
+/// Where the library differs from the second program, whose verdict this is: the verdict, what is written, the times of
+/// events, and the answers to questions.
 pub fn differences(
     file: &[u8],
     verdict: &Result<Model, Refusal>,
@@ -88,6 +89,7 @@ pub fn differences(
     verdict_differs(file, verdict)
         .into_iter()
         .chain(written_differs(file))
+        .chain(times_differ(file, verdict))
         .chain(asked.iter().filter_map(|one| answer_differs(file, one)))
         .collect()
 }

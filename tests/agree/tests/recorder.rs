@@ -1,8 +1,8 @@
-//! A respiratory recorder at 256 Hz, which writes its period as 3906 microseconds: an hour of it, through the library as
-//! a whole, and through the second program.
+//! A respiratory recorder at 256 Hz, which writes its period as 3906 microseconds: an hour of it with its events,
+//! through the library as a whole, and through the second program.
 
 use agree::files::differences;
-use psg::{Clock, Facts, Refusal, Sample};
+use psg::{Clock, Entry, EventKind, Facts, Refusal, Sample};
 use second::bytes::Order;
 use second::generate::questions;
 use second::header::{self, Form, Header, Spelling, Version};
@@ -13,16 +13,35 @@ use second::record::{channel, channels, frame, frames, items, overview, Kind, HE
 const SECONDS: usize = 30;
 const FRAMES: usize = 120;
 
-/// The periods of flow, effort and oximetry, and the samples of each in a frame: none of them divides thirty seconds.
-const PERIODS: [i32; 3] = [3906, 3906, 700_000];
-const COUNTS: [usize; 3] = [7680, 7680, 42];
+/// The types and the periods of flow, effort, oximetry and events, and the samples of each in a frame: none of the
+/// periods divides thirty seconds.
+const TYPES: [i32; 4] = [8, 8, 11, 1];
+const PERIODS: [i32; 4] = [3906, 3906, 700_000, 7000];
+const COUNTS: [usize; 4] = [7680, 7680, 42, 4285];
+
+/// The channel of events; from each frame and sample on its code is the one beside them. One comes at a frame's last
+/// sample and lasts through the next, one is the code before it with 0 between, and two differ in their high byte.
+const EVENTS: usize = 4;
+const CODES: [([usize; 2], u16); 10] = [
+    ([1, 0], 0x0003),
+    ([1, 9], 0),
+    ([2, 1000], 0x0106),
+    ([3, 4284], 0x1006),
+    ([5, 0], 0),
+    ([5, 1], 0x1006),
+    ([77, 2142], 0xf006),
+    ([77, 2143], 0x0006),
+    ([FRAMES, 4283], 0),
+    ([FRAMES, 4284], 0x0002),
+];
 
 /// All samples are of 16 bits.
 const WIDTH: usize = 2;
 const FORMAT: i32 = 1;
 
 const CHANNELS_LENGTH: usize = channels::FIRST + PERIODS.len() * channel::LENGTH;
-const FRAME_LENGTH: usize = frame::SAMPLES + WIDTH * (COUNTS[0] + COUNTS[1] + COUNTS[2]);
+const FRAME_LENGTH: usize =
+    frame::SAMPLES + WIDTH * (COUNTS[0] + COUNTS[1] + COUNTS[2] + COUNTS[3]);
 const FRAMES_LENGTH: usize = frames::FIRST + FRAMES * FRAME_LENGTH;
 
 /// Where records stand.
@@ -30,8 +49,12 @@ const CHANNELS: usize = header::LENGTH + HEAD + overview::LENGTH;
 const SIGNALS: usize = CHANNELS + CHANNELS_LENGTH + items::FIRST;
 const END: usize = SIGNALS + FRAMES_LENGTH + HEAD;
 
-/// A sample by its place; all of them together take every value of 16 bits.
+/// A sample by its place; those of the first three channels together take every value of 16 bits.
 fn recorded(frame: usize, channel: usize, sample: usize) -> i16 {
+    if channel == EVENTS {
+        let now = CODES.iter().rfind(|(from, _)| *from <= [frame, sample]);
+        return now.map_or(0, |(_, code)| *code as i16);
+    }
     (frame * 7919 + channel * 104_729 + sample * 31) as i16
 }
 
@@ -66,9 +89,9 @@ fn hour(order: Order) -> Vec<u8> {
     page.fill(CHANNELS);
     let subs = [count, channel::LENGTH as i32, 0, 0];
     page.record(Kind::Channels, 0, CHANNELS_LENGTH, &subs);
-    for (serial, period) in (1..).zip(PERIODS) {
+    for (serial, (kind, period)) in (1..).zip(TYPES.into_iter().zip(PERIODS)) {
         let end = page.bytes.len() + channel::LENGTH;
-        let fields = [serial, PERIOD_FLAG, 1, FORMAT, period];
+        let fields = [serial, PERIOD_FLAG, kind, FORMAT, period];
         page.record(Kind::Channel, serial, channel::LENGTH, &fields);
         page.fill(end);
     }
@@ -144,10 +167,10 @@ fn it_is_listed() {
     for (_, file) in hours() {
         let rows = psg::rows(&file).expect("an accepted file");
         let codes: Vec<i64> = rows.iter().map(|row| row.code).collect();
-        let before = [10, 100, 120, 125, 125, 125, 130, 140];
-        assert_eq!(codes[..8], before);
-        assert_eq!(codes[8..], [&[145; FRAMES][..], &[0]].concat());
-        for (frame, row) in (1..).zip(&rows[8..8 + FRAMES]) {
+        let before = [10, 100, 120, 125, 125, 125, 125, 130, 140];
+        assert_eq!(codes[..9], before);
+        assert_eq!(codes[9..], [&[145; FRAMES][..], &[0]].concat());
+        for (frame, row) in (1..).zip(&rows[9..9 + FRAMES]) {
             assert_eq!(row.position as usize + frame::SAMPLES, place(frame, 1));
             assert_eq!(row.length as usize, FRAME_LENGTH);
             assert_eq!(row.serial as usize, frame);
@@ -213,6 +236,42 @@ fn its_runs_are_what_was_recorded() {
             }
             let floats = psg::run_floats(&file, 1, 1, channel, 0, 0, &mut []);
             assert_eq!(floats, refused(19, 0));
+        }
+    }
+}
+
+#[test]
+fn its_events_are_listed_at_their_times() {
+    use EventKind::{InstEnd, LightsOut, RecordingEnd, RecordingStart, User};
+    // A period of 7 ms and a frame of 30 s behind eleven o'clock.
+    let expected = [
+        ([1, 0], 3, RecordingStart, [23, 0, 0], 0),
+        ([2, 1000], 0x106, LightsOut, [23, 0, 37], 0),
+        ([3, 4284], 0x1006, User, [23, 1, 29], 988_000_000),
+        ([5, 1], 0x1006, User, [23, 2, 0], 7_000_000),
+        ([77, 2142], 0xf006, User, [23, 38, 14], 994_000_000),
+        ([77, 2143], 6, InstEnd, [23, 38, 15], 1_000_000),
+        ([FRAMES, 4284], 2, RecordingEnd, [23, 59, 59], 988_000_000),
+    ];
+    for (_, file) in hours() {
+        let listed = psg::timed_entries(&file).expect("an accepted file");
+        assert_eq!(listed.len(), expected.len());
+        for (listed, expected) in listed.into_iter().zip(expected) {
+            let ([frame, place], code, kind, [hour, minute, second], nanosecond) = expected;
+            let entry = Entry {
+                recording: 1,
+                frame,
+                channel: EVENTS,
+                place,
+                code,
+            };
+            let clock = Clock {
+                hour,
+                minute,
+                second,
+            };
+            assert_eq!((listed.entry, listed.entry.kind()), (entry, kind));
+            assert_eq!((listed.clock, listed.nanosecond), (clock, nanosecond));
         }
     }
 }

@@ -2,7 +2,8 @@
 
 use crate::refused;
 use second::header::MOST_RECORDINGS;
-use second::lines::{joined, listed, written};
+use second::index::ENTRY_NUMBERS;
+use second::lines::{indexed, joined, listed, written};
 use second::record::MOST_MULTIPLIER;
 use second::refusal::Refusal;
 use second::table::ROW_NUMBERS;
@@ -54,6 +55,11 @@ impl<T: From<u8> + PartialEq> Lent<T> {
         Lent::up_to(file.len(), room)
     }
 
+    /// The same for the index: it has fewer entries than the file has bytes.
+    pub fn for_index(file: &[u8], room: u64) -> Lent<T> {
+        Lent::up_to(ENTRY_NUMBERS * file.len(), room)
+    }
+
     fn up_to(most: usize, room: u64) -> Lent<T> {
         let room = usize::try_from(room).map_or(most, |room| room.min(most));
         Lent {
@@ -87,6 +93,13 @@ impl Lent<i64> {
     pub fn listed(&self, rows: Result<usize, psg::Refusal>) -> Answer {
         self.answer(rows.map(|rows| ROW_NUMBERS * rows), |numbers| {
             listed(numbers.len() / ROW_NUMBERS, numbers.iter())
+        })
+    }
+
+    /// What `index` came to.
+    pub fn indexed(&self, entries: Result<usize, psg::Refusal>) -> Answer {
+        self.answer(entries.map(|entries| ENTRY_NUMBERS * entries), |numbers| {
+            indexed(numbers.len() / ENTRY_NUMBERS, numbers)
         })
     }
 }

@@ -6,7 +6,7 @@ mod lent;
 use lent::by_bits;
 pub use lent::{marked, Answer, Lent};
 
-use psg::{Calibration, Channel, FloatBits, Heading, Item, Montage, Text};
+use psg::{Calibration, Channel, EventKind, FloatBits, Heading, Item, Montage, Text};
 use second::lines::joined;
 use second::refusal::Refusal;
 use std::fmt::Display;
@@ -15,6 +15,7 @@ use std::fmt::Display;
 pub fn answer(file: &[u8], op: &str, args: &[u64]) -> Option<Answer> {
     match (op, args) {
         ("table", &[room]) => return Some(table(file, room)),
+        ("index", &[room]) => return Some(index(file, room)),
         ("turn", &[room]) => return Some(bytes(file, room, |out| psg::turn(file, out))),
         ("rewrite", &[letter, room]) => {
             let letter = u8::try_from(letter).ok()?;
@@ -51,6 +52,12 @@ fn table(file: &[u8], room: u64) -> Answer {
     let mut lent = Lent::new(file, room);
     let rows = psg::table(file, &mut lent.buffer);
     lent.listed(rows)
+}
+
+fn index(file: &[u8], room: u64) -> Answer {
+    let mut lent = Lent::for_index(file, room);
+    let entries = psg::index(file, &mut lent.buffer);
+    lent.indexed(entries)
 }
 
 fn bytes(
@@ -92,6 +99,7 @@ fn question(file: &[u8], op: &str, args: &[u64]) -> Option<Result<String, psg::R
         ("count", &[r, f, c]) => psg::count(file, r, f, c).map(|n| n.to_string()),
         ("view", &[r, f, c]) => Ok(view(file, psg::view(file, r, f, c))),
         ("sample", &[r, f, c, s]) => psg::sample(file, r, f, c, s).map(sample),
+        ("event_kind", &[code]) => psg::event_kind(code as u64).map(|k| kind(k).to_string()),
         _ => return None,
     })
 }
@@ -125,6 +133,26 @@ fn sample(sample: psg::Sample) -> String {
     match sample {
         psg::Sample::Whole(value) => format!("0 {value}"),
         psg::Sample::Float(FloatBits(bits)) => format!("1 {bits}"),
+    }
+}
+
+fn kind(kind: EventKind) -> &'static str {
+    match kind {
+        EventKind::None => "none",
+        EventKind::RecordingStart => "recording_start",
+        EventKind::RecordingEnd => "recording_end",
+        EventKind::CalibrationStart => "calibration_start",
+        EventKind::CalibrationEnd => "calibration_end",
+        EventKind::InstStart => "INST_start",
+        EventKind::InstEnd => "INST_end",
+        EventKind::SleepAllowed => "sleep_allowed",
+        EventKind::WakeCall => "wake_call",
+        EventKind::LightsOut => "lights_out",
+        EventKind::LightsOn => "lights_on",
+        EventKind::MeasurementStopped => "measurement_stopped",
+        EventKind::MeasurementResumed => "measurement_resumed",
+        EventKind::User => "user",
+        EventKind::Reserved => "reserved",
     }
 }
 

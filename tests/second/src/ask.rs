@@ -1,8 +1,8 @@
 //! Answers to the questions of a corpus, in its form.
 
-use crate::index::{event_kind, index, Entry};
+use crate::index::{event_kind, index};
 use crate::judge::judge;
-use crate::lines::{answer_line, joined, listed, written, Desk, Question};
+use crate::lines::{answer_line, indexed, joined, listed, written, Desk, Question};
 use crate::model::{Calibration, Item, Model, Sample, Span, Sub};
 use crate::questions;
 use crate::refusal::Refusal;
@@ -42,20 +42,15 @@ pub fn answer(file: &[u8], op: &str, args: &[u64]) -> Option<Result<String, Refu
         ("run_float", &[ref run @ .., room]) => {
             run_float(file, run_of(run)?, room).map(|samples| joined(&samples))
         }
-        ("index", &[room]) => index(file, room).map(|entries| index_values(&entries)),
+        ("index", &[room]) => {
+            index(file, room).map(|entries| indexed(entries.len(), &entries.concat()))
+        }
         ("event_kind", &[code]) => event_kind(code).map(str::to_string),
         ("rewrite", &[order, room]) => rewrite(file, order, room).map(|out| written(&out)),
         ("rewrite_room", &[]) => rewrite_room(file).map(|n| n.to_string()),
         ("turn", &[room]) => turn(file, room).map(|out| written(&out)),
         _ => return None,
     })
-}
-
-/// How many entries, then the numbers of each.
-fn index_values(entries: &[Entry]) -> String {
-    let count = entries.len() as i64;
-    let numbers: Vec<i64> = [count].into_iter().chain(entries.concat()).collect();
-    joined(&numbers)
 }
 
 /// The run that the arguments before the room ask for.

@@ -12,10 +12,10 @@ pub const ENTRY_NUMBERS: usize = 5;
 pub type Entry = [i64; ENTRY_NUMBERS];
 
 /// The type of a channel of events.
-const EVENT: i32 = 1;
+pub const EVENT: i32 = 1;
 
 /// The codes that the standard publishes, by its hexadecimal numbers, with their kinds.
-const PUBLISHED: [(u64, &str); 13] = [
+pub const PUBLISHED: [(u64, &str); 13] = [
     (0x0000, "none"),
     (0x0003, "recording_start"),
     (0x0002, "recording_end"),
@@ -67,7 +67,8 @@ fn of_recording(
     }
 }
 
-fn codes(order: Order, file: &[u8], samples: Span) -> impl Iterator<Item = u16> + '_ {
+/// The codes that stand in a channel of events.
+pub fn codes(order: Order, file: &[u8], samples: Span) -> impl Iterator<Item = u16> + '_ {
     let places = (samples.at..samples.at + samples.length).step_by(Format::Signed16.width());
     places.map(move |at| order.u16_at(file, at))
 }

@@ -74,6 +74,11 @@ pub fn written(bytes: &[u8]) -> String {
     format!("{} {:016x}", bytes.len(), fnv1a(bytes))
 }
 
+/// The values for the numbers of the index, of so many entries.
+pub fn indexed(entries: usize, numbers: &[i64]) -> String {
+    joined(&[&[entries as i64], numbers].concat())
+}
+
 /// The values for a table's numbers, `rows` rows of them.
 pub fn listed<'a>(rows: usize, numbers: impl Iterator<Item = &'a i64>) -> String {
     let bytes: Vec<u8> = numbers.flat_map(|number| number.to_le_bytes()).collect();

@@ -3,6 +3,7 @@
 use second::bytes::Order;
 use second::corpus::{self, shown::shown};
 use second::header::{self, Form, Spelling, Version, IDENTIFIER_LENGTH, SCRIPTS};
+use second::index::PUBLISHED;
 use second::record::Format;
 use std::collections::BTreeSet;
 use std::fs;
@@ -76,13 +77,14 @@ fn every_question_is_answered_and_refused() {
                 found.insert(format!("{op} ok"));
                 let values = value.map_or("empty", |_| "with values");
                 found.insert(format!("{op} ok {values}"));
+                found.extend(value.map(|first| format!("{op} ok {first}")));
                 found.insert(format!("{op} ok {:?}", spelling(&file)));
                 found.insert(format!("{op} ok {:?}", form(&file)));
             }
         }
     }
     let ops = "table header facts channel montage_count patient_item event_item clock count sample run_int run_float \
-        rewrite rewrite_room turn";
+        index event_kind rewrite rewrite_room turn";
     for op in ops.split(' ') {
         assert!(found.contains(&format!("{op} refused")), "{op} refused");
         let spellings = Spelling::ALL.map(|spelling| format!("{op} ok {:?}", Some(spelling)));
@@ -98,6 +100,13 @@ fn every_question_is_answered_and_refused() {
             let shown = format!("{op} {shown}");
             assert!(found.contains(&shown), "{shown}");
         }
+    }
+    let indexed = "index ok 0, index ok 1, index refused 17, event_kind refused 19";
+    let published = PUBLISHED.map(|(_, kind)| kind);
+    let kinds = published.into_iter().chain(["user", "reserved"]);
+    let kinds: Vec<String> = kinds.map(|kind| format!("event_kind ok {kind}")).collect();
+    for shown in indexed.split(", ").chain(kinds.iter().map(String::as_str)) {
+        assert!(found.contains(shown), "{shown}");
     }
     for number in 1..=19 {
         assert!(found.contains(&format!("refused {number}")), "{number}");
@@ -128,7 +137,11 @@ fn every_refusal_and_every_form_is_there() {
         9 at 120 in 01, 9 at 320 in 00, 9 at 350 in 00, 9 at 125 in 01, 9 at 355 in 01, 13 at an electrode code, \
         13 at a 350's count, 14 at a 350's count, 13 at G1, 13 at G2, 13 for type 101 in a 125, 4 in V100, 4 in V110, \
         6 in V100, 6 in V110, 6 in V200, 9 in V100, 9 in V110, 11 in V100, 11 in V110, 11 in V200, \
-        13 in V100, 13 in V110, 13 in V200";
+        13 in V100, 13 in V110, 13 in V200, events in Channels, events in Electrodes, events in several recordings, \
+        events in two channels, events of Signed24, events of Signed32, events of Float32, 16 bits without events, \
+        a channel of events without one, event user, event 4096, event 65535, event reserved, event lights_out, \
+        an event at once, an event that goes on into the next frame, an event again behind 0, \
+        an event again behind another, an event that stays, an event that the recording before ended with";
     wanted.extend(named.split(", ").map(str::to_string));
     wanted.retain(|form| !shown.contains(form));
     assert_eq!(wanted, Vec::<String>::new());

@@ -720,7 +720,7 @@ fn before_montage(sheet: &Sheet, at: usize) -> bool {
 
 #[test]
 fn every_new_refusal_is_drawn() {
-    const FILES: u64 = 80_000;
+    const FILES: u64 = 120_000;
     let mut times: BTreeMap<String, u64> = BTreeMap::new();
     for index in 0..FILES {
         let sheet = generate::file(12, index);

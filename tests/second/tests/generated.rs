@@ -1,6 +1,7 @@
 //! What is true of all generated files.
 
 use second::bytes::Order;
+use second::corpus::shown::shown;
 use second::generate::{self, Field, Sheet};
 use second::header::{Header, Spelling, IDENTIFIER_LENGTH};
 use second::judge::judge;
@@ -84,6 +85,37 @@ fn periods_of_every_sort_are_frequent_in_valid_files() {
     ] {
         let found = times.get(sort).copied().unwrap_or(0);
         assert!(found >= least, "{sort}: only {found}");
+    }
+}
+
+/// How many of the valid files show each of these at least.
+#[test]
+fn events_of_every_sort_are_frequent_in_valid_files() {
+    let mut times: BTreeMap<String, u64> = BTreeMap::new();
+    for sheet in valid_files() {
+        for form in shown(&sheet.bytes) {
+            *times.entry(form).or_default() += 1;
+        }
+    }
+    for (least, forms) in [
+        (
+            VALID / 10,
+            "events in Channels, events in Electrodes, events in several recordings, an event at once, \
+            an event that goes on into the next frame, an event again behind 0, event user, event reserved, \
+            16 bits without events",
+        ),
+        (
+            VALID / 50,
+            "events in two channels, an event again behind another, an event that stays, \
+            an event that the recording before ended with, a channel of events without one, events of Signed24, \
+            events of Signed32, events of Float32, event lights_out, event INST_end, event 4096, event 65535",
+        ),
+    ] {
+        for form in forms.split(", ") {
+            let found = times.get(form).copied().unwrap_or(0);
+            println!("{form}: {found}");
+            assert!(found >= least, "{form}: only {found}");
+        }
     }
 }
 

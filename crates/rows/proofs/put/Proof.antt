@@ -10,7 +10,7 @@ use lib.IntN.{ℤ}
 use lib.Signed.{mag}
 use Prim.Native.Nat.{_<_, _^_}
 use Rattle.words.proofs.Ints.{kept}
-use Rattle.rows.proofs.Written.{written-one, wrote-counted, wrote-out, wrote-one}
+use Rattle.rows.proofs.Written.{wrote-counted, wrote-out, wrote-one}
 use borrow.Author.Needs.{needs}
 use Rattle.rows.proofs.put.Statement.{statement}
 use Rattle.rows.proofs.put.Tie as tie
@@ -40,7 +40,7 @@ slice-set-from-out-4 c = simp length-set (omega arith)
 returns-3 : tie.Need-returns-3
 returns-3 c =
     let a = c .before .before .before .args in
-    wrote-one _ _ _ _ _ (not-false (a .write) (c .before .before .if1 .left)) (written-one _ _ _ _ _ _ _ (omega arith) (toZ-pos w64 (a .start) (omega arith)) (toZ-pos w64 (a .size) (omega arith)) (toZ-pos w64 (a .code) (omega arith)) (rw (kept (c .signed4 .result) (c .signed4 .ok), toZ-ofZ w64 (c .signed4 .result) (wide (c .signed4 .result) (c .signed4 .ok))) (c .signed4 .ensures)))
+    wrote-one _ _ _ _ _ _ _ _ (not-false (a .write) (c .before .before .if1 .left)) (omega arith) (toZ-pos w64 (a .start) (omega arith)) (toZ-pos w64 (a .size) (omega arith)) (toZ-pos w64 (a .code) (omega arith)) (rw (kept (c .signed4 .result) (c .signed4 .ok), toZ-ofZ w64 (c .signed4 .result) (wide (c .signed4 .result) (c .signed4 .ok))) (c .signed4 .ensures))
 
 pub put-spec : {M : Type 1} → statement M
 put-spec =

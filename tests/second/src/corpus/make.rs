@@ -16,7 +16,7 @@ use std::io;
 use std::path::Path;
 
 /// So many files are drawn, to choose from.
-const DRAWN: u64 = 20_000;
+const DRAWN: u64 = 40_000;
 
 /// Files are at most so long, but for the first that `listing` does not read.
 const MOST_BYTES: usize = 2000;
@@ -105,6 +105,7 @@ fn writing(file: &[u8]) -> Vec<Question> {
     let rewrite = |letter: u8| ("rewrite", vec![u64::from(letter)]);
     let calls = [
         ("table", vec![]),
+        ("index", vec![]),
         ("turn", vec![]),
         rewrite(Order::Little.letter()),
         rewrite(Order::Big.letter()),

@@ -1,5 +1,7 @@
-//! What a file of a corpus shows, in words: its verdict with the place, or the records, rates and paddings that it has.
+//! What a file of a corpus shows, in words: its verdict with the place, or the records, rates, paddings and events that
+//! it has.
 
+use super::events;
 use crate::bytes::Order;
 use crate::generate::{NO_FORMS, NO_IDENTIFIERS};
 use crate::header::{self, Form, Version, RECORDINGS_AT};
@@ -42,6 +44,7 @@ fn forms(file: &[u8], model: &Model) -> BTreeSet<String> {
         }
         shown.extend(recording.montage.iter().flat_map(wired));
     }
+    shown.extend(events::shown(file, model));
     shown
 }
 
@@ -213,7 +216,7 @@ fn padded(recording: &Recording) -> Vec<&'static str> {
     ])
 }
 
-fn true_of(forms: &[(bool, &'static str)]) -> Vec<&'static str> {
+pub fn true_of(forms: &[(bool, &'static str)]) -> Vec<&'static str> {
     let shown = forms.iter().filter(|(is, _)| *is);
     shown.map(|(_, form)| *form).collect()
 }

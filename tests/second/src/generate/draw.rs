@@ -2,10 +2,11 @@
 
 use super::plan::{
     ChannelPlan, ChannelsPlan, FilePlan, FramePlan, FramesPlan, ItemPlan, ItemsPlan, MakerPlan,
-    MontagePlan, OverviewPlan, PartPlan, RecordingPlan,
+    MontagePlan, OverviewPlan, PartPlan, RecordingPlan, SamplesPlan,
 };
 use crate::bytes::Order;
 use crate::header::{self, Form, Spelling, Version};
+use crate::index::EVENT;
 use crate::listing;
 use crate::random::Random;
 use crate::record::{self, frames, items};
@@ -54,7 +55,11 @@ impl Shape {
         let makers = random.pick(&[0, 0, 0, 15, 30, 60]);
         let small = Shape { makers, ..SMALL };
         match random.below(100) {
-            0..=59 => small,
+            0..=45 => small,
+            46..=59 => Shape {
+                samples: 48,
+                ..small
+            },
             60..=71 => Shape {
                 recordings: (4, 14),
                 channels: 1,
@@ -253,8 +258,8 @@ fn age_channels(version: Version, list: &mut ChannelsPlan) {
 
 fn age_frames(block: &mut FramesPlan) {
     block.multiplier = 0;
-    for (format, _) in &mut block.samples {
-        *format = Format::Signed16;
+    for samples in &mut block.samples {
+        samples.format = Format::Signed16;
     }
     block.frame_length = block.frame_content();
     for frame in &mut block.frames {
@@ -454,6 +459,9 @@ fn draw_other_seconds(random: &mut Random, shape: &Shape, earlier: &Holding) -> 
     earlier.seconds
 }
 
+/// Of the channels with samples so many are of events, format and all, beside those that are drawn so by chance.
+const EVENTS_PERCENT: usize = 30;
+
 fn draw_channel(random: &mut Random, seconds: i32, most: i32) -> ChannelPlan {
     let format = random.pick(&Format::ALL);
     let flags = random.bits();
@@ -466,20 +474,30 @@ fn draw_channel(random: &mut Random, seconds: i32, most: i32) -> ChannelPlan {
         };
     }
     let (rate, period) = draw_rate(random, seconds, most);
-    let types = [0, 1, 17, 18, 20];
+    let flags = if period {
+        flags | PERIOD_FLAG
+    } else {
+        flags & !PERIOD_FLAG
+    };
+    let (channel_type, format) = if random.chance(EVENTS_PERCENT) {
+        (EVENT, Format::Signed16)
+    } else {
+        (draw_type(random), format)
+    };
     ChannelPlan {
-        flags: if period {
-            flags | PERIOD_FLAG
-        } else {
-            flags & !PERIOD_FLAG
-        },
-        channel_type: if random.chance(50) {
-            random.pick(&types)
-        } else {
-            random.between(0, 18)
-        },
+        flags,
+        channel_type,
         format,
         rate,
+    }
+}
+
+/// The type of a channel with samples.
+fn draw_type(random: &mut Random) -> i32 {
+    if random.chance(50) {
+        random.pick(&[0, EVENT, 17, 18, record::NEWEST_TYPE])
+    } else {
+        random.between(0, 18)
     }
 }
 
@@ -567,13 +585,17 @@ fn draw_lead(random: &mut Random, electrodes: i32) -> i32 {
 }
 
 fn draw_frames(random: &mut Random, shape: &Shape, holding: &Holding, count: i32) -> FramesPlan {
-    let samples: Vec<(Format, usize)> = holding
+    let samples: Vec<SamplesPlan> = holding
         .channels
         .iter()
         .map(|channel| {
             let count = channel.samples(holding.seconds);
             let count = count.expect("rates are drawn for the seconds");
-            (channel.format, count as usize)
+            SamplesPlan {
+                format: channel.format,
+                count: count as usize,
+                codes: channel.channel_type == EVENT,
+            }
         })
         .collect();
     let mut plan = FramesPlan {

@@ -1,5 +1,6 @@
 //! Files for the comparison, valid and damaged, drawn from a seed, and questions about them.
 
+mod codes;
 mod damage;
 mod draw;
 mod edges;

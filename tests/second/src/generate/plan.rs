@@ -91,10 +91,18 @@ pub struct FramesPlan {
     pub seconds: i32,
     pub count: i32,
     pub frame_length: usize,
-    /// Format and count of samples of each channel, the same in every frame.
-    pub samples: Vec<(Format, usize)>,
+    /// The samples of each channel, the same in every frame.
+    pub samples: Vec<SamplesPlan>,
     pub frames: Vec<FramePlan>,
     pub tail: Vec<u8>,
+}
+
+#[derive(Clone, Copy)]
+pub struct SamplesPlan {
+    pub format: Format,
+    pub count: usize,
+    /// Whether they are codes of events, that often stay for a while.
+    pub codes: bool,
 }
 
 #[derive(Clone)]
@@ -201,7 +209,7 @@ impl FramesPlan {
         let bytes = self
             .samples
             .iter()
-            .map(|(format, count)| format.width() * count);
+            .map(|samples| samples.format.width() * samples.count);
         frame::SAMPLES + bytes.sum::<usize>()
     }
 

@@ -1,5 +1,6 @@
 //! Questions drawn for a file: each argument at the bounds of its range and far outside, the others inside it.
 
+use crate::index::PUBLISHED;
 use crate::judge::judge;
 use crate::model::{Recording, Slot};
 use crate::random::Random;
@@ -32,6 +33,10 @@ type Range = (u64, u64);
 /// A range for each of a question's arguments.
 type Ranges = Vec<Range>;
 
+/// The question for the kind of an event's code, and the codes that have one.
+const KIND: &str = "event_kind";
+const CODES: Range = (0, 1 << 16);
+
 const AFRESH: usize = 4;
 
 /// A number of the range, or its first where it is empty.
@@ -56,10 +61,12 @@ pub fn questions(file: &[u8], random: &mut Random) -> Vec<Question> {
         Err(_) => {
             let mut all = ranges(1, None, random);
             all.extend(run_ranges(1, None, random));
+            all.push((KIND, vec![CODES]));
             for (op, ranges) in all {
                 let args = all_inside(random, &ranges);
                 drawn.push(Question { op, args });
             }
+            drawn.push(published(random));
         }
         Ok(model) => {
             let count = model.recordings.len() as u64;
@@ -75,6 +82,8 @@ pub fn questions(file: &[u8], random: &mut Random) -> Vec<Question> {
                 about(op, &ranges, random, &mut drawn);
                 runs(op, &ranges, random, &mut drawn);
             }
+            about(KIND, &vec![CODES], random, &mut drawn);
+            drawn.extend((0..AFRESH).map(|_| published(random)));
         }
     }
     drawn
@@ -134,6 +143,23 @@ fn run_channel(slots: &[Slot], floats: bool, random: &mut Random) -> usize {
         return inside(random, (0, slots.len() as u64)) as usize;
     }
     random.pick(&channels)
+}
+
+/// A code that is published, or one beside it: the next, one with the bit of a user's, or with a bit above that.
+fn published(random: &mut Random) -> Question {
+    let (code, _) = random.pick(&PUBLISHED);
+    let code = random.pick(&[
+        code,
+        code,
+        code + 1,
+        code | 1 << 12,
+        code | 1 << 13,
+        code | 1 << 15,
+    ]);
+    Question {
+        op: KIND,
+        args: vec![code],
+    }
 }
 
 /// One question with each argument in turn at its bounds, then with some inside and some of any size.

@@ -1,14 +1,15 @@
 //! A plan written out as bytes, with the place of every field that a rule
 //! judges, so that a damage can be put at a chosen place.
 
+use super::codes::Codes;
 use super::plan::{
     ChannelPlan, ChannelsPlan, FilePlan, FramePlan, FramesPlan, ItemsPlan, MakerPlan, MontagePlan,
-    OverviewPlan, PartPlan, RecordingPlan,
+    OverviewPlan, PartPlan, RecordingPlan, SamplesPlan,
 };
 use crate::bytes::Order;
 use crate::header;
 use crate::random::Random;
-use crate::record::{self, channel, Format, Kind, HEAD};
+use crate::record::{self, channel, Kind, HEAD};
 
 /// What a place holds.
 #[derive(Clone, Copy, Debug, PartialEq, Eq, PartialOrd, Ord)]
@@ -115,6 +116,8 @@ pub struct Sheet {
     pub records: Vec<RecordPlace>,
     pub paddings: Vec<PaddingPlace>,
     tidy: bool,
+    /// For each channel, should it be one of events: they go on from frame to frame and from recording to recording.
+    codes: Vec<Codes>,
 }
 
 /// Writes the plan; what no rule judges is drawn on the way.
@@ -126,6 +129,7 @@ pub fn write(random: &mut Random, plan: &FilePlan) -> Sheet {
         records: Vec::new(),
         paddings: Vec::new(),
         tidy: plan.tidy,
+        codes: Vec::new(),
     };
     sheet.header(plan);
     let end = plan.length();
@@ -415,8 +419,8 @@ impl Sheet {
             self.clock_field(field, value);
         }
         self.filler(random, at, record::frame::SAMPLES);
-        for (format, count) in &block.samples {
-            self.samples(random, *format, *count);
+        for (channel, samples) in block.samples.iter().enumerate() {
+            self.samples(random, channel, samples);
         }
         // A damaged plan may leave less room than its samples take.
         let content = length.saturating_sub(plan.tail.len());
@@ -425,9 +429,17 @@ impl Sheet {
         self.zero_reserve(at, Kind::Frame);
     }
 
-    fn samples(&mut self, random: &mut Random, format: Format, count: usize) {
-        for _ in 0..count {
-            self.put(format.width(), random.bits());
+    fn samples(&mut self, random: &mut Random, channel: usize, plan: &SamplesPlan) {
+        if self.codes.len() <= channel {
+            self.codes.resize_with(channel + 1, Codes::default);
+        }
+        for _ in 0..plan.count {
+            let value = if plan.codes {
+                self.codes[channel].draw(random)
+            } else {
+                random.bits()
+            };
+            self.put(plan.format.width(), value);
         }
     }
 

@@ -156,7 +156,7 @@ pub fn a_sample_too_many(random: &mut Random) -> Sheet {
     let recording = any_recording(random, &mut plan);
     if let Some(block) = recording.frames() {
         let index = random.below(block.samples.len());
-        block.samples[index].1 += 1;
+        block.samples[index].count += 1;
         resize_frames(block, block.frame_content());
     }
     recording.settle();

@@ -1,0 +1,11 @@
+pub mod Pairs
+pub mod Quiet
+pub mod Words
+pub mod Sampling
+pub mod Channels
+pub mod Few
+pub mod Standing
+pub mod Framing
+pub mod Recorded
+pub mod Answers
+pub mod Exact
