@@ -10,7 +10,7 @@ use lib.Dec.{eqb}
 use lib.ListN.{length, getD, drop, drop-of-length-le}
 use lib.Seq.{drop-cons}
 use Rattle.walk.proofs.Apart.{false-true}
-use Rattle.recordings.specs.Answers.{Answer, value, indexed}
+use Rattle.recordings.specs.Answers.{value, indexed}
 use Rattle.recordings.proofs.Chosen.{refusal-value}
 use Rattle.codes.specs.Codes.{published, kindIn, unpublished, kindOf, KindIs}
 use Rattle.codes.specs.declared.EventKind.{EventKind}

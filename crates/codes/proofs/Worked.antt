@@ -3,7 +3,7 @@
 use mathlib.Core.Path.{_≡_, refl}
 use mathlib.Core.List.{List, [], _∷_, map}
 use Prim.Native.Nat.{ℕ}
-use Rattle.recordings.specs.Answers.{Answer, value, outside}
+use Rattle.recordings.specs.Answers.{value, outside}
 use Rattle.codes.specs.Codes.{published, kindIn, kindTold}
 use Rattle.codes.specs.declared.EventKind.{EventKind}
 use Rattle.codes.specs.declared.EventKind.the-variants as EventKind

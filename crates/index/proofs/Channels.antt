@@ -1,13 +1,13 @@
 -- The entries of some channels of a frame, of some frames and of some recordings, from those before them.
 -- Assumes nothing.
 use mathlib.Core.Path.{_≡_, refl, sym, ap, _∙_}
-use mathlib.Core.Bool.{Bool, true, false}
-use mathlib.Core.List.{List, [], _∷_, _++_, append-nil, append-assoc, map}
+use mathlib.Core.Bool.{false}
+use mathlib.Core.List.{List, [], _∷_, _++_, append-nil, append-assoc}
 use Prim.Native.Nat.{ℕ, zero, suc, _+_, _-_, _*_, _≤_, _<_, zero-le}
 use native.Mathlib.Nat.{add-zero, le-refl}
 use native.Mathlib.Omega.{arith}
 use lib.ListN.{length, take, getD}
-use lib.Seq.{take-all, take-suc, length-take-le}
+use lib.Seq.{take-suc, length-take-le}
 use Rattle.walk.specs.Walk.{pick}
 use Rattle.rules.specs.Rules as R
 use Rattle.recordings.specs.Answers.{value, indexed}
@@ -92,6 +92,18 @@ unfolding R.sampleBytes
 bytes-some t zero cs = zero-le
 bytes-some t (suc n) [] = le-refl 0
 bytes-some t (suc n) (c ∷ cs) = omega (arith, bytes-some t n cs)
+
+-- a recording without a channel of events
+channels-none : (i j : ℕ) (before : List R.Frame) (k : ℕ) (cs : List R.Channel) (ss : List (List ℕ)) → ((c : ℕ) (y : R.Channel) → indexed cs c ≡ value y → ofEvents y ≡ false) → channelEntries i j before k cs ss ≡ []
+unfolding channelEntries indexed
+channels-none i j before k [] ss h = refl
+channels-none i j before k (y ∷ cs) [] h = refl
+channels-none i j before k (y ∷ cs) (s ∷ ss) h = rw (h 0 y refl) (channels-none i j before (suc k) cs ss (λ c z e. h (suc c) z e))
+
+pub frames-none : (i j : ℕ) (cs : List R.Channel) (before fs : List R.Frame) → ((c : ℕ) (y : R.Channel) → indexed cs c ≡ value y → ofEvents y ≡ false) → frameEntries i j cs before fs ≡ []
+unfolding frameEntries
+frames-none i j cs before [] h = refl
+frames-none i j cs before (f ∷ fs) h = rw (channels-none i j before 0 cs (f .channels) h) (frames-none i (suc j) cs (before ++ (f ∷ [])) fs h)
 
 -- recordings
 recordings-append : (i : ℕ) (rs : List R.Recording) (r : R.Recording) → entriesFrom i (rs ++ (r ∷ [])) ≡ entriesFrom i rs ++ recordingEntries (i + length rs) r

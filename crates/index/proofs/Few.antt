@@ -1,15 +1,15 @@
 -- How many entries there are at most: one for each byte of samples.
 -- Assumes nothing.
-use mathlib.Core.Path.{_≡_, refl, sym, ap, _∙_}
+use mathlib.Core.Path.{_≡_}
 use mathlib.Core.Bool.{Bool, true, false}
 use mathlib.Core.List.{List, [], _∷_, _++_}
 use mathlib.Core.Option.{Option, some}
-use Prim.Native.Nat.{ℕ, zero, suc, _+_, _*_, _≤_, _<_, max}
-use native.Mathlib.Nat.{mul-one, suc-mul, mul-add, mul-le-mul-left, mul-le-mul-right}
+use Prim.Native.Nat.{ℕ, zero, suc, _+_, _*_, _≤_}
+use native.Mathlib.Nat.{mul-one, suc-mul, mul-add, mul-le-mul-left}
 use native.Mathlib.Omega.{arith}
 use lib.Dec.{eqb}
 use lib.ListN.{length, take, length-append}
-use lib.Seq.{take-all, take-length}
+use lib.Seq.{take-length}
 use Rattle.walk.specs.Walk.{pick}
 use Rattle.rules.specs.Rules as R
 use Rattle.rules.specs.Rules.{sampleBytes, samplesIn, width}
@@ -20,7 +20,7 @@ use Rattle.rules.proofs.Canon.{RecordingsOk}
 use Rattle.rules.proofs.Renew.{All, FrameOk, SamplesOk}
 use Rattle.rules.proofs.Renewed.{RecordingOk}
 use Rattle.rules.proofs.Sized.{longest}
-use Rattle.index.specs.Events.{Entry, ofEvents, lastOf, codesIn, sampleEntries, channelEntries, frameEntries, recordingEntries, entriesFrom}
+use Rattle.index.specs.Events.{ofEvents, lastOf, codesIn, sampleEntries, channelEntries, frameEntries, recordingEntries, entriesFrom}
 use Rattle.index.proofs.Sampling.{entries-few}
 
 -- a sample has a byte

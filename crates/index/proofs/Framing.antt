@@ -2,7 +2,7 @@
 -- Assumes nothing.
 use mathlib.Core.Path.{_≡_, refl, sym, ap, _∙_}
 use mathlib.Core.Bool.{Bool, true, false}
-use mathlib.Core.List.{List, [], _∷_, _++_}
+use mathlib.Core.List.{List, [], _∷_}
 use Prim.Native.Nat.{ℕ, zero, suc, _+_, _-_, _*_, _≤_, _<_}
 use native.Mathlib.Nat.{zero-add, mul-one, mul-comm, mul-le-mul-left, mul-le-mul-right}
 use native.Mathlib.Omega.{arith}
@@ -10,7 +10,6 @@ use lib.IntN.{ℤ}
 use lib.ListN.{length, take, drop, getD}
 use lib.Seq.{take-all, length-take-le}
 use Rattle.words.specs.Lent.{Wrote}
-use Rattle.words.specs.Sizes.{Addressable}
 use Rattle.words.specs.declared.Order.{Order}
 use Rattle.words.proofs.Lent.{wrote-nothing, wrote-join}
 use Rattle.walk.specs.Walk.{pick}
@@ -22,19 +21,18 @@ use Rattle.records.specs.Says.{KeptOne}
 use Rattle.descriptions.specs.declared.Places.{Places}
 use Rattle.recordings.specs.Answers.{value, indexed}
 use Rattle.recordings.proofs.Chosen.{One}
-use Rattle.samples.specs.Asked.{FrameStands}
 use Rattle.samples.specs.Frames.{ChosenFrame, frameOf}
 use Rattle.samples.proofs.Framing.{frame-of}
 use Rattle.samples.proofs.Stretch.{kept-take, kept-indexed, bytes-before, indexed-within}
-use Rattle.index.specs.Events.{Entry, ofEvents, lastOf, codesIn, sampleEntries, channelEntries}
+use Rattle.index.specs.Events.{ofEvents, lastOf, codesIn, sampleEntries, channelEntries}
 use Rattle.index.specs.Index.{numbers}
-use Rattle.index.specs.Listing.{wordsAt, Quiet, ofChannel, ofFrame, frameFrom, ChannelAhead, ChannelListed, StretchOf, FrameAhead}
+use Rattle.index.specs.Listing.{wordsAt, Quiet, ofChannel, ofFrame, frameFrom, ChannelAhead, ChannelListed, FrameAhead}
 use Rattle.index.specs.declared.Passed.{Passed}
 use Rattle.index.specs.declared.Spot.{Spot}
 use Rattle.index.specs.declared.Stretch.{Stretch}
 use Rattle.index.proofs.Channels.{some-one, oneChannel, channels-more, channels-quiet, bytes-more, bytes-some}
 use Rattle.index.proofs.Few.{width-least, channels-few}
-use Rattle.index.proofs.Standing.{events-kept, events-width, samples-ok, seconds-same, samples-many, codes-there, before-there}
+use Rattle.index.proofs.Standing.{events-kept, events-width, samples-ok, seconds-same, samples-many, codes-there}
 
 -- One channel
 

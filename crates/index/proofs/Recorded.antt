@@ -2,23 +2,22 @@
 -- Assumes nothing.
 use mathlib.Core.Path.{_≡_, refl, sym, ap, _∙_}
 use mathlib.Core.Bool.{Bool, true, false}
-use mathlib.Core.List.{List, [], _∷_, _++_, map}
+use mathlib.Core.List.{List, [], _∷_}
 use mathlib.Core.Option.{none}
 use Prim.Native.Nat.{ℕ, zero, suc, _+_, _-_, _*_, _≤_, _<_}
 use native.Mathlib.Nat.{add-mul, mul-le-mul-right}
 use native.Mathlib.Omega.{arith}
+use borrow.Author.Tests.{ltb-true, ltb-false}
+use lib.Dec.{ltb}
 use lib.IntN.{ℤ}
 use lib.ListN.{length, take, getD, length-map, List·getD-map}
 use lib.Seq.{take-all}
 use Rattle.words.specs.Lent.{Wrote}
 use Rattle.words.specs.Numbers.{Bytes}
-use Rattle.words.specs.Sizes.{Addressable}
 use Rattle.words.specs.declared.Order.{Order}
 use Rattle.words.proofs.Lent.{wrote-nothing, wrote-join}
-use Rattle.walk.specs.Walk.{passed}
 use Rattle.rules.specs.Rules as R
 use Rattle.rules.specs.Rules.{sampleBytes}
-use Rattle.rules.specs.declared.FileHeader.{FileHeader}
 use Rattle.rules.specs.declared.Label.{Label}
 use Rattle.rules.proofs.Canon.{readings, file-ok}
 use Rattle.rules.proofs.Turn.{accepted}
@@ -27,24 +26,24 @@ use Rattle.descriptions.specs.DescriptionsJudged.{HeldWithin}
 use Rattle.descriptions.specs.declared.Before.{Before}
 use Rattle.descriptions.specs.declared.Before.the-variants as Before
 use Rattle.descriptions.specs.declared.Places.{Places}
-use Rattle.judge.specs.Judged.{AcceptedAs}
 use Rattle.judge.specs.Recorded.{RecordingAgain}
 use Rattle.judge.specs.declared.recording.Recorded.{Recorded}
 use Rattle.judge.specs.declared.recording.Recorded.the-variants as Recorded
-use Rattle.recordings.specs.Answers.{value}
+use Rattle.recordings.specs.Answers.{value, indexed}
 use Rattle.recordings.specs.Found.{FoundIn}
 use Rattle.recordings.specs.Recordings.{Chosen, recordingOf}
 use Rattle.recordings.proofs.Chosen.{One, in-between, chosen-in}
 use Rattle.recordings.proofs.Reach.{Going, Met, ok-of, one-ok, going-start, met, asked-found}
-use Rattle.samples.specs.Frames.{ChosenFrame, frameOf}
+use Rattle.samples.specs.Frames.{frameOf}
 use Rattle.samples.proofs.Framing.{frame-of, frame-found-at}
-use Rattle.index.specs.Events.{channelEntries, frameEntries, recordingEntries, entriesFrom}
+use Rattle.samples.proofs.Stretch.{kept-indexed, indexed-within}
+use Rattle.index.specs.Events.{ofEvents, channelEntries, frameEntries, recordingEntries, entriesFrom}
 use Rattle.index.specs.Index.{numbers, entriesOf}
-use Rattle.index.specs.Listing.{ofFrame, ofRecording, StretchOf, FrameAhead, RecordingAhead, FileAhead}
+use Rattle.index.specs.Listing.{eventsAt, FirstEvents, BehindEvents, ofFrame, ofRecording, StretchOf, FrameAhead, RecordingAhead, FileAhead}
 use Rattle.index.specs.declared.Stretch.{Stretch}
-use Rattle.index.proofs.Channels.{frames-more, recordings-more}
+use Rattle.index.proofs.Channels.{frames-more, frames-none, recordings-more}
+use Rattle.index.proofs.Standing.{events-kept}
 use Rattle.index.proofs.Few.{frames-few, recording-small, recordings-few}
-use Rattle.index.proofs.Standing.{seconds-same}
 
 -- The frames of a recording
 
@@ -55,6 +54,23 @@ pub record Framed (o : Order) (s : List ℕ) (q : Places) (i : ℕ) (w : Bool) (
   pub wrote : Wrote numbers 5 w out out₁ k k₁ (frameEntries i 1 (ahead .recording .this .recording .channels) [] (take j (ahead .recording .this .recording .frames)))
 
 module _ {o : Order} {s : List ℕ} {q : Places} {i : ℕ} {w : Bool} {out : List ℤ} {k : ℕ} where
+  -- no channel is of events: those before the first are not, nor those behind the last
+  pub framed-none : RecordingAhead o s q i k → (first end : ℕ) → FirstEvents o s (q .channels + 32) (q .count) first → BehindEvents o s (q .channels + 32) (q .count) end → end ≤ first →
+      Wrote numbers 5 w out out k k (ofRecording i (recordingOf s i))
+  framed-none a first end f b l = rw (a .found .is, frames-none i 1 cs [] (a .recording .this .recording .frames) quiet) (wrote-nothing numbers 5 (λ _. refl) w out k)
+    where
+      cs : List R.Channel
+      cs = a .recording .this .recording .channels
+
+      silent : (c : ℕ) → c < q .count → (x : Bool) → ltb c first ≡ x → eventsAt o s (q .channels + 32 + 256 * c) ≡ false
+      silent c m true t = f .quiet c (omega arith) (ltb-true c first t)
+      silent c m false t = b .quiet c (omega (arith, ltb-false c first t)) m
+
+      quiet : (c : ℕ) (y : R.Channel) → indexed cs c ≡ value y → ofEvents y ≡ false
+      quiet c y e =
+          sym (events-kept o s (q .channels + 32 + 256 * c) y (kept-indexed o s (q .channels + 32) c cs (a .found .owned .stand .kept) e)) ∙
+          silent c (omega (arith, indexed-within cs c e, a .found .owned .stand .count)) (ltb c first) refl
+
   pub framed-start : RecordingAhead o s q i k → Framed o s q i w out out k k 0
   unfolding frameEntries
   framed-start a = record { ahead = a; few = omega arith; wrote = wrote-nothing numbers 5 (λ _. refl) w out k }

@@ -1,32 +1,29 @@
 -- The samples of a channel of events in an accepted file: where they stand in a frame, and the code before them.
 -- Assumes nothing.
 use mathlib.Core.Path.{_≡_, refl, sym, ap, _∙_, subst}
-use mathlib.Core.Bool.{Bool, true, false, _&&_}
+use mathlib.Core.Bool.{true}
 use mathlib.Core.List.{List, [], _∷_, _++_}
-use Prim.Native.Nat.{ℕ, zero, suc, _+_, _-_, _*_, _≤_, _<_}
-use native.Mathlib.Nat.{mul-suc, mul-zero}
+use Prim.Native.Nat.{ℕ, zero, suc, _+_, _-_, _*_, _≤_}
+use native.Mathlib.Nat.{mul-suc}
 use native.Mathlib.Omega.{arith}
-use borrow.Author.Tests.{eqb-true, eq-eqb, ne-eqb}
+use borrow.Author.Tests.{eqb-true, ne-eqb}
 use lib.Dec.{eqb}
-use lib.ListN.{length, take, drop, getD}
+use lib.ListN.{length, take, getD}
 use lib.Seq.{take-suc}
 use Rattle.words.specs.Numbers.{numberAt}
 use Rattle.words.specs.declared.Order.{Order}
-use Rattle.walk.specs.Walk.{pick}
-use Rattle.walk.proofs.Seen.{and-left, and-right}
+use Rattle.walk.proofs.Seen.{and-right}
 use Rattle.rules.specs.Rules as R
 use Rattle.rules.specs.Rules.{sampleBytes, samplesIn, width}
 use Rattle.rules.proofs.Renew.{SamplesOk}
-use Rattle.records.specs.Says.{KeptOne, Kept}
+use Rattle.records.specs.Says.{KeptOne}
 use Rattle.descriptions.specs.declared.Places.{Places}
 use Rattle.recordings.specs.Answers.{value, indexed, numbered}
-use Rattle.recordings.specs.Found.{FoundIn}
-use Rattle.recordings.specs.Recordings.{Chosen}
-use Rattle.recordings.proofs.Chosen.{One, in-between, indexed-one, chosen-in}
+use Rattle.recordings.proofs.Chosen.{One, in-between, indexed-one}
 use Rattle.samples.specs.Asked.{FrameStands}
 use Rattle.samples.specs.Frames.{ChosenFrame}
 use Rattle.samples.proofs.Framing.{frame-of, frame-found-at}
-use Rattle.samples.proofs.Readings.{Reads, reads-numbered}
+use Rattle.samples.proofs.Readings.{reads-numbered}
 use Rattle.samples.proofs.Sampling.{frame-samples, sample-there}
 use Rattle.samples.proofs.Stretch.{width-2}
 use Rattle.index.specs.Events.{ofEvents, lastOf, codesIn}

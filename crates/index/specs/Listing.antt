@@ -21,7 +21,7 @@ use Rattle.descriptions.specs.declared.Places.{Places}
 use Rattle.judge.specs.Judged.{AcceptedAs}
 use Rattle.recordings.specs.Answers.{Answer, value, refusal, indexed}
 use Rattle.recordings.specs.Found.{FoundIn}
-use Rattle.recordings.specs.Recordings.{Chosen, recordingOf}
+use Rattle.recordings.specs.Recordings.{Chosen}
 use Rattle.samples.specs.Asked.{FrameStands}
 use Rattle.samples.specs.Frames.{ChosenFrame, frameOf}
 use Rattle.index.specs.Events.{Entry, ofEvents, lastOf, codesIn, sampleEntries, channelEntries, recordingEntries}

@@ -287,7 +287,7 @@ fn frame_entries(
     next
 }
 
-// The entries of a recording.
+// The entries of a recording. Where no channel is of events, no frame is looked at.
 fn recording_entries(
     o: Order,
     file: &[u8],
@@ -304,6 +304,9 @@ fn recording_entries(
     let subs = q.channels + Channels::SUBS;
     let first = first_events(o, file, subs, q.count);
     let end = behind_events(o, file, subs, q.count);
+    if end <= first {
+        return k;
+    }
     let before = sample_bytes(o, file, subs, first, q.seconds);
     let e = Stretch { first, end, before };
     let mut next = k;

@@ -1,7 +1,7 @@
 -- `index::channel_entries` meets its contract: the channel's sub is read, and its samples are listed where it is of events.
 -- Assumes nothing.
 use mathlib.Core.Path.{_≡_, sym, ap, _∙_}
-use mathlib.Core.Bool.{true, false}
+use mathlib.Core.Bool.{true}
 use Prim.Native.Nat.{ℕ, _+_, _-_, _*_, _≤_}
 use native.Mathlib.Nat.{mul-comm}
 use native.Mathlib.Omega.{arith}
@@ -12,9 +12,7 @@ use borrow.Author.Needs.{needs}
 use borrow.Author.Tests.{not-true, not-false}
 use Rattle.rules.specs.Rules as R
 use Rattle.records.specs.Says.{subsAt, ChannelsIn}
-use Rattle.records.proofs.Facts.{bytes-short}
 use Rattle.index.specs.Events.{ofEvents}
-use Rattle.index.specs.Listing.{ChannelAhead}
 use Rattle.index.proofs.Framing.{the-one, its-sub, its-end, its-frame, far-enough, its-bytes, channel-quiet, channel-empty, channel-listed}
 use Rattle.index.proofs.Standing.{events-kept, events-width, before-there}
 use Rattle.index.proofs.channel_entries.Statement.{statement}

@@ -1,9 +1,8 @@
 -- `index::code_before` meets its contract: the sample is read at the same place of the frame before.
 -- Assumes nothing.
-use mathlib.Core.Path.{_≡_, refl}
 use native.Mathlib.Omega.{arith}
 use borrow.Author.Needs.{needs}
-use borrow.Author.Tests.{ne-eqb, eq-eqb}
+use borrow.Author.Tests.{ne-eqb}
 use Rattle.index.specs.Listing.{codeBehind}
 use Rattle.index.proofs.code_before.Statement.{statement}
 use Rattle.index.proofs.code_before.Tie as tie

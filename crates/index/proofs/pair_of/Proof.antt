@@ -1,6 +1,5 @@
 -- `index::pair_of` meets its contract, case by case.
 -- Assumes nothing.
-use mathlib.Core.Path.{refl}
 use borrow.Author.Needs.{needs}
 use Rattle.index.specs.Listing.{pairOf}
 use Rattle.index.proofs.pair_of.Statement.{statement}

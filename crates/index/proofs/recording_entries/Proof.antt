@@ -1,13 +1,13 @@
 -- `index::recording_entries` meets its contract, by the laws of Recorded.
 -- Assumes nothing.
 use mathlib.Core.Path.{_≡_, refl}
-use Prim.Native.Nat.{_+_, _-_, _*_, _≤_}
+use Prim.Native.Nat.{_-_}
 use native.Mathlib.Omega.{arith}
 use denote.Ref.{now}
 use lib.ListN.{length}
 use borrow.Author.Needs.{needs}
 use Rattle.records.specs.Says.{subsAt, ChannelsIn}
-use Rattle.index.proofs.Recorded.{Framed, framed-start, framed-ahead, framed-more, framed-all}
+use Rattle.index.proofs.Recorded.{Framed, framed-none, framed-start, framed-ahead, framed-more, framed-all}
 use Rattle.index.proofs.recording_entries.Statement.{statement}
 use Rattle.index.proofs.recording_entries.Tie as tie
 
@@ -21,16 +21,22 @@ abbrev μ-loop : tie.MeasureT-loop
 room : (b : tie.Start Inv-loop μ-loop) → ChannelsIn (length (now (b .args .file))) (subsAt (b .args .q .channels) (b .args .q .count))
 room b = b .pre .found .owned .room
 
+returns : tie.Need-returns Inv-loop μ-loop
+returns c =
+    let b = c .before in
+    framed-none (b .before .before .before .before .pre) (b .before .first-events .result) (b .behind-events .result) (b .before .first-events .ensures) (b .behind-events .ensures) (c .if1 .taken)
+
 loop-again : tie.Need-loop-again Inv-loop μ-loop
 loop-again c =
     let l = c .before .before .before .before .before .loop in
-    let m = framed-more (l .inv .0) (c .before .before .before .if1 .taken) (c .before .frame-entries .ensures) in
+    let m = framed-more (l .inv .0) (c .before .before .before .if2 .taken) (c .before .frame-entries .ensures) in
     (m, search needs)
 
 frame-entries-requires : tie.Need-frame-entries-requires Inv-loop μ-loop
 frame-entries-requires c κs =
     let l = c .before .before .before in
-    framed-ahead (l .loop .inv .0) _ (record { first = l .before .before .before .first-events .ensures; end = l .before .before .behind-events .ensures; before = l .before .sample-bytes .ensures }) (c .before .if1 .taken)
+    let b = l .before .before .before in
+    framed-ahead (l .loop .inv .0) _ (record { first = b .before .first-events .ensures; end = b .behind-events .ensures; before = l .before .sample-bytes .ensures }) (c .before .if2 .taken)
 
 pub recording-entries-spec : {M : Type 1} → statement M
 recording-entries-spec =
@@ -41,15 +47,18 @@ recording-entries-spec =
     (λ c. record { fits = omega (arith, room (c .before .before), c .before .before .good) })
     (λ c κs. record { inside = omega (arith, room (c .before .before)); short = omega (arith, c .before .before .good) })
     (λ c κs. record { inside = omega (arith, room (c .before .before .before)); short = omega (arith, c .before .before .before .good) })
-    (λ c κs. record {
-      channels = record { inside = omega (arith, room (c .before .before .before .before), c .before .first-events .ensures .inside); few = omega (arith, room (c .before .before .before .before), c .before .first-events .ensures .inside) };
-      hour = c .before .before .before .before .pre .found .seconds;
+    returns
+    (λ c κs.
+    let b = c .before in
+    record {
+      channels = record { inside = omega (arith, room (b .before .before .before .before), b .before .first-events .ensures .inside); few = omega (arith, room (b .before .before .before .before), b .before .first-events .ensures .inside) };
+      hour = b .before .before .before .before .pre .found .seconds;
     })
-    (λ c. (framed-start (c .before .before .before .before .before .pre), refl))
-    (λ c. record { fits = omega (arith, c .if1 .taken, c .before .struct-known2 .given) })
+    (λ c. (framed-start (c .before .before .before .before .before .before .pre), refl))
+    (λ c. record { fits = omega (arith, c .if2 .taken, c .before .struct-known2 .given) })
     frame-entries-requires
-    (λ c. record { fits = omega (arith, c .before .before .before .if1 .taken, c .before .before .before .before .struct-known2 .given) })
-    (λ c. omega (arith, c .before .before .before .if1 .taken))
+    (λ c. record { fits = omega (arith, c .before .before .before .if2 .taken, c .before .before .before .before .struct-known2 .given) })
+    (λ c. omega (arith, c .before .before .before .if2 .taken))
     loop-again
     (λ c. c .before .before .loop .inv .1)
     (λ c. framed-all (c .before .before .loop .inv .0) (omega arith)))

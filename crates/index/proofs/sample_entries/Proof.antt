@@ -3,7 +3,6 @@
 use mathlib.Core.Path.{_≡_, refl}
 use Prim.Native.Nat.{_-_}
 use native.Mathlib.Omega.{arith}
-use denote.Ref.{now}
 use lib.ListN.{length}
 use borrow.Author.Needs.{needs}
 use Rattle.index.proofs.Sampling.{Sampled, sampled-start, sampled-room, sampled-more, sampled-all}
