@@ -5,7 +5,9 @@
  * itself, and every file and every argument is answered. An answer begins with the refusal: its number (document 01,
  * 1 to 19), or 0 where there is an answer, and its position in the file (17: the length needed; 19: 0). What a refusal
  * does not say is 0. A refused call leaves the buffer as it was; an answered one writes only what it says.
- * Recordings, channels, items and frames are asked for from 1, samples from 0. Texts and views are positions in the file.
+ * psg_event_kind and psg_part are lent no file, and psg_part is never refused.
+ * Recordings, channels, items and frames are asked for from 1, samples from 0. Texts, places and parts are positions in
+ * the file.
  *
  * What the caller sees to. The proofs take it as given; no call can test it, and where it does not hold nothing is
  * promised:
@@ -130,8 +132,18 @@ struct psg_sample {
     uint32_t bits;
 };
 
+/* Where samples stand: where the first of them starts in the file, how many bytes each has (2, 3 or 4), and how many
+   there are. Without samples, start is where they would stand. */
+struct psg_place {
+    uint32_t refusal;
+    uint64_t position;
+    uint64_t start;
+    uint64_t width;
+    uint64_t count;
+};
+
 /* A part of the file. */
-struct psg_view {
+struct psg_part {
     uint64_t start;
     uint64_t length;
 };
@@ -199,8 +211,14 @@ struct psg_item psg_event_item(const uint8_t *file, size_t length, size_t record
 /* The clock time of a frame. */
 struct psg_clock psg_clock(const uint8_t *file, size_t length, size_t recording, size_t frame);
 
-/* How many samples of a channel a frame has. */
-struct psg_counted psg_count(const uint8_t *file, size_t length, size_t recording, size_t frame, size_t channel);
+/* Where the samples of a channel stand in a frame, how wide they are and how many. */
+struct psg_place psg_place(const uint8_t *file, size_t length, size_t recording, size_t frame, size_t channel);
+
+/* The part of a file of length bytes that a place tells, with its start as the position: the bytes if all of them lie
+   inside the file, else the empty part at the file's end. A width or a count of 0, with a position of at most length,
+   is the empty part at the position. Any numbers are answered. Cut from the same bytes that psg_place judged: in
+   another file the part lies inside too, but the bytes are of that file. */
+struct psg_part psg_part(size_t length, size_t position, size_t width, size_t count);
 
 /* One sample of a channel in a frame. */
 struct psg_sample psg_sample(const uint8_t *file, size_t length, size_t recording, size_t frame, size_t channel, size_t sample);
@@ -224,9 +242,6 @@ struct psg_counted psg_index(const uint8_t *file, size_t length, int64_t *entrie
 
 /* What an event's code stands for. It asks for no file; 19 above 65535. */
 struct psg_kind psg_event_kind(uint64_t code);
-
-/* The bytes of a channel in a frame; start 0 and length 0 for a refusal (psg_count tells which) and for a channel without samples. */
-struct psg_view psg_view(const uint8_t *file, size_t length, size_t recording, size_t frame, size_t channel);
 
 #ifdef __cplusplus
 }

@@ -89,9 +89,16 @@ AT(psg_sample, is_float, 16)
 AT(psg_sample, value, 20)
 AT(psg_sample, bits, 24)
 
-SIZE(psg_view, 16)
-AT(psg_view, start, 0)
-AT(psg_view, length, 8)
+SIZE(psg_place, 40)
+AT(psg_place, refusal, 0)
+AT(psg_place, position, 8)
+AT(psg_place, start, 16)
+AT(psg_place, width, 24)
+AT(psg_place, count, 32)
+
+SIZE(psg_part, 16)
+AT(psg_part, start, 0)
+AT(psg_part, length, 8)
 
 SIZE(psg_kind, 24)
 AT(psg_kind, refusal, 0)
@@ -169,12 +176,8 @@ static void questions(const uint8_t *file, size_t n) {
     EXPECT(psg_patient_item(file, n, 1, 1).refusal == 19);
     EXPECT(psg_event_item(file, n, 1, 1).refusal == 19);
     EXPECT(psg_clock(file, n, 1, 1).refusal == 0);
-    struct psg_counted count = psg_count(file, n, 1, 1, 1);
-    EXPECT(count.refusal == 0 && count.count == 1);
     struct psg_sample sample = psg_sample(file, n, 1, 1, 1, 0);
     EXPECT(sample.refusal == 0 && sample.is_float == 0 && sample.value == (int16_t)(file[544] | file[545] << 8));
-    struct psg_view view = psg_view(file, n, 1, 1, 1);
-    EXPECT(view.start == 544 && view.length == 2);
 }
 
 static void put(uint8_t *file, size_t at, uint32_t number) {
@@ -184,6 +187,60 @@ static void put(uint8_t *file, size_t at, uint32_t number) {
 /* Numbers, each at its place. */
 static void put_all(uint8_t *file, const uint32_t (*numbers)[2], size_t count) {
     for (size_t i = 0; i < count; i++) put(file, numbers[i][0], numbers[i][1]);
+}
+
+/* The place of the one sample and the part that it is, refusals, and the place that a sample would take: the smallest
+   file with its channel OFF, two bytes shorter. */
+static void places(const uint8_t *small, size_t n) {
+    static uint8_t file[1024];
+    const uint32_t numbers[][2] = {{32, 528}, {488, 56}, {508, 24}, {520, 24}, {232, 0}, {240, 0}};
+    struct psg_place place = psg_place(small, n, 1, 1, 1);
+    EXPECT(place.refusal == 0 && place.position == 0 && place.start == 544 && place.width == 2 && place.count == 1);
+    struct psg_part part = psg_part(n, place.start, place.width, place.count);
+    EXPECT(part.start == 544 && part.length == 2);
+    place = psg_place(small, n, 1, 1, 2);
+    EXPECT(place.refusal == 19 && place.position == 0 && place.start == 0 && place.width == 0 && place.count == 0);
+    EXPECT(psg_place(small, n, 1, 0, 1).refusal == 19 && psg_place(small, n, SIZE_MAX, 1, 1).refusal == 19);
+    place = psg_place(small, n - 1, 1, 1, 1);
+    EXPECT(place.refusal == 10 && place.position == 32 && place.start == 0 && place.width == 0 && place.count == 0);
+    memcpy(file, small, 544);
+    memcpy(file + 544, small + 546, n - 546);
+    n -= 2;
+    put_all(file, numbers, sizeof numbers / sizeof *numbers);
+    place = psg_place(file, n, 1, 1, 1);
+    EXPECT(place.refusal == 0 && place.start == 544 && place.width == 2 && place.count == 0);
+    part = psg_part(n, place.start, place.width, place.count);
+    EXPECT(part.start == 544 && part.length == 0);
+}
+
+/* Length, position, width and count, and the part: the bytes, all of them or none; no bytes at the position, or behind
+   the file; and numbers whose product or sum 64 bits do not hold. */
+static void parts(void) {
+    const size_t most = SIZE_MAX, half = SIZE_MAX / 2;
+    const size_t cuts[][6] = {
+        {562, 0, 1, 562, 0, 562},
+        {562, 544, 3, 6, 544, 18},
+        {562, 545, 3, 6, 562, 0},
+        {561, 544, 3, 6, 561, 0},
+        {562, 562, 2, 0, 562, 0},
+        {562, 563, 2, 0, 562, 0},
+        {562, 561, 0, most, 561, 0},
+        {562, 0, most, 0, 0, 0},
+        {562, most, 0, 0, 562, 0},
+        {0, 0, 0, 0, 0, 0},
+        {0, 0, 2, 1, 0, 0},
+        {562, 544, (size_t)1 << 32, (size_t)1 << 32, 562, 0},
+        {562, 544, most, most, 562, 0},
+        {562, 544, 3, most / 3 + 1, 562, 0},
+        {562, most, 1, 1, 562, 0},
+        {562, most, 1, 545, 562, 0},
+        {half, 1, 2, half / 2, 1, half - 1},
+        {half, 2, 2, half / 2, half, 0},
+    };
+    for (size_t i = 0; i < sizeof cuts / sizeof *cuts; i++) {
+        struct psg_part part = psg_part(cuts[i][0], cuts[i][1], cuts[i][2], cuts[i][3]);
+        EXPECT(part.start == cuts[i][4] && part.length == cuts[i][5]);
+    }
 }
 
 /* A run of the one sample: with room to spare, none at the end, and refused, with the buffer as it was. */
@@ -332,6 +389,8 @@ int main(void) {
     spellings(file, n);
     writing(file, n);
     questions(file, n);
+    places(file, n);
+    parts();
     runs(file, n);
     floats(file, n);
     events(file, n);

@@ -48,11 +48,11 @@ impl Work {
         let rows = psg::rows(&file).expect("a night is listed");
         let frame = rows.iter().find(|row| row.code == 145).expect("a frame");
         let channel = night.events.map(|events| {
-            let view = psg::view(&file, 1, 1, events.channel);
+            let place = psg::place(&file, 1, 1, events.channel).expect("a channel of a night");
             plain::Channel {
                 number: events.channel,
-                first: view.as_ptr() as usize - file.as_ptr() as usize,
-                bytes: view.len(),
+                first: place.position,
+                bytes: place.width * place.count,
                 frames: night.frames,
                 frame_length: frame.length as usize,
             }

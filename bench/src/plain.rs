@@ -76,8 +76,15 @@ fn changes(file: &[u8], channel: &Channel, out: &mut Vec<i64>, code: impl Fn([u8
 mod tests {
     use super::*;
     use crate::night::Night;
-    use second::questions::view;
+    use second::model::Span;
+    use second::place::{part, place};
     use second::run::{run_float, run_int, Run};
+
+    /// Where the samples of a channel stand in a frame.
+    fn samples(file: &[u8], frame: u64, channel: u64) -> Span {
+        let place = place(file, 1, frame, channel).expect("a channel of a night");
+        part(file.len() as u64, place)
+    }
 
     #[test]
     fn every_width_is_decoded_as_the_second_program_does() {
@@ -92,7 +99,7 @@ mod tests {
                     first: 0,
                     number: night.count(3) as u64,
                 };
-                let span = view(&file, 1, 2, 3);
+                let span = samples(&file, 2, 3);
                 let bytes = &file[span.at..span.at + span.length];
                 if format == Format::Float32 {
                     let mut out = vec![0.0; night.count(3)];
@@ -116,7 +123,7 @@ mod tests {
         let number = night.events.as_ref().map_or(0, |events| events.channel);
         for order in [Order::Little, Order::Big] {
             let file = night.write(order).file;
-            let [one, other] = [1, 2].map(|frame| view(&file, 1, frame, number as u64));
+            let [one, other] = [1, 2].map(|frame| samples(&file, frame, number as u64));
             let channel = Channel {
                 number,
                 first: one.at,

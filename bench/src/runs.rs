@@ -76,12 +76,12 @@ impl Work {
     /// Of these frames every so many.
     fn new(night: Night, order: Order, frames: Range<usize>, every: usize) -> Work {
         let file = night.write(order).file;
-        let place = |frame| {
-            let view = psg::view(&file, 1, frame, CHANNEL);
-            let start = view.as_ptr() as usize - file.as_ptr() as usize;
-            (frame, start..start + view.len())
+        let standing = |frame| {
+            let place = psg::place(&file, 1, frame, CHANNEL).expect("a frame of a night");
+            let end = place.position + place.width * place.count;
+            (frame, place.position..end)
         };
-        let asked: Vec<_> = frames.step_by(every).map(place).collect();
+        let asked: Vec<_> = frames.step_by(every).map(standing).collect();
         let count = night.count(CHANNEL);
         let room = |of_it: bool| if of_it { asked.len() * count } else { 0 };
         let float = night.format == Format::Float32;

@@ -55,6 +55,7 @@ answers! {
     Item { code: i32, text: u64, text_length: u64 }
     Clock { hour: u32, minute: u32, second: u32 }
     Sample { is_float: u32, value: i32, bits: u32 }
+    Place { start: u64, width: u64, count: u64 }
     Kind { kind: u32 }
 }
 
@@ -74,7 +75,7 @@ impl Answer for Montage {
 
 /// A part of the file; it is never refused.
 #[repr(C)]
-pub struct View {
+pub struct Part {
     pub start: u64,
     pub length: u64,
 }
@@ -111,7 +112,8 @@ layouts! {
     Item, 40 { refusal 0, position 8, code 16, text 24, text_length 32 }
     Clock, 32 { refusal 0, position 8, hour 16, minute 20, second 24 }
     Sample, 32 { refusal 0, position 8, is_float 16, value 20, bits 24 }
-    View, 16 { start 0, length 8 }
+    Place, 40 { refusal 0, position 8, start 16, width 24, count 32 }
+    Part, 16 { start 0, length 8 }
     Kind, 24 { refusal 0, position 8, kind 16 }
 }
 
@@ -184,19 +186,25 @@ questions! {
     psg_patient_item, patient_item(recording, item) -> Item;
     psg_event_item, event_item(recording, item) -> Item;
     psg_clock, clock(recording, frame) -> Clock;
-    psg_count, count(recording, frame, channel) -> Counted;
+    psg_place, place(recording, frame, channel) -> Place;
     psg_sample, sample(recording, frame, channel, sample) -> Sample;
-    psg_view, view(recording, frame, channel) -> View;
 }
 
 extern "C" {
     fn psg_event_kind(code: u64) -> Kind;
+    fn psg_part(length: usize, position: usize, width: usize, count: usize) -> Part;
 }
 
 /// The one question that is about no file.
 pub fn event_kind(code: u64) -> Kind {
     // SAFETY: it is lent nothing.
     unsafe { psg_event_kind(code) }
+}
+
+/// The part that these numbers are of a file of so many bytes.
+pub fn part(length: usize, position: usize, width: usize, count: usize) -> Part {
+    // SAFETY: it is lent nothing.
+    unsafe { psg_part(length, position, width, count) }
 }
 
 #[cfg(test)]

@@ -2,9 +2,10 @@
 //! the index of its events, turning it to the other byte order, and writing it anew in its canonical form, by a library
 //! whose every function is proved to meet its contract.
 //!
-//! Every call judges the file itself and answers every file and every argument. Recordings, channels, items and frames
-//! are asked for from 1, samples from 0. Nothing is written in place: `out` is a buffer of its own, as its `&mut` says.
-//! Who makes a slice of a mapped file vouches that nothing writes to that file or shortens it during a call.
+//! Every call judges the file itself and answers every file and every argument; [`part`] alone judges nothing, and cuts
+//! from a file by an answer. Recordings, channels, items and frames are asked for from 1, samples from 0. Nothing is
+//! written in place: `out` is a buffer of its own, as its `&mut` says. Who makes a slice of a mapped file vouches that
+//! nothing writes to that file or shortens it during a call.
 //!
 //! [`timed_entries`] is a convenience of this crate and not a call of the library: what it adds to the index, the clock
 //! time of each entry, is worked out here and tested, not proved.
@@ -181,6 +182,17 @@ pub struct Clock {
     pub minute: u32,
     /// 0 to 59.
     pub second: u32,
+}
+
+/// Where the samples of a channel stand in a frame; [`part`] cuts them from the file.
+#[derive(Clone, Copy, Debug, PartialEq, Eq)]
+pub struct Place {
+    /// Where the first one begins in the file; without samples, where it would.
+    pub position: usize,
+    /// How many bytes each has: 2, 3 or 4.
+    pub width: usize,
+    /// How many there are.
+    pub count: usize,
 }
 
 /// A sample.
@@ -377,15 +389,35 @@ pub fn clock(file: &[u8], recording: usize, frame: usize) -> Result<Clock, Refus
     })
 }
 
-/// How many samples of a channel a frame has.
-pub fn count(
+/// Where the samples of a channel stand in a frame, how wide they are and how many.
+///
+/// ```
+/// let file = std::fs::read("../../crates/listing/stdin").unwrap();
+/// let place = psg::place(&file, 1, 1, 1)?;
+/// assert_eq!((place.position, place.width, place.count), (544, 2, 1));
+/// assert_eq!(psg::part(&file, place), &file[544..546]);
+/// # Ok::<(), psg::Refusal>(())
+/// ```
+pub fn place(
     file: &[u8],
     recording: usize,
     frame: usize,
     channel: usize,
-) -> Result<usize, Refusal> {
-    let counted = calls::count(file, recording, frame, channel).answer()?;
-    Ok(counted.count as usize)
+) -> Result<Place, Refusal> {
+    let place = calls::place(file, recording, frame, channel).answer()?;
+    Ok(Place {
+        position: place.start as usize,
+        width: place.width as usize,
+        count: place.count as usize,
+    })
+}
+
+/// The bytes of a place, as a part of the file: where not all of them lie inside it, the empty part at its end; where
+/// there are none, the empty part at the position. Cut from the same file that [`place`] was asked about: another one
+/// is as safe, whatever the numbers are, but the bytes are that file's.
+pub fn part(file: &[u8], place: Place) -> &[u8] {
+    let part = calls::part(file.len(), place.position, place.width, place.count);
+    text(part.start, part.length).of(file)
 }
 
 /// One sample of a channel in a frame.
@@ -408,7 +440,7 @@ pub fn sample(
 ///
 /// ```
 /// let file = std::fs::read("../../crates/listing/stdin").unwrap();
-/// let mut samples = vec![0; psg::count(&file, 1, 1, 1)?];
+/// let mut samples = vec![0; psg::place(&file, 1, 1, 1)?.count];
 /// psg::run(&file, 1, 1, 1, 0, samples.len(), &mut samples)?;
 /// assert_eq!(psg::Sample::Whole(samples[0] as i32), psg::sample(&file, 1, 1, 1, 0)?);
 /// # Ok::<(), psg::Refusal>(())
@@ -500,11 +532,4 @@ pub fn timed_entries(file: &[u8]) -> Result<Vec<TimedEntry>, Refusal> {
 pub fn event_kind(code: u64) -> Result<EventKind, Refusal> {
     let kind = calls::event_kind(code).answer()?.kind;
     Ok(EventKind::from_number(kind).expect("the library's numbers are the kinds'"))
-}
-
-/// The bytes of a channel in a frame, as a part of the file: empty for a channel without samples, and for a question
-/// that is refused (`count`, asked the same, gives the refusal).
-pub fn view(file: &[u8], recording: usize, frame: usize, channel: usize) -> &[u8] {
-    let view = calls::view(file, recording, frame, channel);
-    text(view.start, view.length).of(file)
 }

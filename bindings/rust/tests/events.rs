@@ -154,7 +154,7 @@ fn only_type_1_of_16_bits_has_events() {
     }
     // The same six bytes as two samples of 24 bits.
     (file[232], file[236], file[240]) = (1, 2, 2);
-    assert_eq!(psg::count(&file, 1, 1, 1), Ok(2));
+    assert_eq!(psg::place(&file, 1, 1, 1).unwrap().count, 2);
     assert_eq!(psg::entries(&file), Ok(vec![]));
 }
 

@@ -1,6 +1,8 @@
 //! The smallest file with samples (562 bytes): every call, and refusals in words.
 
-use psg::{Calibration, FloatBits, Header, Heading, Montage, Order, Refusal, Sample, Spelling};
+use psg::{
+    Calibration, FloatBits, Header, Heading, Montage, Order, Place, Refusal, Sample, Spelling,
+};
 
 fn smallest() -> Vec<u8> {
     std::fs::read("../../crates/listing/stdin").expect("the sample file of `listing`")
@@ -98,13 +100,118 @@ fn questions_about_the_one_recording() {
     );
     assert!(matches!(channel.calibration, Calibration::Numbers(_)));
     assert_eq!(channel.label.of(&file).len(), 16);
-    assert_eq!(psg::count(&file, 1, 1, 1), Ok(1));
-    assert_eq!(psg::view(&file, 1, 1, 1), &file[544..546]);
     assert!(matches!(
         psg::sample(&file, 1, 1, 1, 0),
         Ok(Sample::Whole(_))
     ));
     assert!(psg::clock(&file, 1, 1).is_ok());
+}
+
+/// The place of the one channel's samples, and the bytes that are cut by it: all that stands between the frame's first
+/// 24 bytes and the delimiter.
+fn place_holds(file: &[u8], width: usize, count: usize) {
+    let expected = Place {
+        position: 544,
+        width,
+        count,
+    };
+    assert_eq!(psg::place(file, 1, 1, 1), Ok(expected));
+    let part = psg::part(file, expected);
+    let bytes = &file[544..file.len() - 16];
+    assert_eq!(part.as_ptr_range(), bytes.as_ptr_range());
+}
+
+#[test]
+fn a_place_has_the_samples_of_every_width_or_none() {
+    for file in both_orders(sampled(1, &[[7; 2]; 5])) {
+        place_holds(&file, 2, 5);
+    }
+    for file in both_orders(sampled(2, &[[7; 3]; 5])) {
+        place_holds(&file, 3, 5);
+    }
+    for format in [3, 4] {
+        for file in both_orders(sampled(format, &[[7; 4]; 5])) {
+            place_holds(&file, 4, 5);
+        }
+    }
+    // OFF, and so without samples.
+    for (format, width) in [(1, 2), (2, 3), (3, 4), (4, 4)] {
+        let mut file = sampled::<0>(format, &[]);
+        put(&mut file, &[(232, 0)]);
+        for file in both_orders(file) {
+            place_holds(&file, width, 0);
+        }
+    }
+}
+
+#[test]
+fn a_place_is_refused_as_the_file_is_or_with_19() {
+    let file = smallest();
+    let refused = |number, position| Err(Refusal { number, position });
+    for (recording, frame, channel) in [(0, 1, 1), (2, 1, 1), (1, 2, 1), (1, 1, usize::MAX)] {
+        let place = psg::place(&file, recording, frame, channel);
+        assert_eq!(place, refused(19, 0));
+    }
+    assert_eq!(psg::place(&file[..561], 1, 2, 1), refused(10, 32));
+}
+
+#[test]
+fn a_part_lies_inside_whatever_file_it_is_cut_from() {
+    let file = smallest();
+    let place = psg::place(&file, 1, 1, 1).unwrap();
+    // The bytes of another file, if it has as many; else the empty part at its end.
+    for end in 0..file.len() {
+        let other = &file[..end];
+        let expected = if end < 546 {
+            &other[end..]
+        } else {
+            &other[544..546]
+        };
+        assert_eq!(
+            psg::part(other, place).as_ptr_range(),
+            expected.as_ptr_range()
+        );
+    }
+}
+
+#[test]
+fn a_part_is_cut_by_any_numbers() {
+    const MOST: usize = usize::MAX;
+    let file = smallest();
+    let cut = |position, width, count| {
+        let place = Place {
+            position,
+            width,
+            count,
+        };
+        psg::part(&file, place).as_ptr_range()
+    };
+    assert_eq!(cut(0, 1, 562), file.as_ptr_range());
+    assert_eq!(cut(559, 3, 1), file[559..].as_ptr_range());
+    for position in [0, 1, 561, 562] {
+        let empty = file[position..position].as_ptr_range();
+        for (width, count) in [(0, 0), (0, 9), (9, 0), (0, MOST), (MOST, 0)] {
+            assert_eq!(cut(position, width, count), empty);
+        }
+    }
+    let end = file[562..].as_ptr_range();
+    // Behind the file, or with too many bytes; 64 bits do not hold the end of the last ones.
+    for (position, width, count) in [
+        (563, 0, 0),
+        (MOST, 0, MOST),
+        (560, 3, 1),
+        (0, 1, 563),
+        (562, 1, 1),
+        (MOST, 1, 1),
+        (MOST - 1, 3, 2),
+        (4, 1, MOST - 2),
+        (1, 1 << 32, 1 << 32),
+        (1, MOST, MOST),
+        (1, 3, MOST / 3 + 1),
+        (MOST, MOST, MOST),
+    ] {
+        assert_eq!(cut(position, width, count), end);
+    }
 }
 
 #[test]
@@ -117,7 +224,7 @@ fn a_question_outside_its_range_is_19() {
     assert_eq!(psg::facts(&file, 2), Err(outside));
     assert_eq!(psg::patient_item(&file, 1, 1), Err(outside));
     assert_eq!(psg::event_item(&file, 1, usize::MAX), Err(outside));
-    assert!(psg::view(&file, 1, 2, 1).is_empty());
+    assert_eq!(psg::place(&file, 1, 2, 1), Err(outside));
 }
 
 #[test]

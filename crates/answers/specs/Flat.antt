@@ -19,6 +19,8 @@ use Rattle.codes.specs.declared.EventKind.{EventKind}
 use Rattle.codes.specs.declared.EventKind.the-variants as EventKind
 use Rattle.samples.specs.declared.Number.{Number}
 use Rattle.samples.specs.declared.Number.the-variants as Number
+use Rattle.samples.specs.declared.Cut.{Cut}
+use Rattle.samples.specs.declared.Place as Found
 use Rattle.samples.specs.declared.Time.{Time}
 use Rattle.questions.specs.Values.{wordsOf}
 use Rattle.questions.specs.declared.channels.Calibration.{Calibration}
@@ -38,8 +40,9 @@ use Rattle.answers.specs.declared.Item.{Item}
 use Rattle.answers.specs.declared.Kind.{Kind}
 use Rattle.answers.specs.declared.Montage.{Montage}
 use Rattle.answers.specs.declared.Patterns.{Patterns}
+use Rattle.answers.specs.declared.Part.{Part}
+use Rattle.answers.specs.declared.Place.{Place}
 use Rattle.answers.specs.declared.Sample.{Sample}
-use Rattle.answers.specs.declared.View.{View}
 
 -- a call that writes: the answer a is x, and its buffer holds xs afterwards
 pub record Leaves {A : Type 0} (x : Counted) (xs : List A) (a : Counted) (out : List A) : Type 0 where
@@ -176,6 +179,13 @@ abbrev pub flatCount : Answer ℕ → Counted
 flatCount (value n) = counted n
 flatCount (refusal n p) = stopped n p
 
+abbrev pub flatPlace : Answer Found.Place → Place
+flatPlace (value p) = record { refusal = 0; position = 0; start = p .position; width = p .width; count = p .count }
+flatPlace (refusal n p) = record { refusal = n; position = p; start = 0; width = 0; count = 0 }
+
+abbrev pub flatPart : Cut → Part
+flatPart p = record { start = p .start; length = p .length }
+
 abbrev pub flatSample : Answer Number → Sample
 flatSample (value (Number.Whole z)) = record { refusal = 0; position = 0; «is_float» = 0; value = z; bits = 0 }
 flatSample (value (Number.Float v)) = record { refusal = 0; position = 0; «is_float» = 1; value = pos 0; bits = bitsOf v }
@@ -203,6 +213,3 @@ kindNumber EventKind.Reserved = 14
 abbrev pub flatKind : Answer EventKind → Kind
 flatKind (value k) = record { refusal = 0; position = 0; kind = kindNumber k }
 flatKind (refusal n p) = record { refusal = n; position = p; kind = 0 }
-
-abbrev pub flatView : Text → View
-flatView p = record { start = p .at; length = p .length }

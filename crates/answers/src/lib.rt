@@ -6,16 +6,16 @@ ghost use Rattle.words.specs.Values.{unsigned};
 ghost use Rattle.permit.specs.Permit.{meaning};
 ghost use Rattle.recordings.specs.Answers.{value, refusal};
 ghost use Rattle.codes.specs.Codes as Codes;
-ghost use Rattle.questions.specs.Meanings.{meaningH, meaningF, meaningD, meaningN, meaningM, meaningI, meaningT, meaningC, meaningS};
+ghost use Rattle.questions.specs.Meanings.{meaningH, meaningF, meaningD, meaningN, meaningM, meaningI, meaningT, meaningP, meaningS};
 ghost use Rattle.index.specs.Index as Index;
 ghost use Rattle.runs.specs.Runs as Runs;
 ghost use Rattle.answers.specs.Flat.{counted, stopped, countedBytes, headed, unheaded};
 ghost use Rattle.answers.specs.Flat.{spellingNumber, flatHeading, flatFacts, patternsOf, flatChannel, flatMontage};
-ghost use Rattle.answers.specs.Flat.{flatItem, flatClock, flatCount, flatSample};
-use index::Indexed;
+ghost use Rattle.answers.specs.Flat.{flatItem, flatClock, flatCount, flatPlace, flatPart, flatSample};
 ghost use Rattle.answers.specs.Flat.{kindNumber, flatKind};
 use codes::EventKind;
 use codes::KindTold;
+use index::Indexed;
 use permit::Written;
 use questions::channels::Calibration;
 use questions::channels::ChannelTold;
@@ -32,7 +32,9 @@ use rules::Refusal;
 use rules::Spelling;
 use runs::Ran;
 use samples::ClockTold;
+use samples::Cut;
 use samples::Number;
+use samples::PlaceTold;
 use samples::SampleTold;
 use words::Order;
 
@@ -148,9 +150,19 @@ pub struct Kind {
     pub kind: u32,
 }
 
-// A part of the file: its first byte and its length. It is never refused.
+// Where samples stand: the first byte, the bytes of one, and how many there are.
 #[repr(C)]
-pub struct View {
+pub struct Place {
+    pub refusal: u32,
+    pub position: u64,
+    pub start: u64,
+    pub width: u64,
+    pub count: u64,
+}
+
+// A part of a file: its first byte and its length. It is never refused.
+#[repr(C)]
+pub struct Part {
     pub start: u64,
     pub length: u64,
 }
@@ -487,12 +499,33 @@ pub fn written_of(a: Written) -> Counted
     }
 }
 
-pub fn count_of(a: samples::CountTold) -> Counted
-    ensures { λ r. ⌜ r ≡ flatCount (meaningC a) ⌝ }
+pub fn place_of(a: PlaceTold) -> Place
+    ensures { λ r. ⌜ r ≡ flatPlace (meaningP a) ⌝ }
 {
     match a {
-        samples::CountTold::Samples(n) => answered(n),
-        samples::CountTold::Refused(r) => refused(r),
+        PlaceTold::At(p) => Place {
+            refusal: 0,
+            position: 0,
+            start: p.position as u64,
+            width: p.width as u64,
+            count: p.count as u64,
+        },
+        PlaceTold::Refused(r) => Place {
+            refusal: r.0,
+            position: r.1 as u64,
+            start: 0,
+            width: 0,
+            count: 0,
+        },
+    }
+}
+
+pub fn part_of(p: Cut) -> Part
+    ensures { λ r. ⌜ r ≡ flatPart p ⌝ }
+{
+    Part {
+        start: p.start as u64,
+        length: p.length as u64,
     }
 }
 

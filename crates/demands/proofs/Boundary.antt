@@ -35,17 +35,19 @@ use Rattle.recordings.specs.Answers.{Answer, value, refusal}
 use Rattle.recordings.specs.declared.Counts.{Counts}
 use Rattle.recordings.specs.declared.FactsTold.{FactsTold}
 use Rattle.recordings.specs.declared.FactsTold.the-variants as FactsTold
+use Rattle.samples.specs.Placed.{placeOf}
 use Rattle.samples.specs.declared.ClockTold.{ClockTold}
 use Rattle.samples.specs.declared.ClockTold.the-variants as ClockTold
-use Rattle.samples.specs.declared.CountTold.{CountTold}
-use Rattle.samples.specs.declared.CountTold.the-variants as CountTold
 use Rattle.samples.specs.declared.Number.{Number}
 use Rattle.samples.specs.declared.Number.the-variants as Number
+use Rattle.samples.specs.declared.Place.{Place}
+use Rattle.samples.specs.declared.PlaceTold.{PlaceTold}
+use Rattle.samples.specs.declared.PlaceTold.the-variants as PlaceTold
 use Rattle.samples.specs.declared.SampleTold.{SampleTold}
 use Rattle.samples.specs.declared.SampleTold.the-variants as SampleTold
 use Rattle.samples.specs.declared.Time.{Time}
-use Rattle.questions.specs.Meanings.{meaningH, meaningF, meaningD, meaningI, meaningT, meaningC, meaningS, meaningN, meaningM}
-use Rattle.questions.specs.Questions.{headerOf, factsOf, channelOf, patientItemOf, eventItemOf, clockOf, countOf, sampleOf, montageCountOf, montageOf}
+use Rattle.questions.specs.Meanings.{meaningH, meaningF, meaningD, meaningI, meaningT, meaningP, meaningS, meaningN, meaningM}
+use Rattle.questions.specs.Questions.{headerOf, factsOf, channelOf, patientItemOf, eventItemOf, clockOf, sampleOf, montageCountOf, montageOf}
 use Rattle.questions.specs.declared.channels.ChannelTold.{ChannelTold}
 use Rattle.questions.specs.declared.channels.ChannelTold.the-variants as ChannelTold
 use Rattle.questions.specs.declared.channels.Descriptor.{Descriptor}
@@ -77,7 +79,7 @@ use Rattle.turn.specs.Turn.{Turns}
 use Rattle.rewrite.specs.Rewrite as Rewrite
 use Rattle.rewrite.specs.Rewrite.{rewrittenIn, Rewrites}
 use Rattle.room.specs.Room.{roomOf}
-use Rattle.answers.specs.Flat.{countedRows, countedBytes, flatHeading, flatFacts, flatChannel, flatItem, flatClock, flatCount, flatSample, flatMontage}
+use Rattle.answers.specs.Flat.{countedRows, countedBytes, flatHeading, flatFacts, flatChannel, flatItem, flatClock, flatCount, flatPlace, flatSample, flatMontage}
 use Rattle.answers.specs.declared.Channel.{Channel}
 use Rattle.answers.specs.declared.Clock.{Clock}
 use Rattle.answers.specs.declared.Counted.{Counted}
@@ -86,13 +88,14 @@ use Rattle.answers.specs.declared.Header.{Header}
 use Rattle.answers.specs.declared.Heading.{Heading}
 use Rattle.answers.specs.declared.Item.{Item}
 use Rattle.answers.specs.declared.Montage.{Montage}
+use Rattle.answers.specs.declared.Place as PlaceC
 use Rattle.answers.specs.declared.Sample.{Sample}
 use Rattle.psg.specs.Calls.{JudgeAnswers, TableAnswers, TurnAnswers, RewriteAnswers, RoomAnswers, RunAnswers, IndexAnswers}
 use Rattle.demands.specs.Demands.{ofFile, ofTable, ofTurn, ofRewrite, ofQuestion, ofRun, refusalOf, Refuses, Answered, KeepsRest, listedRows, wroteC, stoppedC, headerC, refusedC, flatJudged, TakenApart, Boundary, Accepted, headerJudged, JudgesByRules}
-use Rattle.demands.proofs.Refusing.{of-file, header-refused, room-refused, table-refuses, table-keeps, turn-refuses, turn-keeps, rewrite-refuses, rewrite-keeps, index-refuses, index-keeps, Proper, proper-facts, proper-channel, proper-item, proper-clock, proper-count, proper-sample, proper-montage-count, proper-montage}
+use Rattle.demands.proofs.Refusing.{of-file, header-refused, room-refused, table-refuses, table-keeps, turn-refuses, turn-keeps, rewrite-refuses, rewrite-keeps, index-refuses, index-keeps, Proper, proper-facts, proper-channel, proper-item, proper-clock, proper-place, proper-sample, proper-montage-count, proper-montage}
 use Rattle.demands.proofs.Running.{run-refuses, run-keeps}
 use Rattle.demands.proofs.Coding.{kind-apart}
-use Rattle.demands.proofs.Viewing.{part-told}
+use Rattle.demands.proofs.Cutting.{part-told}
 
 -- An answer and its numbers
 
@@ -213,8 +216,8 @@ item = record { meaning = meaningI; tell = ItemTold.Item; refuse = ItemTold.Refu
 abbrev pub clock : Meant {X = Time} value refusal ClockTold Clock
 clock = record { meaning = meaningT; tell = ClockTold.At; refuse = ClockTold.Refused; flat = flatClock; says = λ a. refusalOf (a .refusal) (a .position); tells = λ v. refl; refuses = λ r. refl; zero = λ v. refl; named = λ n p. refl }
 
-abbrev pub count : Meant {X = ℕ} value refusal CountTold Counted
-count = record { meaning = meaningC; tell = CountTold.Samples; refuse = CountTold.Refused; flat = flatCount; says = λ a. refusalOf (a .refusal) (a .position); tells = λ v. refl; refuses = λ r. refl; zero = λ v. refl; named = λ n p. refl }
+abbrev pub place : Meant {X = Place} value refusal PlaceTold PlaceC.Place
+place = record { meaning = meaningP; tell = PlaceTold.At; refuse = PlaceTold.Refused; flat = flatPlace; says = λ a. refusalOf (a .refusal) (a .position); tells = λ v. refl; refuses = λ r. refl; zero = λ v. refl; named = λ n p. refl }
 
 abbrev pub sample : Meant {X = Number} value refusal SampleTold Sample
 sample = record { meaning = meaningS; tell = SampleTold.Value; refuse = SampleTold.Refused; flat = flatSample; says = λ a. refusalOf (a .refusal) (a .position); tells = λ v. refl; refuses = λ r. refl; zero = sample-zero; named = λ n p. refl }
@@ -339,7 +342,7 @@ module _ (s : List ℕ) (b : Bytes s) where
       by-meaning ran s (either (Runs.answerOf c s i j k first n (length out))) (λ d e. record { answer = e; buffer = x .holds }) (x .answers) (λ m p h. rw h)
       (λ m p e. run-refuses s c i j k first n (length out) (refusalOf m p) (sym e))
 
-  pub index-apart : (out out′ : List ℤ) (a : Counted) → IndexAnswers s out out′ a → TakenApart s (Indexes s out out′) Indexed.Refused (λ d. flatCount (Index.meaning d)) ofTable (5 * length (entriesOf (R.judge s))) (a .refusal) (a .position) a
+  pub index-apart : (out out′ : List ℤ) (a : Counted) → IndexAnswers s out out′ a → TakenApart s (Indexes s out out′) Indexed.Refused (λ d. flatCount (Index.meaning d)) ofTable (5 * length (entriesOf s (R.judge s))) (a .refusal) (a .position) a
   index-apart out out′ a x =
       by-meaning indexed s (either (Index.answerOf s (length out))) (λ d e. record { answer = e; buffer = x .holds }) (x .answers) (λ m p h. rw h)
       (λ m p e. index-refuses s (length out) (refusalOf m p) (sym e))
@@ -366,9 +369,9 @@ module _ (s : List ℕ) (b : Bytes s) where
     patient-item = λ i j a x. by-meaning item s (either (patientItemOf s i j)) (λ c e. e) x (λ n p h. rw h) (asked (proper-item s Holder.Patient i j));
     event-item = λ i j a x. by-meaning item s (either (eventItemOf s i j)) (λ c e. e) x (λ n p h. rw h) (asked (proper-item s Holder.Event i j));
     clock = λ i j a x. by-meaning clock s (either (clockOf s i j)) (λ c e. e) x (λ n p h. rw h) (asked (proper-clock s i j));
-    count = λ i j k a x. by-meaning count s (either (countOf s i j k)) (λ c e. e) x (λ n p h. rw h) (asked (proper-count s i j k));
+    place = λ i j k a x. by-meaning place s (either (placeOf s i j k)) (λ c e. e) x (λ n p h. rw h) (asked (proper-place s i j k));
+    part = λ file e p a x. part-told file p a (rw e x);
     sample = λ i j k n a x. by-meaning sample s (either (sampleOf s i j k n)) (λ c e. e) x (λ n p h. rw h) (asked (proper-sample s i j k n));
-    view = λ file e i j k a x. part-told file (rw e b) i j k a (rw e x);
     run = run-apart;
     run-keeps = λ c i j k first n out out′ a x. let y = run-apart c i j k first n out out′ a x in kept (run-keeps s c i j k first n out out′ (y .told) (y .met)) (ends-ran (y .told) (y .same));
     index = index-apart;

@@ -17,20 +17,23 @@ use Rattle.rules.specs.declared.Refusal.{Refusal}
 use Rattle.records.specs.declared.items.Holder.the-variants as Holder
 use Rattle.recordings.specs.Answers.{Answer, value, refusal}
 use Rattle.recordings.proofs.Chosen.{refusal-value}
+use Rattle.samples.specs.Placed.{partIn}
+use Rattle.samples.proofs.Placing.{allOf, part-inside}
 use Rattle.questions.specs.Questions.{versionNumber, formNumber, channelOf, montageOf}
-use Rattle.questions.specs.Tied.{channelRead, montageRead, samplesRead, Alike, values, refusals, FactsAre, NumbersAre, TextsAre, ItemIs, ClockIs}
+use Rattle.questions.specs.Tied.{channelRead, montageRead, samplesRead, Alike, values, refusals, FactsAre, NumbersAre, TextsAre, ItemIs, ClockIs, PlaceIs}
 use Rattle.questions.specs.declared.channels.Descriptor.{Descriptor}
 use Rattle.questions.proofs.Readings.{alike-value, facts-read, numbers-read, montage-count-read, clock-read}
 use Rattle.questions.proofs.Texts.{channel-texts, montage-wired, item-text}
-use Rattle.questions.proofs.Views.{view-samples}
+use Rattle.questions.proofs.Showing.{place-samples}
 use Rattle.runs.specs.Runs as Runs
-use Rattle.answers.specs.Flat.{spellingNumber, flatHeading, flatChannel, flatMontage, flatCount}
+use Rattle.answers.specs.Flat.{spellingNumber, flatHeading, flatChannel, flatMontage, flatCount, flatPlace, flatPart}
 use Rattle.answers.specs.declared.Heading.{Heading}
-use Rattle.answers.specs.declared.View.{View}
-use Rattle.psg.specs.Calls.{ViewAnswers}
+use Rattle.answers.specs.declared.Part.{Part}
+use Rattle.answers.specs.declared.Place as PlaceC
+use Rattle.psg.specs.Calls.{PlaceAnswers, PartAnswers}
 use Rattle.demands.specs.Bits.{CalibrationIs, ChannelIs, MontageIs, SampleIs, SamplesAt}
-use Rattle.demands.specs.Demands.{Accepted, headerRead, HeadingIs, channelCode, TellsC, countsC, entryC, timeC, BoundaryTells}
-use Rattle.demands.proofs.Boundary.{Meant, facts, channel, montage-count, montage, item, clock, count, sample}
+use Rattle.demands.specs.Demands.{Accepted, headerRead, HeadingIs, channelCode, TellsC, countsC, entryC, placeC, timeC, BoundaryTells}
+use Rattle.demands.proofs.Boundary.{Meant, facts, channel, montage-count, montage, item, clock, place, sample}
 use Rattle.demands.proofs.Floats.{calibration-bits, montage-bits, sample-bits}
 use Rattle.demands.proofs.Running.{run-read}
 use Rattle.demands.proofs.Telling.{header-told}
@@ -44,8 +47,8 @@ alike-also (values {a} {b} p) q f =
     values (f a b p (rw e (g .like)))
 alike-also refusals q f = refusals
 
-alike-given : {A B : Type 0} {P : A → B → Type 0} {x : Answer A} {y : Answer B} {b : B} → Alike P x y → y ≡ value b → (a : A) × P a b
-alike-given {b} (values {a} {b = c} p) e = let i : c ≡ b = cc in (a, rw (← i) p)
+alike-given : {A B : Type 0} {P : A → B → Type 0} {x : Answer A} {y : Answer B} {b : B} → Alike P x y → y ≡ value b → (a : A) × (x ≡ value a) × P a b
+alike-given {b} (values {a} {b = c} p) e = let i : c ≡ b = cc in (a, refl, rw (← i) p)
 alike-given refusals e = refusal-value e
 
 module _ {Y E A : Type 0} (l : Meant {X = Y} value refusal E A) {X : Type 0} {P : Y → X → Type 0} {a : A} (Holds : A → X → Type 0) where
@@ -95,11 +98,21 @@ module _ (s : List ℕ) (b : Bytes s) {v : R.File} {t : List Event} (h : Accepte
   montage-told i j =
       alike-also (montage-wired s b h i j) (montage-bits s b h i j) (λ d c n m. record { channel = channel-is (d .channel) c (n .numbers, n .texts) m; g1 = n .g1; g2 = n .g2 })
 
-  samples-at : (i j k : ℕ) (a : View) → ViewAnswers s i j k a → (vs : List Value) → samplesRead (reading v) i j k ≡ value vs → SamplesAt s (reading v) i k a vs
-  samples-at i j k a x vs e =
-      let w = alike-given (view-samples s b h i j k) e .1 in
-      let n = w .count in
-      rw x (record { channel = w .channel; described = w .described; inside = w .inside; long = rw (← n) (w .long); shows = rw (← n) (w .shows) })
+  samples-at : (i j k : ℕ) (a : PlaceC.Place) → PlaceAnswers s i j k a → (c : Part) → PartAnswers (length s) (a .start) (a .width) (a .count) c → (vs : List Value) → samplesRead (reading v) i j k ≡ value vs → SamplesAt s (reading v) i k c vs
+  samples-at i j k a x c y vs e =
+      let w = alike-given (place-samples s b h i j k) e in
+      let l = part-inside (length s) (w .0) (w .2 .inside) in
+      let f : a ≡ flatPlace (value (w .0)) = x ∙ ap flatPlace (w .1) in
+      let g : c ≡ flatPart (allOf (w .0)) = y ∙ (ap (λ (z : PlaceC.Place). flatPart (partIn (length s) (placeC z))) f ∙ ap flatPart l) in
+      let n = w .2 .count in
+      rw g
+      (record {
+        channel = w .2 .channel;
+        described = w .2 .described;
+        inside = w .2 .inside;
+        long = rw (w .2 .wide, n);
+        shows = rw (← n) (rw l at (w .2 .shows));
+      })
 
   pub boundary-tells : BoundaryTells s (reading v)
   boundary-tells = record {
@@ -111,11 +124,11 @@ module _ (s : List ℕ) (b : Bytes s) {v : R.File} {t : List Event} (h : Accepte
     patient-item = λ i j a x. tells item (λ c. ItemIs s (entryC c)) x (item-text s b h i j Holder.Patient) (λ y u k. k);
     event-item = λ i j a x. tells item (λ c. ItemIs s (entryC c)) x (item-text s b h i j Holder.Event) (λ y u k. k);
     clock = λ i j a x. tells clock (λ c. ClockIs (timeC c)) x (clock-read s b h i j) (λ y u k. k);
-    count = λ i j k a x. tells count (λ c vs. c .count ≡ length vs) x (view-samples s b h i j k) (λ y u w. w .count);
+    place = λ i j k a x. tells place (λ c. PlaceIs s (reading v) i k (placeC c)) x (place-samples s b h i j k) (λ y u w. w);
+    part = samples-at;
     sample = λ i j k n a x. tells sample (SampleIs s (reading v) i j k n) x (sample-bits s b h i j k n) (λ y u w. w);
     run = λ c i j k first n out out′ a x. record {
       answer = x .answers ∙ ap (λ (y : Answer (List Value)). flatCount (Runs.counted n (length out) y)) (run-read s b h c i j k first n);
       buffer = x .holds ∙ ap (λ (y : Answer (List Value)). Runs.holding c n y out) (run-read s b h c i j k first n);
     };
-    view = samples-at;
   }

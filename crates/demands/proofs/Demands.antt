@@ -34,30 +34,33 @@ use Rattle.table.proofs.Answers.{lists-refused, table-unique}
 use Rattle.recordings.specs.Answers.{Answer, value, numbered}
 use Rattle.recordings.specs.declared.FactsTold.the-variants as FactsTold
 use Rattle.recordings.proofs.Chosen.{answered}
+use Rattle.samples.specs.Placed.{placeOf, PartAnswer}
 use Rattle.samples.specs.declared.ClockTold.the-variants as ClockTold
-use Rattle.samples.specs.declared.CountTold.the-variants as CountTold
+use Rattle.samples.specs.declared.Place.{Place}
+use Rattle.samples.specs.declared.PlaceTold.the-variants as PlaceTold
 use Rattle.samples.specs.declared.SampleTold.the-variants as SampleTold
+use Rattle.samples.proofs.Placing.{part-inside, placed-from}
 use Rattle.records.specs.declared.items.Holder.the-variants as Holder
-use Rattle.questions.specs.Contracts.{ViewAnswer}
 use Rattle.questions.specs.Tied.{recordingRead, channelRead}
-use Rattle.questions.specs.Meanings.{meaningH, meaningF, meaningD, meaningN, meaningM, meaningI, meaningT, meaningC, meaningS}
-use Rattle.questions.specs.Questions.{viewOf}
+use Rattle.questions.specs.Meanings.{meaningH, meaningF, meaningD, meaningN, meaningM, meaningI, meaningT, meaningP, meaningS}
 use Rattle.questions.specs.declared.channels.ChannelTold.the-variants as ChannelTold
 use Rattle.questions.specs.declared.channels.MontageCountTold.the-variants as MontageCountTold
 use Rattle.questions.specs.declared.channels.MontageTold.the-variants as MontageTold
-use Rattle.questions.specs.declared.channels.Text.{Text}
 use Rattle.questions.specs.declared.items.ItemTold.the-variants as ItemTold
 use Rattle.questions.proofs.Texts.{channel-texts, montage-wired, item-text}
-use Rattle.questions.proofs.Views.{view-samples}
-use Rattle.questions.proofs.Unique.{header-unique, facts-unique, channel-unique, montage-count-unique, montage-unique, patient-item-unique, event-item-unique, clock-unique, count-unique, sample-unique}
+use Rattle.questions.proofs.Showing.{place-samples}
+use Rattle.questions.proofs.Unique.{header-unique, facts-unique, channel-unique, montage-count-unique, montage-unique, patient-item-unique, event-item-unique, clock-unique, place-unique, sample-unique}
 use Rattle.runs.specs.Runs as Runs
+use Rattle.runs.specs.declared.Sibling.{Sibling}
+use Rattle.runs.proofs.Asked.{as-before}
 use Rattle.runs.proofs.Told.{runs-refused, run-unique}
-use Rattle.index.specs.Events.{entries}
+use Rattle.index.specs.Events.{Entry, entries}
 use Rattle.index.specs.Index as Index
 use Rattle.index.specs.Index.{Indexes}
 use Rattle.index.specs.declared.Indexed.{Indexed}
 use Rattle.index.specs.declared.Indexed.the-variants as Indexed
 use Rattle.index.proofs.Answers.{indexes-refused, index-unique}
+use Rattle.index.proofs.AsBefore.{entries-read}
 use Rattle.index.proofs.Exact.{exact}
 use Rattle.makers.specs.Makers.{firstMaker}
 use Rattle.permit.specs.Permit as Permit
@@ -76,12 +79,12 @@ use Rattle.answers.specs.declared.Counted.{Counted}
 use Rattle.psg.specs.Calls.{TableAnswers}
 use Rattle.demands.specs.Demands.{ofFile, refusalOf, Demand-1, Accepted, HandsUp, TableHolds, IndexHolds, Tells, WrittenAnew, SufficesC, Reserved, Demand-2, headerRead, inOther, SameEnd, SameNumbers, BoundarySame, Same, Demand-3}
 use Rattle.demands.proofs.Agreeing.{agree-first, numbered-image}
-use Rattle.demands.proofs.Refusing.{of-file, header-refused, room-refused, table-refuses, table-keeps, turn-refuses, turn-keeps, rewrite-refuses, rewrite-keeps, index-refuses, index-keeps, question, proper-facts, proper-channel, proper-item, proper-clock, proper-count, proper-sample, proper-montage-count, proper-montage}
+use Rattle.demands.proofs.Refusing.{of-file, header-refused, room-refused, table-refuses, table-keeps, turn-refuses, turn-keeps, rewrite-refuses, rewrite-keeps, index-refuses, index-keeps, question, proper-facts, proper-channel, proper-item, proper-clock, proper-place, proper-sample, proper-montage-count, proper-montage}
 use Rattle.demands.proofs.Running.{run-refuses, run-keeps, run-read, run-number, run-entry}
 use Rattle.demands.proofs.Coding.{kind-answered, kinds, boundary-kinds}
-use Rattle.demands.proofs.Samples.{recording-picked, view-words}
-use Rattle.demands.proofs.Telling.{channel-words, header-told, facts-told, channel-agrees, clock-told, count-told, sample-told, montage-count-told, montage-agrees}
-use Rattle.demands.proofs.Viewing.{view-long, shown}
+use Rattle.demands.proofs.Samples.{recording-picked, place-words}
+use Rattle.demands.proofs.Telling.{channel-words, header-told, facts-told, channel-agrees, clock-told, sample-told, montage-count-told, montage-agrees}
+use Rattle.demands.proofs.Cutting.{shown, part-is}
 use Rattle.demands.proofs.Boundary.{boundary, boundary-accepted, boundary-judges, table-apart, turn-apart, rewrite-apart, index-apart}
 use Rattle.demands.proofs.BoundaryTold.{boundary-tells}
 
@@ -103,9 +106,9 @@ demand-1 s b = record {
   patient-item = λ i j a x. question s meaningI ItemTold.Refused (λ r. refl) (proper-item s Holder.Patient i j) a x;
   event-item = λ i j a x. question s meaningI ItemTold.Refused (λ r. refl) (proper-item s Holder.Event i j) a x;
   clock = λ i j a x. question s meaningT ClockTold.Refused (λ r. refl) (proper-clock s i j) a x;
-  count = λ i j k a x. question s meaningC CountTold.Refused (λ r. refl) (proper-count s i j k) a x;
+  place = λ i j k a x. question s meaningP PlaceTold.Refused (λ r. refl) (proper-place s i j k) a x;
+  part = λ file e p r x. shown file p r x;
   sample = λ i j k n a x. question s meaningS SampleTold.Refused (λ r. refl) (proper-sample s i j k n) a x;
-  view = λ file e i j k r x. shown file (rw e b) i j k r x;
   run = λ c i j k first n out out′ a x r e. run-refuses s c i j k first n (length out) r (sym (ap Runs.meaning e) ∙ x .answer);
   run-keeps = run-keeps s;
   index = λ out out′ a x r i. index-refuses s (length out) r (sym (ap Index.meaning i) ∙ x .answer);
@@ -130,7 +133,7 @@ hands-up s n p h = record {
   patient-item = λ i j a x. patient-item-unique s i j a _ x (rw h);
   event-item = λ i j a x. event-item-unique s i j a _ x (rw h);
   clock = λ i j a x. clock-unique s i j a _ x (rw h);
-  count = λ i j k a x. count-unique s i j k a _ x (rw h);
+  place = λ i j k a x. place-unique s i j k a _ x (rw h);
   sample = λ i j k m a x. sample-unique s i j k m a _ x (rw h);
   run = λ c i j k first m out out′ a x. run-unique c s i j k first m out out′ out a _ x (runs-refused c s i j k first m out {m = n} {p = p} (rw h)) .0;
   index = λ out out′ a x. index-unique s out out′ out a _ x (indexes-refused s out h) .0;
@@ -142,15 +145,15 @@ described s {v} {t} h out out′ a room x =
     let y = table-unique s out out′ (written Rows.numbers 4 true out 0 (rows 0 t)) a (Listed.Rows (length (rows 0 t))) x (record { answer = rw (h, l); buffer = rw (h, l) }) in
     record { answer = y .0; holds = ap (take (4 * length (rows 0 t))) (y .1) ∙ written-front Rows.numbers 4 (λ _. refl) out (rows 0 t) }
 
-indexed : (s : List ℕ) {v : R.File} {t : List Event} → Accepted s v t → (out out′ : List ℤ) (a : Indexed) → 5 * length (entries (R.contents v)) ≤ length out → Indexes s out out′ a → IndexHolds Indexed.Entries (entries (R.contents v)) out′ a
+indexed : (s : List ℕ) {v : R.File} {t : List Event} → Accepted s v t → (out out′ : List ℤ) (a : Indexed) → 5 * length (entries s (R.contents v)) ≤ length out → Indexes s out out′ a → IndexHolds Indexed.Entries (entries s (R.contents v)) out′ a
 indexed s {v} h out out′ a room x =
-    let es = entries (R.contents v) in
+    let es = entries s (R.contents v) in
     let l = le-leb (5 * length es) (length out) room in
     let y = index-unique s out out′ (written Index.numbers 5 true out 0 es) a (Indexed.Entries (length es)) x (record { answer = rw (h, l); buffer = rw (h, l) }) in
     record { answer = y .0; holds = ap (take (5 * length es)) (y .1) ∙ written-front Index.numbers 5 (λ _. refl) out es }
 
 tells : (s : List ℕ) → Bytes s → {v : R.File} {t : List Event} → Accepted s v t → Tells s (reading v)
-tells s b h = record {
+tells s b {v} {t} h = record {
   header = λ a x. x ∙ header-told s h;
   facts = λ i a x. x ∙ facts-told s b h i;
   channel = λ i j a x. rw x (channel-agrees s b h i j);
@@ -161,9 +164,9 @@ tells s b h = record {
   patient-item = λ i j a x. rw x (item-text s b h i j Holder.Patient);
   event-item = λ i j a x. rw x (item-text s b h i j Holder.Event);
   clock = λ i j a x. x ∙ clock-told s b h i j;
-  count = λ i j k a x. x ∙ count-told s b h i j k;
+  place = λ i j k a x. rw x (place-samples s b h i j k);
+  part = λ file e i j k p x r y. part-is file p r y (rw e b) {v = v} {t = t} (rw e h) i j k (rw e x);
   sample = λ i j k n a x. rw x (sample-told s b h i j k n);
-  view = λ i j k a x. rw x (view-samples s b h i j k);
   run = λ c i j k first n out out′ a x. record {
     answer = x .answer ∙ ap (Runs.counted n (length out)) (run-read s b h c i j k first n);
     buffer = x .buffer ∙ ap (λ (y : Answer (List Value)). Runs.holding c n y out) (run-read s b h c i j k first n);
@@ -226,7 +229,7 @@ demand-2 s b = record {
   refuses = hands-up s;
   lists = λ v t h out out′ a room x. described s h out out′ a room x;
   indexes = λ v t h out out′ a room x. indexed s h out out′ a room x;
-  events = λ v t h. exact (R.contents v);
+  events = λ v t h. exact s b h;
   answers = λ v t h. tells s b h;
   rewrites = λ v t h order to names free out out′ a room x. written-anew s b h order to names free out out′ a room x a (rewrite-told s b h order to names free out out′ a room x);
   reserved = λ v t h. room-reserved s b h;
@@ -257,13 +260,28 @@ module _ (s s′ : List ℕ) (e : R.judge s′ ≡ R.judge s) where
       let z = table-unique s out out₁ out₂ a c x (record { answer = rw e at (y .answer); buffer = rw e at (y .buffer) }) in
       record { answer = z .0; buffer = z .1 }
 
-  index-same : (out out₁ out₂ : List ℤ) (a c : Indexed) → Indexes s out out₁ a → Indexes s′ out out₂ c → SameEnd a c out₁ out₂
-  index-same out out₁ out₂ a c x y =
-      let z = index-unique s out out₁ out₂ a c x (record { answer = rw e at (y .answer); buffer = rw e at (y .buffer) }) in
-      record { answer = z .0; buffer = z .1 }
+  -- a run goes through the bytes, which are not the same: its numbers are
+  run-same : Bytes s → Bytes s′ → (d : Sibling) (i j k first n : ℕ) → Runs.runOf d s′ i j k first n ≡ Runs.runOf d s i j k first n
+  run-same b b′ d i j k first n = as-before s′ b′ d i j k first n ∙ (rw e (sym (as-before s b d i j k first n)))
 
   boundary-table-same : (out out₁ out₂ : List ℤ) (a c : Counted) → TableAnswers s out out₁ a → TableAnswers s′ out out₂ c → SameEnd a c out₁ out₂
   boundary-table-same out out₁ out₂ a c x y = record { answer = x .answers ∙ (rw e) ∙ sym (y .answers); buffer = x .holds ∙ (rw e) ∙ sym (y .holds) }
+
+-- the index goes through the bytes too, and has the same entries
+module _ (s s′ : List ℕ) (b : Bytes s) (b′ : Bytes s′) {v : R.File} {t : List Event} (h : Accepted s v t) (h′ : Accepted s′ v t) where
+  entries-same : entries s′ (R.contents v) ≡ entries s (R.contents v)
+  entries-same = entries-read s′ b′ h′ ∙ sym (entries-read s b h)
+
+  index-answer : (room : ℕ) → Index.answerOf s′ room ≡ Index.answerOf s room
+  index-answer room = rw (h, h′) (ap (λ (es : List Entry). Index.counted es room) entries-same)
+
+  index-after : (out : List ℤ) → Index.afterwards s′ out ≡ Index.afterwards s out
+  index-after out = rw (h, h′) (ap (λ (es : List Entry). Index.kept es out) entries-same)
+
+  index-same : (out out₁ out₂ : List ℤ) (a c : Indexed) → Indexes s out out₁ a → Indexes s′ out out₂ c → SameEnd a c out₁ out₂
+  index-same out out₁ out₂ a c x y =
+      let z = index-unique s out out₁ out₂ a c x (record { answer = y .answer ∙ index-answer (length out); buffer = y .buffer ∙ index-after out }) in
+      record { answer = z .0; buffer = z .1 }
 
 -- the channel of a reading is that of the file's value
 module _ (s : List ℕ) {v : R.File} {t : List Event} (h : Accepted s v t) (i k : ℕ) (c : ChannelReading) (has : channelRead (reading v) i k ≡ value c) where
@@ -281,29 +299,31 @@ module _ (s : List ℕ) {v : R.File} {t : List Event} (h : Accepted s v t) (i k 
       let y = agree-first (numbered-image channelReading (p .0 .this .recording .channels) k) (rw (p .2 .reads) at (a .2)) in
       record { of = p .0 .this; is = p .2 .is; channel = y .0; holds = y .1; reads = y .2 .maps }
 
--- views of two files with the same value and the same events
-module _ (i j k : ℕ) (file r file′ r′ : RefT (List ℕ)) (b : Bytes (file .now)) (b′ : Bytes (file′ .now)) {v : R.File} {t : List Event}
-    (h : Accepted (file .now) v t) (h′ : Accepted (file′ .now) v t) (x : ViewAnswer file i j k r) (x′ : ViewAnswer file′ i j k r′) where
-  same-part : viewOf (file′ .now) i j k ≡ viewOf (file .now) i j k
-  same-part = rw (h, h′)
-
+-- parts of two files with the same value and the same events, cut at one place
+module _ (i j k : ℕ) (p : Place) (file r file′ r′ : RefT (List ℕ)) (b : Bytes (file .now)) (b′ : Bytes (file′ .now)) {v : R.File} {t : List Event}
+    (h : Accepted (file .now) v t) (h′ : Accepted (file′ .now) v t) (e : value p ≡ placeOf (file .now) i j k) (e′ : value p ≡ placeOf (file′ .now) i j k) (x : PartAnswer file p r) (x′ : PartAnswer file′ p r′) where
   same-numbers : SameNumbers (reading v) i k file r file′ r′
-  same-numbers = record {
-    at = viewOf (file .now) i j k .at;
-    offset = x .offset;
-    offset′ = x′ .offset ∙ ap (λ (p : Text). file′ .ptr .1 + p .at) same-part;
-    long = view-long file b i j k r x ∙ (sym (ap (λ (p : Text). p .length) same-part) ∙ sym (view-long file′ b′ i j k r′ x′));
-    words = λ c has.
-        let y = behind (file .now) h i k c has in
-        let w = view-words (file .now) b h i j k (y .of) (y .channel) (y .is) (y .holds) in
-        let f = ap (λ (u : R.Channel). u .format) (channel-words (file .now) b h i (y .of) (y .is) k (y .channel) (y .holds)) in
-        rw (y .reads, f)
-        (record {
-          words = w .0;
-          first = x .bytes ∙ w .1 _ (file .now) (is-render (file .now) b h);
-          second = x′ .bytes ∙ (ap (λ (p : Text). bytesAt (p .length) (file′ .now) (p .at)) same-part ∙ w .1 _ (file′ .now) (is-render (file′ .now) b′ h′));
-        });
-  }
+  same-numbers =
+      let y = part-is file p r x b h i j k e in
+      let y′ = part-is file′ p r′ x′ b′ h′ i j k e′ in
+      let l = part-inside (length (file .now)) p (placed-from (file .now) b i j k (sym e) .inside) in
+      let l′ = part-inside (length (file′ .now)) p (placed-from (file′ .now) b′ i j k (sym e′) .inside) in
+      record {
+        at = p .position;
+        offset = y .offset;
+        offset′ = y′ .offset;
+        long = y .long ∙ sym (y′ .long);
+        words = λ c has.
+            let z = behind (file .now) h i k c has in
+            let w = place-words (file .now) b h i j k (sym e) (z .of) (z .channel) (z .is) (z .holds) in
+            let f = ap (λ (u : R.Channel). u .format) (channel-words (file .now) b h i (z .of) (z .is) k (z .channel) (z .holds)) in
+            rw (z .reads, f)
+            (record {
+              words = w .0;
+              first = rw l at (x .bytes) ∙ w .1 _ (file .now) (is-render (file .now) b h);
+              second = rw l′ at (x′ .bytes) ∙ w .1 _ (file′ .now) (is-render (file′ .now) b′ h′);
+            });
+      }
 
 -- the file that `turn` wrote of an accepted one without makers' records
 module _ (s : List ℕ) (b : Bytes s) {v : R.File} {t : List Event} (h : Accepted s v t) (free : firstMaker (rows 0 t) ≡ none) (out out′ : List ℕ) (a : Written) (room : length s ≤ length out) (x : Turns s out out′ a) where
@@ -332,11 +352,18 @@ module _ (s : List ℕ) (b : Bytes s) {v : R.File} {t : List Event} (h : Accepte
         patient-item = λ i j a c x y. x ∙ (rw e) ∙ sym y;
         event-item = λ i j a c x y. x ∙ (rw e) ∙ sym y;
         clock = λ i j a c x y. x ∙ (rw e) ∙ sym y;
-        count = λ i j k a c x y. x ∙ (rw e) ∙ sym y;
+        place = λ i j k a c x y. x ∙ (rw e) ∙ sym y;
         sample = λ i j k n a c x y. x ∙ (rw e) ∙ sym y;
-        view = λ i j k a c x y. x ∙ (rw e) ∙ sym y;
-        run = λ d i j k first n out out₁ out₂ a c x y. record { answer = x .answers ∙ (rw e) ∙ sym (y .answers); buffer = x .holds ∙ (rw e) ∙ sym (y .holds) };
-        index = λ out out₁ out₂ a c x y. record { answer = x .answers ∙ (rw e) ∙ sym (y .answers); buffer = x .holds ∙ (rw e) ∙ sym (y .holds) };
+        run = λ d i j k first n out out₁ out₂ a c x y.
+            let w = run-same s s′ e b turned-bytes d i j k first n in
+            record {
+              answer = x .answers ∙ (ap (λ (z : Answer (List Value)). flatCount (Runs.counted n (length out) z)) (sym w) ∙ sym (y .answers));
+              buffer = x .holds ∙ (ap (λ (z : Answer (List Value)). Runs.holding d n z out) (sym w) ∙ sym (y .holds));
+            };
+        index = λ out out₁ out₂ a c x y. record {
+          answer = x .answers ∙ (ap flatCount (sym (index-answer s s′ b turned-bytes h (z .0) (length out))) ∙ sym (y .answers));
+          buffer = x .holds ∙ (sym (index-after s s′ b turned-bytes h (z .0) out) ∙ sym (y .holds));
+        };
         back = λ out₂ out₂′ c l z.
             let y = turn-apart s′ turned-bytes out₂ out₂′ c z in
             let w = turn-twice s h free b out out′ a room x out₂ out₂′ (y .told) l (y .met) in
@@ -373,13 +400,14 @@ module _ (s : List ℕ) (b : Bytes s) {v : R.File} {t : List Event} (h : Accepte
         patient-item = λ i j a c x y. patient-item-unique s i j a c x (rw e at y);
         event-item = λ i j a c x y. event-item-unique s i j a c x (rw e at y);
         clock = λ i j a c x y. clock-unique s i j a c x (rw e at y);
-        count = λ i j k a c x y. count-unique s i j k a c x (rw e at y);
+        place = λ i j k a c x y. place-unique s i j k a c x (rw e at y);
+        part = λ i j k p u file r file′ r′ f f′ x x′. same-numbers i j k p file r file′ r′ (rw f b) (rw f′ turned-bytes) {v = v} {t = t} (rw f h) (rw f′ (y .0)) (rw f u) (rw (f′, e) u) x x′;
         sample = λ i j k n a c x y. sample-unique s i j k n a c x (rw e at y);
-        view = λ i j k file r file′ r′ f f′ x x′. same-numbers i j k file r file′ r′ (rw f b) (rw f′ turned-bytes) {v = v} {t = t} (rw f h) (rw f′ (y .0)) x x′;
         run = λ d i j k first n out out₁ out₂ a c x z.
-            let w = run-unique d s i j k first n out out₁ out₂ a c x (record { answer = rw e at (z .answer); buffer = rw e at (z .buffer) }) in
+            let q = run-same s s′ e b turned-bytes d i j k first n in
+            let w = run-unique d s i j k first n out out₁ out₂ a c x (record { answer = z .answer ∙ ap (Runs.counted n (length out)) q; buffer = z .buffer ∙ ap (λ (u : Answer (List Value)). Runs.holding d n u out) q }) in
             record { answer = w .0; buffer = w .1 };
-        index = index-same s s′ e;
+        index = index-same s s′ b turned-bytes h (y .0);
         back = λ out₂ out₂′ c l z. let w = turn-twice s h free b out out′ a room x out₂ out₂′ c l z in record { answer = w .0; holds = w .1 };
         anew = λ order to names out₁ out₁′ c l₁ x₁ out₂ out₂′ d l₂ x₂.
             let w = rewrite-both s b h free out out′ a room x order to names out₁ out₁′ c l₁ x₁ out₂ out₂′ d l₂ x₂ in

@@ -4,6 +4,7 @@ use mathlib.Core.Path.{_≡_, refl, sym, ap, _∙_}
 use mathlib.Core.Bool.{Bool, true, false}
 use mathlib.Core.List.{List, []}
 use Prim.Native.Nat.{ℕ, _+_, _*_, _^_, _≤_, _<_}
+use native.Mathlib.Nat.{mul-le-mul-left}
 use native.Mathlib.Omega.{arith}
 use borrow.Author.Tests.{eq-eqb, ne-eqb, eqb-true, eqb-false}
 use lib.Dec.{eqb}
@@ -24,17 +25,17 @@ use Rattle.rules.proofs.Held.{same-sub}
 use Rattle.recordings.specs.Answers.{value, indexed}
 use Rattle.recordings.proofs.Chosen.{indexed-one}
 use Rattle.samples.specs.Frames.{Samples, samplesOf, floatIn, numberIn}
+use Rattle.samples.specs.Placed.{placeIn}
 use Rattle.samples.proofs.Bits.{a-pattern, a-float}
 use Rattle.samples.proofs.Framing.{frame-of}
 use Rattle.samples.proofs.Sampling.{samples-from}
-use Rattle.questions.specs.Questions.{channelOf, montageOf, sampleOf, viewOf}
+use Rattle.questions.specs.Questions.{channelOf, montageOf, sampleOf}
 use Rattle.questions.specs.Tied.{channelRead, montageRead, sampleRead, Alike, formatIn}
 use Rattle.questions.specs.Values.{someNan, floatsOf, calibrationOf, Words, descriptorOf, wiredOf}
 use Rattle.questions.specs.declared.channels.Calibration.{Calibration}
 use Rattle.questions.proofs.Calibrated.{floats, patterns, words-kept}
 use Rattle.questions.proofs.Described.{ChannelSeen, channel-seen, montage-seen, sub-seen, format-is}
 use Rattle.questions.proofs.Readings.{alike-bind, alike-then, alike-self, channel-alike, montage-alike, channel-known, samples-alike}
-use Rattle.questions.proofs.Replies.{among}
 use Rattle.demands.specs.Bits.{valueIn, WordIs, CalibrationIs, FloatAt, WholeNumberAt, SampleIs}
 use Rattle.demands.specs.Demands.{channelCode}
 use Rattle.answers.specs.Flat.{areFloats, flatChannel, flatSample}
@@ -162,10 +163,6 @@ module _ (s : List ℕ) (b : Bytes s) {v : R.File} {t : List Event} (h : R.judge
   montage-bits = montage-alike s b h i j (λ r c is nth. calibration-at b (montage-seen s b h i r is j nth))
 
   module _ (k n : ℕ) where
-    -- the view of samples begins where they stand
-    view-place : (x : Samples) → samplesOf s i j k ≡ value x → n < length (x .values) → viewOf s i j k .at ≡ x .at
-    view-place x a l = rw (a, ne-eqb (length (x .values)) 0 (λ e. omega arith))
-
     sample-is : (x : Samples) (y : Value) → samplesOf s i j k ≡ value x → indexed (x .values) n ≡ value y → SampleIs s (reading v) i j k n (flatSample (value (numberIn y))) y
     sample-is x y a nth =
         let z = samples-from s b i j k a in
@@ -173,16 +170,18 @@ module _ (s : List ℕ) (b : Bytes s) {v : R.File} {t : List Event} (h : R.judge
         let l : n < length (x .values) = indexed-one (x .values) n nth .inside in
         let e : formatIn (channelReading (z .channel)) ≡ x .format = format-is (v .heading .label) _ (channel-seen s b h i (z .frame .of) (f .asked) k (z .described)) ∙ sym (z .format) in
         let g : y ≡ valueOf (x .format) (width (x .format)) (numberAt (orderOf s) (width (x .format)) s (x .at + width (x .format) * n)) = cc (z .located .each n l) in
-        let w = flat-at s b (x .format) (x .at + width (x .format) * n) (among (x .at) (width (x .format)) (width (x .format)) n (length (x .values)) (length s) refl l (z .located .inside)) in
+        let w = flat-at s b (x .format) (x .at + width (x .format) * n) (omega (arith, mul-le-mul-left (width (x .format)) l, z .located .inside)) in
         rw g
         (record {
           means = w .means;
           channel = channelReading (z .channel);
           described = channel-known s b h i (z .frame .of) k (f .asked) (z .described);
+          place = placeIn x;
+          placed = rw a;
           floats = λ m.
               let d : x .at + width (x .format) * n ≡ x .at + 4 * n = rw (sym e ∙ m, wide) in
-              rw (view-place x a l, ← d) (w .floats (sym e ∙ m));
-          numbers = λ m. rw (view-place x a l, e) (w .numbers (λ d. m (e ∙ d)));
+              rw (← d) (w .floats (sym e ∙ m));
+          numbers = λ m. rw e (w .numbers (λ d. m (e ∙ d)));
         })
 
     pub sample-bits : Alike (λ x y. SampleIs s (reading v) i j k n (flatSample (value x)) y) (sampleOf s i j k n) (sampleRead (reading v) i j k n)

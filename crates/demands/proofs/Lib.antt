@@ -4,7 +4,7 @@ pub mod Agreeing
 pub mod Samples
 pub mod Telling
 pub mod Floats
-pub mod Viewing
+pub mod Cutting
 pub mod Running
 pub mod Coding
 pub mod Boundary

@@ -36,9 +36,10 @@ use Rattle.table.proofs.Answers.{rows-refusal}
 use Rattle.recordings.specs.Answers.{Answer, value, refusal, _>>=_, indexed, numbered}
 use Rattle.recordings.specs.Recordings.{judged, recordingOf}
 use Rattle.recordings.proofs.Chosen.{in-between, refusal-value}
-use Rattle.samples.specs.Frames.{frameOf, samplesOf}
+use Rattle.samples.specs.Frames.{frameOf, formatOf, samplesOf}
+use Rattle.samples.specs.Placed.{placeOf}
 use Rattle.records.specs.declared.items.Holder.{Holder}
-use Rattle.questions.specs.Questions.{headerOf, headerTold, factsOf, channelOf, itemOf, itemIn, itemsOf, clockOf, countOf, sampleOf, montageCountOf, montageOf}
+use Rattle.questions.specs.Questions.{headerOf, headerTold, factsOf, channelOf, itemOf, itemIn, itemsOf, clockOf, sampleOf, montageCountOf, montageOf}
 use Rattle.bodies.specs.Orders.{sameOrder}
 use Rattle.makers.specs.Makers.{firstMaker}
 use Rattle.permit.specs.Permit as Permit
@@ -101,12 +102,12 @@ module _ (s : List ℕ) where
       go (passed v l t) e h = listing-refuses Table.rows Table.refusal (λ _ _ _ h. rows-refusal h) (λ _ _ _ _ h. (cc, cc)) 4 (length (rows 0 t)) (leb (4 * length (rows 0 t)) room) r h
 
   -- the index
-  pub index-refuses : (room : ℕ) (r : Refusal) → refusal (r .0) (r .1) ≡ Index.answerOf s room → Refuses ofTable (length s) (5 * length (entriesOf (R.judge s))) r
+  pub index-refuses : (room : ℕ) (r : Refusal) → refusal (r .0) (r .1) ≡ Index.answerOf s room → Refuses ofTable (length s) (5 * length (entriesOf s (R.judge s))) r
   index-refuses room r h = go (R.judge s) refl h
     where
-      go : (x : Outcome R.File) → R.judge s ≡ x → refusal (r .0) (r .1) ≡ Index.answered x room → Refuses ofTable (length s) (5 * length (entriesOf x)) r
+      go : (x : Outcome R.File) → R.judge s ≡ x → refusal (r .0) (r .1) ≡ Index.answered s x room → Refuses ofTable (length s) (5 * length (entriesOf s x)) r
       go (refused n p) e h = of-file ofTable 0 (λ n. or-true _) r (cc)
-      go (passed v l t) e h = listing-refuses value refusal (λ _ _ _ h. refusal-value (sym h)) (λ _ _ _ _ h. (cc, cc)) 5 (length (entries (R.contents v))) (leb (5 * length (entries (R.contents v))) room) r h
+      go (passed v l t) e h = listing-refuses value refusal (λ _ _ _ h. refusal-value (sym h)) (λ _ _ _ _ h. (cc, cc)) 5 (length (entries s (R.contents v))) (leb (5 * length (entries s (R.contents v))) room) r h
 
   -- leave to write: 18, then 17
   module _ (numbers : ℕ → Bool) (has17 : numbers 17 ≡ true) (has18 : numbers 18 ≡ true) (need room : ℕ) (r : Refusal) where
@@ -219,8 +220,11 @@ module _ (s : List ℕ) where
   pub proper-clock : (i j : ℕ) → Proper (clockOf s i j)
   proper-clock i j = proper-then (frameOf s i j) _ (proper-frame i j) (λ _. tt)
 
-  pub proper-count : (i j k : ℕ) → Proper (countOf s i j k)
-  proper-count i j k = proper-then (samplesOf s i j k) _ (proper-samples i j k) (λ _. tt)
+  pub proper-place : (i j k : ℕ) → Proper (placeOf s i j k)
+  proper-place i j k = proper-then (samplesOf s i j k) _ (proper-samples i j k) (λ _. tt)
+
+  pub proper-format : (i k : ℕ) → Proper (formatOf s i k)
+  proper-format i k = proper-then (recordingOf s i) _ (proper-recording i) (λ r. proper-then (numbered (r .this .recording .channels) k) _ (proper-numbered (r .this .recording .channels) k) (λ _. tt))
 
   pub proper-sample : (i j k n : ℕ) → Proper (sampleOf s i j k n)
   proper-sample i j k n = proper-then (samplesOf s i j k) _ (proper-samples i j k) (λ x. proper-then (indexed (x .values) n) _ (proper-indexed (x .values) n) (λ _. tt))
@@ -264,10 +268,10 @@ table-keeps s out out′ a x = go (R.judge s) (x .answer) (x .buffer)
 pub index-keeps : (s : List ℕ) (out out′ : List ℤ) (a : Indexed) → Index.Indexes s out out′ a → KeepsRest Indexed.Refused Indexed.Entries 5 out out′ a
 index-keeps s out out′ a x = go (R.judge s) (x .answer) (x .buffer)
   where
-    go : (y : Outcome R.File) → Index.meaning a ≡ Index.answered y (length out) → out′ ≡ Index.holding y out → KeepsRest Indexed.Refused Indexed.Entries 5 out out′ a
+    go : (y : Outcome R.File) → Index.meaning a ≡ Index.answered s y (length out) → out′ ≡ Index.holding s y out → KeepsRest Indexed.Refused Indexed.Entries 5 out out′ a
     go (refused n p) h e = unwritten Index.numbers 5 (λ _. refl) Indexed.Refused Indexed.Entries Index.meaning value refusal (λ _ _ _ h. refusal-value (sym h)) (λ _ _ h. cc) (λ m. refl) (λ r. refl) out out′ a n p h e
     go (passed v l t) h e =
-        let es = entries (R.contents v) in
+        let es = entries s (R.contents v) in
         listing-keeps Index.numbers 5 (λ _. refl) Indexed.Refused Indexed.Entries Index.meaning value refusal (λ _ _ _ h. refusal-value (sym h)) (λ _ _ h. cc) (λ m. refl) (λ r. refl) out out′ a es (leb (5 * length es) (length out)) refl h e
 
 -- bytes in front, as many as the answer says, and with room for them

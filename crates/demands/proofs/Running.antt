@@ -19,20 +19,24 @@ use Rattle.rules.specs.Reading.{Value, float, channelReading, recordingReading,
 use Rattle.rules.specs.Rules as R
 use Rattle.rules.specs.declared.Refusal.{Refusal}
 use Rattle.recordings.specs.Answers.{Answer, value, refusal, _>>=_, outside, indexed}
-use Rattle.recordings.proofs.Chosen.{refusal-value, indexed-in}
-use Rattle.samples.specs.Frames.{Samples, samplesOf, numberIn}
+use Rattle.recordings.proofs.Chosen.{refusal-value, indexed-in, answered}
+use Rattle.samples.specs.Frames.{formatOf, Samples, samplesOf, numberIn}
+use Rattle.samples.specs.Placed.{placeOf, bytesOf, valuesOf}
+use Rattle.samples.specs.declared.Place.{Place}
+use Rattle.samples.proofs.Placing.{values-many}
 use Rattle.samples.specs.declared.SampleTold.{SampleTold}
 use Rattle.samples.specs.declared.SampleTold.the-variants as SampleTold
 use Rattle.questions.specs.Contracts.{SampleAnswer}
 use Rattle.questions.specs.Tied.{channelRead}
 use Rattle.questions.proofs.Unique.{sample-unique}
-use Rattle.runs.specs.Runs.{Element, elementOf, serves, runWithin, runIn, runOf, counted, holding, meaning, answerOf, RunAnswer}
+use Rattle.runs.specs.Runs.{Element, elementOf, serves, runWithin, placeFrom, runOf, counted, holding, meaning, answerOf, RunAnswer}
+use Rattle.runs.proofs.Asked.{as-before}
 use Rattle.runs.specs.declared.Ran.{Ran}
 use Rattle.runs.specs.declared.Ran.the-variants as Ran
 use Rattle.runs.specs.declared.Sibling.{Sibling}
 use Rattle.demands.specs.Demands.{ofFile, ofQuestion, ofRun, Refuses, KeepsRest, Accepted, valueTold, Agree, values, refusals, runRead, EntryTells}
 use Rattle.demands.proofs.Agreeing.{agree-then, agree-second, agree-equal, image-value}
-use Rattle.demands.proofs.Refusing.{short, or-right, Proper, proper-outside, proper-then, proper-samples}
+use Rattle.demands.proofs.Refusing.{short, or-right, Proper, proper-outside, proper-then, proper-place, proper-format}
 use Rattle.demands.proofs.Samples.{Stand, samples-stand}
 use Rattle.demands.proofs.Telling.{channel-words, sample-kept}
 
@@ -53,11 +57,13 @@ no-seventeen h = false-true h
 
 module _ (s : List ℕ) (b : Sibling) (i j k first n : ℕ) where
   proper-run : Proper s (runOf b s i j k first n)
-  proper-run = proper-then s (samplesOf s i j k) (runIn b first n) (proper-samples s i j k) (λ x. go x (serves b (x .format) && leb (first + n) (length (x .values))))
+  proper-run =
+      proper-then s (placeOf s i j k) _ (proper-place s i j k)
+      (λ p. proper-then s (formatOf s i k) _ (proper-format s i k) (λ format. go (valuesOf s format (placeFrom first n p)) (serves b format && leb (first + n) (p .count))))
     where
-      go : (x : Samples) (c : Bool) → Proper s (pick c (value (take n (drop first (x .values)))) outside)
-      go x true = tt
-      go x false = proper-outside s
+      go : (vs : List Value) (c : Bool) → Proper s (pick c (value vs) outside)
+      go vs true = tt
+      go vs false = proper-outside s
 
   pub run-refuses : (room : ℕ) (r : Refusal) → refusal (r .0) (r .1) ≡ answerOf b s i j k first n room → Refuses ofRun (length s) n r
   run-refuses room r h = go (runOf b s i j k first n) proper-run h
@@ -76,26 +82,29 @@ module _ (s : List ℕ) (b : Sibling) (i j k first n : ℕ) where
           room-for true h = refusal-value h
           room-for false h = short ofRun (length s) n r (or-right (ofFile 17) refl) (cc) (cc)
 
--- Where a run is answered: the samples lie inside
+-- Where a run is answered: so many samples, and inside
+
+run-long : (b : Sibling) (s : List ℕ) (i j k first n : ℕ) {vs : List Value} → runOf b s i j k first n ≡ value vs → length vs ≡ n
+run-long b s i j k first n {vs} h =
+    let a = answered (placeOf s i j k) _ h in
+    let f = answered (formatOf s i k) _ (a .2) in
+    go (f .0) (a .0) (serves b (f .0) && leb (first + n) (a .0 .count)) (f .2)
+  where
+    go : (format : ℕ) (p : Place) (c : Bool) → pick c (value (valuesOf s format (placeFrom first n p))) outside ≡ value vs → length vs ≡ n
+    go format p true h = let e : valuesOf s format (placeFrom first n p) ≡ vs = cc in ap length (sym e) ∙ values-many (R.orderOf s) format (bytesOf s (placeFrom first n p)) n 0
+    go format p false h = refusal-value h
 
 module _ (b : Sibling) (first n : ℕ) where
-  inside-of : (x : Samples) {vs : List Value} → runIn b first n x ≡ value vs → (first + n ≤ length (x .values)) × (vs ≡ take n (drop first (x .values)))
+  abbrev runIn : Samples → Answer (List Value)
+  runIn x = runWithin b first n (x .format) (x .values)
+
+  inside-of : (x : Samples) {vs : List Value} → runIn x ≡ value vs → (first + n ≤ length (x .values)) × (vs ≡ take n (drop first (x .values)))
   inside-of x {vs} h = go (serves b (x .format) && leb (first + n) (length (x .values))) refl h
     where
       go : (c : Bool) → serves b (x .format) && leb (first + n) (length (x .values)) ≡ c → pick c (value (take n (drop first (x .values)))) outside ≡ value vs →
           (first + n ≤ length (x .values)) × (vs ≡ take n (drop first (x .values)))
       go true e h = (leb-true _ _ (and-right (serves b (x .format)) _ e), cc)
       go false e h = refusal-value h
-
-  long-of : (x : Samples) {vs : List Value} → runIn b first n x ≡ value vs → length vs ≡ n
-  long-of x h = let y = inside-of x h in ap length (y .1) ∙ length-take-le n (drop first (x .values)) (rw length-drop (omega (arith, y .0)))
-
-  run-long : (s : List ℕ) (i j k : ℕ) {vs : List Value} → runOf b s i j k first n ≡ value vs → length vs ≡ n
-  run-long s i j k {vs} h = go (samplesOf s i j k) h
-    where
-      go : (x : Answer Samples) → (x >>= runIn b first n) ≡ value vs → length vs ≡ n
-      go (refusal m p) h = refusal-value h
-      go (value x) h = long-of x h
 
 -- the answer is the number asked for, and there is room
 counted-all : (n m room : ℕ) (x : Answer (List Value)) → value m ≡ counted n room x → (m ≡ n) × (leb n room ≡ true) × ((vs : List Value) × (x ≡ value vs))
@@ -112,7 +121,7 @@ run-number {b} {s} {i} {j} {k} {first} {n} {out} x m e = counted-all n m (length
 -- What is left of the buffer
 
 pub run-keeps : (s : List ℕ) (b : Sibling) (i j k first n : ℕ) (out out′ : List (Element b)) (a : Ran) → RunAnswer b s i j k first n out out′ a → KeepsRest Ran.Refused Ran.Numbers 1 out out′ a
-run-keeps s b i j k first n out out′ a x = go (runOf b s i j k first n) (λ vs e. run-long b first n s i j k e) (x .answer) (x .buffer)
+run-keeps s b i j k first n out out′ a x = go (runOf b s i j k first n) (λ vs e. run-long b s i j k first n e) (x .answer) (x .buffer)
   where
     left : {m p : ℕ} → meaning a ≡ refusal m p → out′ ≡ out → KeepsRest Ran.Refused Ran.Numbers 1 out out′ a
     left h e = record { refused = λ _ _. e; fits = λ m i. refusal-value (sym h ∙ ap meaning i); beyond = λ m i. refusal-value (sym h ∙ ap meaning i); long = ap length e }
@@ -163,10 +172,12 @@ module _ (s : List ℕ) (bs : Bytes s) {v : R.File} {t : List Event} (h : Accept
     run-there = rw (channel-has, format-has, ← st .values) (same (runIn b first n x))
 
   pub run-read : runOf b s i j k first n ≡ runRead b (reading v) i j k first n
-  run-read = agree-equal (agree-then (λ l. channelRead (reading v) i k >>= λ c. runWithin b first n (unsigned 4 (c .format)) l) (runIn b first n) (samples-stand s bs h i j k) (λ l x st. run-there st))
+  run-read = as-before s bs b i j k first n ∙ agree-equal (agree-then (λ l. channelRead (reading v) i k >>= λ c. runWithin b first n (unsigned 4 (c .format)) l) (runIn b first n) (samples-stand s bs h i j k) (λ l x st. run-there st))
 
   pub run-entry : (out out′ : List (Element b)) → RunAnswer b s i j k first n out out′ (Ran.Numbers n) → (q : ℕ) → q < n → (d : SampleTold) → SampleAnswer s i j k (first + q) d → EntryTells b out′ q d
-  run-entry out out′ r q l d a = go (samplesOf s i j k) refl (r .answer) (r .buffer)
+  run-entry out out′ r q l d a =
+      let e = as-before s bs b i j k first n in
+      go (samplesOf s i j k) refl (r .answer ∙ ap (counted n (length out)) e) (r .buffer ∙ ap (λ (y : Answer (List Value)). holding b n y out) e)
     where
       told : (x : Samples) → samplesOf s i j k ≡ value x → first + n ≤ length (x .values) → out′ ≡ map (elementOf b) (take n (drop first (x .values))) ++ drop n out → EntryTells b out′ q d
       told x e inside z =

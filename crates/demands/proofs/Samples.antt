@@ -1,11 +1,9 @@
--- The samples asked for: those of the reading, and words that stand one after the other in the file, in its order. What a view of them shows.
+-- The samples asked for: those of the reading, and words that stand one after the other in the file, in its order. What the bytes of their place are.
 -- Assumes nothing.
 use mathlib.Core.Path.{_≡_, refl, sym, ap, _∙_}
-use mathlib.Core.Bool.{Bool, true, false}
 use mathlib.Core.List.{List, [], _∷_, _++_, map, map-map, append-nil}
-use Prim.Native.Nat.{ℕ, zero, suc, _+_, _-_, _*_, _^_, _≤_, _<_}
+use Prim.Native.Nat.{ℕ, zero, suc, _+_, _-_, _*_, _^_, _<_}
 use native.Mathlib.Omega.{arith}
-use lib.Dec.{eqb}
 use lib.ListN.{length, take, getD, length-map}
 use lib.Seq.{take-at, drop-at}
 use Rattle.words.specs.Numbers.{Bytes, bytesAt}
@@ -13,7 +11,7 @@ use Rattle.words.specs.Runs.{numbersIn}
 use Rattle.words.specs.declared.Order.{Order}
 use Rattle.walk.specs.Plays.{Plays}
 use Rattle.walk.specs.Walk as W
-use Rattle.walk.specs.Walk.{pick, Event, numeral, size, render, Walk}
+use Rattle.walk.specs.Walk.{Event, numeral, size, render, Walk}
 use Rattle.walk.proofs.Laws.{length-render, by-parts, counted, facts, plays-gave, traced}
 use Rattle.walk.proofs.Tracing.{render-append}
 use Rattle.rules.specs.Places.{bytesBefore}
@@ -25,11 +23,10 @@ use Rattle.rules.proofs.Places.{Found, found-at}
 use Rattle.recordings.specs.Answers.{Answer, value, refusal, outside, _>>=_, indexed, numbered}
 use Rattle.recordings.specs.Recordings.{Chosen, recordingOf, startOf}
 use Rattle.recordings.proofs.Chosen.{refusal-value, numbered-one}
-use Rattle.recordings.proofs.Standing.{found-ends}
 use Rattle.samples.specs.Frames.{ChosenFrame, frameOf, Samples, samplesOf}
-use Rattle.questions.specs.Questions.{countOf, partOf, viewOf}
-use Rattle.questions.specs.Values.{textAt}
-use Rattle.questions.specs.declared.channels.Text.{Text}
+use Rattle.samples.specs.Placed.{placeOf}
+use Rattle.samples.specs.declared.Place.{Place}
+use Rattle.samples.proofs.Placing.{placed-from}
 use Rattle.questions.specs.Tied.{recordingRead, frameRead, samplesRead}
 use Rattle.demands.specs.Demands.{Accepted, Agree, values, refusals}
 use Rattle.demands.proofs.Agreeing.{agree-then, agree-on, agree-second, numbered-image}
@@ -215,7 +212,7 @@ module _ (s : List ℕ) (b : Bytes s) {v : R.File} {t : List Event} (h : Accepte
       (λ f. numbered (f .of .this .recording .channels) k >>= λ c. numbered (samplesReading (f .of .this .recording .channels) (f .frame .channels)) k >>= λ vs. value (sampledAs k f c vs)) (frame-picked s h i j)
       (λ g f p. rw (p .reads) (channel-stands s b h i j k g f p (numbered (f .of .this .recording .channels) k) refl (numbered (samplesReading (f .of .this .recording .channels) (f .frame .channels)) k) refl))
 
--- A view of them
+-- The bytes of their place
 
 module _ {v : R.File} {t : List Event} {i k : ℕ} {l : List Value} {x : Samples} (st : Stand v t i k l x) where
   -- as many bytes as their words take
@@ -236,54 +233,11 @@ module _ {v : R.File} {t : List Event} {i k : ℕ} {l : List Value} {x : Samples
       let f : st .channel ≡ c = cc (sym (rw e at (st .has)) ∙ isC) in
       st .formatted ∙ ap (λ (y : R.Channel). y .format) f
 
-module _ (s : List ℕ) (b : Bytes s) {v : R.File} {t : List Event} (h : Accepted s v t) (i j k : ℕ) where
-  known : (x : Samples) → samplesOf s i j k ≡ value x → (l : List Value) × Stand v t i k l x
-  known x e = let y = agree-second (samples-stand s b h i j k) e in (y .0, y .2)
-
-  -- it lies in the file
-  pub view-inside : viewOf s i j k .at + viewOf s i j k .length ≤ length s
-  view-inside = go (samplesOf s i j k) refl
-    where
-      some : (x : Samples) → samplesOf s i j k ≡ value x → (c : Bool) → pick c (textAt 0 0) (textAt (x .at) (width (x .format) * length (x .values))) .at + pick c (textAt 0 0) (textAt (x .at) (width (x .format) * length (x .values))) .length ≤ length s
-      some x e true = omega arith
-      some x e false = let st = known x e .1 in omega (arith, found-ends s b h (st .found), span st)
-
-      go : (x : Answer Samples) → samplesOf s i j k ≡ x → partOf x .at + partOf x .length ≤ length s
-      go (refusal n p) e = omega arith
-      go (value x) e = some x e (eqb (length (x .values)) 0)
-
-  -- its bytes are these words, in any file with the same events, each by its order
-  module _ (p : R.Placed) (c : R.Channel) (isP : numbered (v .recordings) i ≡ value p) (isC : numbered (p .recording .channels) k ≡ value c) where
-    abbrev Shows : Text → List ℕ → Type 0
-    Shows q ns = (o : Order) (z : List ℕ) → z ≡ render o t → bytesAt (q .length) z (q .at) ≡ numbersIn o (width (c .format)) ns
-
-    shows-none : Shows (textAt 0 0) []
-    unfolding bytesAt numbersIn
-    shows-none o z e = refl
-
-    pub view-words : (ns : List ℕ) × Shows (viewOf s i j k) ns
-    view-words = go (samplesOf s i j k) refl
-      where
-        some : (x : Samples) → samplesOf s i j k ≡ value x → (d : Bool) → (ns : List ℕ) × Shows (pick d (textAt 0 0) (textAt (x .at) (width (x .format) * length (x .values)))) ns
-        some x e true = ([], shows-none)
-        some x e false = let st = known x e .1 in (st .words, λ o z q. rw (← same-format st p c isP isC) (laid-out st o z q))
-
-        go : (x : Answer Samples) → samplesOf s i j k ≡ x → (ns : List ℕ) × Shows (partOf x) ns
-        go (refusal n q) e = ([], shows-none)
-        go (value x) e = some x e (eqb (length (x .values)) 0)
-
--- none, where the count is refused or is none
-module _ (s : List ℕ) (i j k : ℕ) where
-  pub view-refused : {n p : ℕ} → refusal n p ≡ countOf s i j k → viewOf s i j k ≡ textAt 0 0
-  view-refused {n} {p} h = go (samplesOf s i j k) h
-    where
-      go : (x : Answer Samples) → refusal n p ≡ x >>= (λ y. value (length (y .values))) → partOf x ≡ textAt 0 0
-      go (refusal m q) e = refl
-      go (value x) e = refusal-value e
-
-  pub view-none : value 0 ≡ countOf s i j k → viewOf s i j k ≡ textAt 0 0
-  view-none h = go (samplesOf s i j k) h
-    where
-      go : (x : Answer Samples) → value 0 ≡ x >>= (λ y. value (length (y .values))) → partOf x ≡ textAt 0 0
-      go (refusal m q) e = refl
-      go (value x) e = let z : length (x .values) ≡ 0 = cc in rw z
+-- the bytes of a place that is answered are these words, in any file with the same events, each by its order
+pub place-words : (s : List ℕ) (b : Bytes s) {v : R.File} {t : List Event} (h : Accepted s v t) (i j k : ℕ) {p : Place} → placeOf s i j k ≡ value p →
+    (q : R.Placed) (c : R.Channel) → numbered (v .recordings) i ≡ value q → numbered (q .recording .channels) k ≡ value c →
+    (ns : List ℕ) × ((o : Order) (z : List ℕ) → z ≡ render o t → bytesAt (p .width * p .count) z (p .position) ≡ numbersIn o (width (c .format)) ns)
+place-words s b h i j k is q c isQ isC =
+    let y = placed-from s b i j k is in
+    let st = agree-second (samples-stand s b h i j k) (y .asked) .2 in
+    (st .words, λ o z u. ap (λ (x : Place). bytesAt (x .width * x .count) z (x .position)) (sym (y .same)) ∙ rw (← same-format st q c isQ isC) (laid-out st o z u))

@@ -23,8 +23,8 @@ use Rattle.recordings.proofs.Chosen.{indexed-one}
 use Rattle.samples.specs.Frames.{timeOf, Samples, numberIn, floatIn}
 use Rattle.samples.specs.declared.Number.{Number}
 use Rattle.samples.proofs.Bits.{a-pattern, a-float}
-use Rattle.questions.specs.Questions.{headerIn, headerOf, factsOf, channelOf, montageCountOf, montageOf, clockOf, countOf, sampleOf}
-use Rattle.questions.specs.Tied.{recordingRead, channelRead, montageRead, frameRead, samplesRead, sampleRead}
+use Rattle.questions.specs.Questions.{headerIn, headerOf, factsOf, channelOf, montageCountOf, montageOf, clockOf, sampleOf}
+use Rattle.questions.specs.Tied.{recordingRead, channelRead, montageRead, frameRead, sampleRead}
 use Rattle.questions.specs.Values.{someNan, floatsOf, calibrationOf, descriptorOf, wiredOf}
 use Rattle.questions.specs.declared.channels.Calibration.the-variants as Calibration
 use Rattle.questions.proofs.Calibrated.{plain, patterns, floats}
@@ -145,10 +145,6 @@ module _ (s : List ℕ) (b : Bytes s) {v : R.File} {t : List Event} (h : Accepte
       agree-equal (agree-then (λ f. value (timeIn f)) (λ f. value (timeOf (f .frame))) (frame-picked s h i j) (λ g f p. rw (p .reads) (values refl)))
 
   module _ (j k : ℕ) where
-    pub count-told : countOf s i j k ≡ (samplesRead (reading v) i j k >>= λ l. value (length l))
-    count-told =
-        agree-equal (agree-then (λ l. value (length l)) (λ x. value (length (x .values))) (samples-stand s b h i j k) (λ l x st. values (ap length (st .values))))
-
     -- a sample of the answer is this value
     abbrev Told : Value → Number → Type 0
     Told u y = valueTold y ≡ u

@@ -12,13 +12,14 @@ use Rattle.walk.specs.Walk.{pick}
 use Rattle.rules.specs.Rules.{orderOf, width}
 use Rattle.rules.specs.Reading.{Value, whole, float, ChannelReading, Reading}
 use Rattle.recordings.specs.Answers.{value}
-use Rattle.questions.specs.Questions.{viewOf}
-use Rattle.questions.specs.Tied.{channelRead, TextIs, formatIn, valuesAt}
+use Rattle.samples.specs.Placed.{placeOf, valuesAt}
+use Rattle.samples.specs.declared.Place.{Place}
+use Rattle.questions.specs.Tied.{channelRead, TextIs, formatIn}
 use Rattle.questions.specs.Values.{textAt}
 use Rattle.answers.specs.declared.Channel.{Channel}
 use Rattle.answers.specs.declared.Montage.{Montage}
+use Rattle.answers.specs.declared.Part.{Part}
 use Rattle.answers.specs.declared.Sample.{Sample}
-use Rattle.answers.specs.declared.View.{View}
 
 -- the value that is answered: a float by its 32 bits, or a whole number
 abbrev pub valueIn : (isFloat bits : ℕ) → ℤ → Value
@@ -82,19 +83,22 @@ pub record WholeNumberAt (s : List ℕ) (w p : ℕ) (a : Sample) : Type 0 where
   pub isFloat : a .«is_float» ≡ 0
   pub number : a .value ≡ signed w (numberAt (orderOf s) w s p)
 
--- what is answered of sample n of channel k in frame j of recording i is the value x of the reading v, and stands n widths into the channel's view
+-- what is answered of sample n of channel k in frame j of recording i is the value x of the reading v, and stands n widths behind the place of the samples
 pub record SampleIs (s : List ℕ) (v : Reading) (i j k n : ℕ) (a : Sample) (x : Value) : Type 0 where
   -- the value
   pub means : x ≡ valueIn (a .«is_float») (a .bits) (a .value)
   -- the channel
   pub channel : ChannelReading
   pub described : channelRead v i k ≡ value channel
+  -- the place
+  pub place : Place
+  pub placed : placeOf s i j k ≡ value place
   -- the file's word
-  pub floats : formatIn channel ≡ 4 → FloatAt s (viewOf s i j k .at + 4 * n) a
-  pub numbers : (formatIn channel ≡ 4 → ⊥) → WholeNumberAt s (width (formatIn channel)) (viewOf s i j k .at + width (formatIn channel) * n) a
+  pub floats : formatIn channel ≡ 4 → FloatAt s (place .position + 4 * n) a
+  pub numbers : (formatIn channel ≡ 4 → ⊥) → WholeNumberAt s (width (formatIn channel)) (place .position + width (formatIn channel) * n) a
 
 -- the part a of the file is the samples vs that the reading v has of channel k of recording i
-pub record SamplesAt (s : List ℕ) (v : Reading) (i k : ℕ) (a : View) (vs : List Value) : Type 0 where
+pub record SamplesAt (s : List ℕ) (v : Reading) (i k : ℕ) (a : Part) (vs : List Value) : Type 0 where
   -- the channel
   pub channel : ChannelReading
   pub described : channelRead v i k ≡ value channel

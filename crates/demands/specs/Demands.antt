@@ -47,20 +47,22 @@ use Rattle.codes.specs.Codes.{KindAnswer, KindIs}
 use Rattle.codes.specs.declared.EventKind.{EventKind}
 use Rattle.codes.specs.declared.KindTold.{KindTold}
 use Rattle.codes.specs.declared.KindTold.the-variants as KindTold
+use Rattle.samples.specs.Placed.{PartAnswer, valuesAt}
 use Rattle.samples.specs.declared.ClockTold.{ClockTold}
 use Rattle.samples.specs.declared.ClockTold.the-variants as ClockTold
-use Rattle.samples.specs.declared.CountTold.{CountTold}
-use Rattle.samples.specs.declared.CountTold.the-variants as CountTold
 use Rattle.samples.specs.declared.Number.{Number}
 use Rattle.samples.specs.declared.Number.the-variants as Number
+use Rattle.samples.specs.declared.Place.{Place}
+use Rattle.samples.specs.declared.PlaceTold.{PlaceTold}
+use Rattle.samples.specs.declared.PlaceTold.the-variants as PlaceTold
 use Rattle.samples.specs.declared.SampleTold.{SampleTold}
 use Rattle.samples.specs.declared.SampleTold.the-variants as SampleTold
 use Rattle.samples.specs.declared.Time.{Time}
-use Rattle.questions.specs.Contracts.{HeaderAnswer, FactsAnswer, ChannelAnswer, MontageCountAnswer, MontageAnswer, PatientItemAnswer, EventItemAnswer, ClockAnswer, CountAnswer, SampleAnswer, ViewAnswer}
-use Rattle.questions.specs.Tied.{recordingRead, channelRead, montageRead, itemRead, frameRead, samplesRead, sampleRead, Alike, FactsAre, TextsAre, WiredIs, ItemIs, ClockIs, ViewIs}
+use Rattle.questions.specs.Contracts.{HeaderAnswer, FactsAnswer, ChannelAnswer, MontageCountAnswer, MontageAnswer, PatientItemAnswer, EventItemAnswer, ClockAnswer, PlaceAnswer, SampleAnswer}
+use Rattle.questions.specs.Tied.{recordingRead, channelRead, montageRead, itemRead, frameRead, samplesRead, sampleRead, Alike, FactsAre, TextsAre, WiredIs, ItemIs, ClockIs, formatIn, PlaceIs}
 use Rattle.questions.specs.Values.{textAt}
 use Rattle.questions.specs.Questions.{headerIn}
-use Rattle.questions.specs.Meanings.{meaningH, meaningF, meaningD, meaningN, meaningM, meaningI, meaningT, meaningC, meaningS}
+use Rattle.questions.specs.Meanings.{meaningH, meaningF, meaningD, meaningN, meaningM, meaningI, meaningT, meaningP, meaningS}
 use Rattle.questions.specs.declared.channels.Calibration.{Calibration}
 use Rattle.questions.specs.declared.channels.Calibration.the-variants as Calibration
 use Rattle.questions.specs.declared.channels.ChannelTold.{ChannelTold}
@@ -94,7 +96,7 @@ use Rattle.permit.specs.declared.Written.the-variants as Written
 use Rattle.turn.specs.Turn.{Turns}
 use Rattle.rewrite.specs.Rewrite.{barrier, rewrittenIn, Rewrites}
 use Rattle.room.specs.Room.{RoomAnswer, ShortAnew}
-use Rattle.answers.specs.Flat.{countedRows, countedBytes, flatHeading, flatFacts, flatChannel, flatMontage, flatItem, flatClock, flatCount, flatSample}
+use Rattle.answers.specs.Flat.{countedRows, countedBytes, flatHeading, flatFacts, flatChannel, flatMontage, flatItem, flatClock, flatCount, flatPlace, flatSample}
 use Rattle.answers.specs.Flat.{kindNumber, flatKind}
 use Rattle.answers.specs.declared.Channel.{Channel}
 use Rattle.answers.specs.declared.Clock.{Clock}
@@ -105,9 +107,10 @@ use Rattle.answers.specs.declared.Heading.{Heading}
 use Rattle.answers.specs.declared.Item.{Item}
 use Rattle.answers.specs.declared.Kind.{Kind}
 use Rattle.answers.specs.declared.Montage.{Montage}
+use Rattle.answers.specs.declared.Part as PartC
+use Rattle.answers.specs.declared.Place as PlaceC
 use Rattle.answers.specs.declared.Sample.{Sample}
-use Rattle.answers.specs.declared.View.{View}
-use Rattle.psg.specs.Calls.{JudgeAnswers, TableAnswers, TurnAnswers, RewriteAnswers, RoomAnswers, HeaderAnswers, FactsAnswers, ChannelAnswers, MontageCountAnswers, MontageAnswers, PatientItemAnswers, EventItemAnswers, ClockAnswers, CountAnswers, SampleAnswers, ViewAnswers, RunAnswers, IndexAnswers}
+use Rattle.psg.specs.Calls.{JudgeAnswers, TableAnswers, TurnAnswers, RewriteAnswers, RoomAnswers, HeaderAnswers, FactsAnswers, ChannelAnswers, MontageCountAnswers, MontageAnswers, PatientItemAnswers, EventItemAnswers, ClockAnswers, PlaceAnswers, PartAnswers, SampleAnswers, RunAnswers, IndexAnswers}
 use Rattle.psg.specs.Calls.{KindAnswers}
 use Rattle.demands.specs.Bits.{ChannelIs, MontageIs, SampleIs, SamplesAt}
 
@@ -166,13 +169,8 @@ pub record KeepsRest {A E : Type 0} (refuse : Refusal → E) (wrote : ℕ → E)
   -- it is as long as it was
   pub long : length out′ ≡ length out
 
--- the empty part at the file's start
-pub record AtStart (at : ℕ) (r : RefT (List ℕ)) : Type 0 where
-  pub first : at ≡ 0
-  pub empty : r .now ≡ []
-
--- a view is no refusal: it is a part of the file
-pub record Shown (file : RefT (List ℕ)) (i j k : ℕ) (r : RefT (List ℕ)) : Type 0 where
+-- what `part` answers of a file and a place, whatever the place's numbers are: no refusal, but a part of the file
+pub record Shown (file : RefT (List ℕ)) (p : Place) (r : RefT (List ℕ)) : Type 0 where
   -- from this byte of the file on, in its own memory
   pub at : ℕ
   pub block : r .ptr .0 ≡ file .ptr .0
@@ -180,9 +178,9 @@ pub record Shown (file : RefT (List ℕ)) (i j k : ℕ) (r : RefT (List ℕ)) : 
   -- inside it, and with its bytes
   pub inside : at + length (r .now) ≤ length (file .now)
   pub bytes : r .now ≡ bytesAt (length (r .now)) (file .now) at
-  -- the empty part at its start where the count that is asked for alike is refused, or is none
-  pub refused : (x : Refusal) → CountAnswer (file .now) i j k (CountTold.Refused x) → AtStart at r
-  pub none : CountAnswer (file .now) i j k (CountTold.Samples 0) → AtStart at r
+  -- all bytes of the place where they lie in the file, else none, at its end
+  pub all : p .position + p .width * p .count ≤ length (file .now) → (at ≡ p .position) × (length (r .now) ≡ p .width * p .count)
+  pub none : length (file .now) < p .position + p .width * p .count → (at ≡ length (file .now)) × (length (r .now) ≡ 0)
 
 -- the rows that the rules list of a file: none where they refuse it
 abbrev pub listedRows : Outcome R.File → List Row
@@ -237,14 +235,14 @@ pub record KindTaken (c : ℕ) (a : Kind) : Type 0 where
   pub proper : 1 ≤ a .refusal → Refuses ofCode 0 0 (refusalOf (a .refusal) (a .position))
   pub rest : 1 ≤ a .refusal → a .kind ≡ 0
 
--- the part a of the file that C is told
-pub record PartTold (file : RefT (List ℕ)) (i j k : ℕ) (a : View) : Type 0 where
-  -- what `view` answers of the same file
+-- the part a of a file that C is told of a place
+pub record PartTold (file : RefT (List ℕ)) (p : Place) (a : PartC.Part) : Type 0 where
+  -- what `part` answers of the file
   pub told : RefT (List ℕ)
-  pub met : ViewAnswer file i j k told
-  -- it, and whatever else `view` may answer, begins there and is as long
-  pub start : (r : RefT (List ℕ)) → ViewAnswer file i j k r → r .ptr .1 ≡ file .ptr .1 + a .start
-  pub long : (r : RefT (List ℕ)) → ViewAnswer file i j k r → length (r .now) ≡ a .length
+  pub met : PartAnswer file p told
+  -- it, and whatever else `part` may answer, begins there and is as long
+  pub start : (r : RefT (List ℕ)) → PartAnswer file p r → r .ptr .1 ≡ file .ptr .1 + a .start
+  pub long : (r : RefT (List ℕ)) → PartAnswer file p r → length (r .now) ≡ a .length
 
 -- of the file s: what C is answered by each call that it links
 pub record Boundary (s : List ℕ) : Type 0 where
@@ -268,15 +266,16 @@ pub record Boundary (s : List ℕ) : Type 0 where
   pub patient-item : (i j : ℕ) (a : Item) → PatientItemAnswers s i j a → TakenApart s (PatientItemAnswer s i j) ItemTold.Refused (λ b. flatItem (meaningI b)) ofQuestion 0 (a .refusal) (a .position) a
   pub event-item : (i j : ℕ) (a : Item) → EventItemAnswers s i j a → TakenApart s (EventItemAnswer s i j) ItemTold.Refused (λ b. flatItem (meaningI b)) ofQuestion 0 (a .refusal) (a .position) a
   pub clock : (i j : ℕ) (a : Clock) → ClockAnswers s i j a → TakenApart s (ClockAnswer s i j) ClockTold.Refused (λ b. flatClock (meaningT b)) ofQuestion 0 (a .refusal) (a .position) a
-  pub count : (i j k : ℕ) (a : Counted) → CountAnswers s i j k a → TakenApart s (CountAnswer s i j k) CountTold.Refused (λ b. flatCount (meaningC b)) ofQuestion 0 (a .refusal) (a .position) a
+  pub place : (i j k : ℕ) (a : PlaceC.Place) → PlaceAnswers s i j k a →
+      TakenApart s (PlaceAnswer s i j k) PlaceTold.Refused (λ b. flatPlace (meaningP b)) ofQuestion 0 (a .refusal) (a .position) a
+  pub part : (file : RefT (List ℕ)) → file .now ≡ s → (p : Place) (a : PartC.Part) → PartAnswers (length s) (p .position) (p .width) (p .count) a → PartTold file p a
   pub sample : (i j k n : ℕ) (a : Sample) → SampleAnswers s i j k n a → TakenApart s (SampleAnswer s i j k n) SampleTold.Refused (λ b. flatSample (meaningS b)) ofQuestion 0 (a .refusal) (a .position) a
-  pub view : (file : RefT (List ℕ)) → file .now ≡ s → (i j k : ℕ) (a : View) → ViewAnswers s i j k a → PartTold file i j k a
   pub run : (b : Sibling) (i j k first n : ℕ) (out out′ : List (Element b)) (a : Counted) → RunAnswers b s i j k first n out out′ a →
       TakenApart s (RunAnswer b s i j k first n out out′) Ran.Refused (λ c. flatCount (Runs.meaning c)) ofRun n (a .refusal) (a .position) a
   pub run-keeps : (b : Sibling) (i j k first n : ℕ) (out out′ : List (Element b)) (a : Counted) → RunAnswers b s i j k first n out out′ a →
       KeepsRest stoppedC wroteC 1 out out′ a
   pub index : (out out′ : List ℤ) (a : Counted) → IndexAnswers s out out′ a →
-      TakenApart s (Indexes s out out′) Indexed.Refused (λ b. flatCount (Index.meaning b)) ofTable (5 * length (entriesOf (R.judge s))) (a .refusal) (a .position) a
+      TakenApart s (Indexes s out out′) Indexed.Refused (λ b. flatCount (Index.meaning b)) ofTable (5 * length (entriesOf s (R.judge s))) (a .refusal) (a .position) a
   pub index-keeps : (out out′ : List ℤ) (a : Counted) → IndexAnswers s out out′ a → KeepsRest stoppedC wroteC 5 out out′ a
   pub event-kind : (c : ℕ) (a : Kind) → KindAnswers c a → KindTaken c a
 
@@ -304,16 +303,17 @@ pub record Demand-1 (s : List ℕ) : Type 0 where
   pub patient-item : (i j : ℕ) (a : ItemTold) → PatientItemAnswer s i j a → Answered ItemTold.Refused ofQuestion (length s) 0 a
   pub event-item : (i j : ℕ) (a : ItemTold) → EventItemAnswer s i j a → Answered ItemTold.Refused ofQuestion (length s) 0 a
   pub clock : (i j : ℕ) (a : ClockTold) → ClockAnswer s i j a → Answered ClockTold.Refused ofQuestion (length s) 0 a
-  pub count : (i j k : ℕ) (a : CountTold) → CountAnswer s i j k a → Answered CountTold.Refused ofQuestion (length s) 0 a
+  pub place : (i j k : ℕ) (a : PlaceTold) → PlaceAnswer s i j k a → Answered PlaceTold.Refused ofQuestion (length s) 0 a
   pub sample : (i j k n : ℕ) (a : SampleTold) → SampleAnswer s i j k n a → Answered SampleTold.Refused ofQuestion (length s) 0 a
-  pub view : (file : RefT (List ℕ)) → file .now ≡ s → (i j k : ℕ) (r : RefT (List ℕ)) → ViewAnswer file i j k r → Shown file i j k r
+  -- the part of the file that a place names, whatever its three numbers are
+  pub part : (file : RefT (List ℕ)) → file .now ≡ s → (p : Place) (r : RefT (List ℕ)) → PartAnswer file p r → Shown file p r
   -- a run of n samples, by either call: 17 counts the numbers asked for
   pub run : (b : Sibling) (i j k first n : ℕ) (out out′ : List (Element b)) (a : Ran) → RunAnswer b s i j k first n out out′ a →
       Answered Ran.Refused ofRun (length s) n a
   pub run-keeps : (b : Sibling) (i j k first n : ℕ) (out out′ : List (Element b)) (a : Ran) → RunAnswer b s i j k first n out out′ a →
       KeepsRest Ran.Refused Ran.Numbers 1 out out′ a
   -- index: 17 counts in numbers, five an entry
-  pub index : (out out′ : List ℤ) (a : Indexed) → Indexes s out out′ a → Answered Indexed.Refused ofTable (length s) (5 * length (entriesOf (R.judge s))) a
+  pub index : (out out′ : List ℤ) (a : Indexed) → Indexes s out out′ a → Answered Indexed.Refused ofTable (length s) (5 * length (entriesOf s (R.judge s))) a
   pub index-keeps : (out out′ : List ℤ) (a : Indexed) → Indexes s out out′ a → KeepsRest Indexed.Refused Indexed.Entries 5 out out′ a
   -- the kind of a code, whatever the file is: refused by 19 at 0 alone
   pub event-kind : (c : ℕ) (a : KindTold) → KindAnswer c a → Answered KindTold.Refused ofCode (length s) 0 a
@@ -355,7 +355,7 @@ pub record HandsUp (s : List ℕ) (n p : ℕ) : Type 0 where
   pub patient-item : (i j : ℕ) (a : ItemTold) → PatientItemAnswer s i j a → a ≡ ItemTold.Refused (refusalOf n p)
   pub event-item : (i j : ℕ) (a : ItemTold) → EventItemAnswer s i j a → a ≡ ItemTold.Refused (refusalOf n p)
   pub clock : (i j : ℕ) (a : ClockTold) → ClockAnswer s i j a → a ≡ ClockTold.Refused (refusalOf n p)
-  pub count : (i j k : ℕ) (a : CountTold) → CountAnswer s i j k a → a ≡ CountTold.Refused (refusalOf n p)
+  pub place : (i j k : ℕ) (a : PlaceTold) → PlaceAnswer s i j k a → a ≡ PlaceTold.Refused (refusalOf n p)
   pub sample : (i j k m : ℕ) (a : SampleTold) → SampleAnswer s i j k m a → a ≡ SampleTold.Refused (refusalOf n p)
   pub run : (b : Sibling) (i j k first m : ℕ) (out out′ : List (Element b)) (a : Ran) → RunAnswer b s i j k first m out out′ a → a ≡ Ran.Refused (refusalOf n p)
   pub index : (out out′ : List ℤ) (a : Indexed) → Indexes s out out′ a → a ≡ Indexed.Refused (refusalOf n p)
@@ -439,6 +439,16 @@ pub record EntryTells (b : Sibling) (out′ : List (Element b)) (q : ℕ) (d : S
   pub told : d ≡ SampleTold.Value number
   pub entry : indexed out′ q ≡ value (elementOf b (valueTold number))
 
+-- the part r of a file, cut at the place p, is the samples that the reading has of channel k in frame j of recording i
+pub record PartIs (g : Reading) (i j k : ℕ) (file : RefT (List ℕ)) (p : Place) (r : RefT (List ℕ)) : Type 0 where
+  -- it begins at the place, and is as long
+  pub offset : r .ptr .1 ≡ file .ptr .1 + p .position
+  pub long : length (r .now) ≡ p .width * p .count
+  -- by the channel's format and the file's order
+  pub channel : ChannelReading
+  pub described : channelRead g i k ≡ value channel
+  pub shows : samplesRead g i j k ≡ value (valuesAt (R.orderOf (file .now)) (formatIn channel) (p .count) (r .now) 0)
+
 -- each question about a file with this reading answers what the reading says
 pub record Tells (s : List ℕ) (g : Reading) : Type 0 where
   pub header : (a : HeaderTold) → HeaderAnswer s a → meaningH a ≡ value (headerRead (R.orderOf s) g)
@@ -454,10 +464,12 @@ pub record Tells (s : List ℕ) (g : Reading) : Type 0 where
   pub patient-item : (i j : ℕ) (a : ItemTold) → PatientItemAnswer s i j a → Alike (ItemIs s) (meaningI a) (itemRead Holder.Patient g i j)
   pub event-item : (i j : ℕ) (a : ItemTold) → EventItemAnswer s i j a → Alike (ItemIs s) (meaningI a) (itemRead Holder.Event g i j)
   pub clock : (i j : ℕ) (a : ClockTold) → ClockAnswer s i j a → meaningT a ≡ (frameRead g i j >>= λ f. value (timeIn f))
-  pub count : (i j k : ℕ) (a : CountTold) → CountAnswer s i j k a → meaningC a ≡ (samplesRead g i j k >>= λ l. value (length l))
+  -- the place of a channel's samples: as many as the reading has, of the format's width each; its bytes are the samples
+  pub place : (i j k : ℕ) (a : PlaceTold) → PlaceAnswer s i j k a → Alike (PlaceIs s g i k) (meaningP a) (samplesRead g i j k)
+  -- and so are those of the part that is cut there
+  pub part : (file : RefT (List ℕ)) → file .now ≡ s → (i j k : ℕ) (p : Place) → PlaceAnswer s i j k (PlaceTold.At p) →
+      (r : RefT (List ℕ)) → PartAnswer file p r → PartIs g i j k file p r
   pub sample : (i j k n : ℕ) (a : SampleTold) → SampleAnswer s i j k n a → (meaningS a >>= λ x. value (valueTold x)) ≡ sampleRead g i j k n
-  -- the bytes of a view, by the channel's width and the file's order, are the reading's samples, as many as are counted
-  pub view : (i j k : ℕ) (a : CountTold) → CountAnswer s i j k a → Alike (ViewIs s g i j k) (meaningC a) (samplesRead g i j k)
   pub run : (b : Sibling) (i j k first n : ℕ) (out out′ : List (Element b)) (a : Ran) → RunAnswer b s i j k first n out out′ a →
       RunTells b n (runRead b g i j k first n) out out′ (λ x. Runs.meaning a ≡ x)
   -- where it is answered, the answer is the number asked for, and entry q is what the question answers about sample first + q
@@ -477,6 +489,9 @@ countsC a = record { channels = a .channels; frames = a .frames; seconds = a .se
 
 abbrev pub entryC : Item → Entry
 entryC a = record { code = a .code; text = textAt (a .text) (a .«text_length») }
+
+abbrev pub placeC : PlaceC.Place → Place
+placeC a = record { position = a .start; width = a .width; count = a .count }
 
 abbrev pub timeC : Clock → Time
 timeC a = record { hour = a .hour; minute = a .minute; second = a .second }
@@ -511,12 +526,13 @@ pub record BoundaryTells (s : List ℕ) (g : Reading) : Type 0 where
   pub patient-item : (i j : ℕ) (a : Item) → PatientItemAnswers s i j a → TellsC (ItemIs s (entryC a)) (a .refusal) (a .position) (itemRead Holder.Patient g i j)
   pub event-item : (i j : ℕ) (a : Item) → EventItemAnswers s i j a → TellsC (ItemIs s (entryC a)) (a .refusal) (a .position) (itemRead Holder.Event g i j)
   pub clock : (i j : ℕ) (a : Clock) → ClockAnswers s i j a → TellsC (ClockIs (timeC a)) (a .refusal) (a .position) (frameRead g i j)
-  pub count : (i j k : ℕ) (a : Counted) → CountAnswers s i j k a → TellsC (λ vs. a .count ≡ length vs) (a .refusal) (a .position) (samplesRead g i j k)
+  pub place : (i j k : ℕ) (a : PlaceC.Place) → PlaceAnswers s i j k a → TellsC (PlaceIs s g i k (placeC a)) (a .refusal) (a .position) (samplesRead g i j k)
+  -- what is seen in the part that is cut at the place that C is told
+  pub part : (i j k : ℕ) (a : PlaceC.Place) → PlaceAnswers s i j k a → (b : PartC.Part) → PartAnswers (length s) (a .start) (a .width) (a .count) b →
+      (vs : List Value) → samplesRead g i j k ≡ value vs → SamplesAt s g i k b vs
   pub sample : (i j k n : ℕ) (a : Sample) → SampleAnswers s i j k n a → TellsC (SampleIs s g i j k n a) (a .refusal) (a .position) (sampleRead g i j k n)
   pub run : (b : Sibling) (i j k first n : ℕ) (out out′ : List (Element b)) (a : Counted) → RunAnswers b s i j k first n out out′ a →
       RunTells b n (runRead b g i j k first n) out out′ (λ x. a ≡ flatCount x)
-  -- what is seen at the place that C is told
-  pub view : (i j k : ℕ) (a : View) → ViewAnswers s i j k a → (vs : List Value) → samplesRead g i j k ≡ value vs → SamplesAt s g i k a vs
 
 -- what was written of a file with the reading g, in the order `to`
 pub record WrittenAnew {E : Type 0} (wrote : ℕ → E) (g : Reading) (to : Order) (out′ : List ℕ) (a : E) : Type 0 where
@@ -577,9 +593,9 @@ pub record Demand-2 (s : List ℕ) : Type 0 where
   -- the table, with room, is that of the rules' rows
   pub lists : (v : R.File) (t : List Event) → Accepted s v t → (out out′ : List ℤ) (a : Listed) → 4 * length (rows 0 t) ≤ length out → Lists s out out′ a → TableHolds Listed.Rows (rows 0 t) out′ a
   -- the index, with room, is that of the entries: every event of the reading once, and nothing else, by recording, frame, channel and place
-  pub indexes : (v : R.File) (t : List Event) → Accepted s v t → (out out′ : List ℤ) (a : Indexed) → 5 * length (entries (R.contents v)) ≤ length out → Indexes s out out′ a →
-      IndexHolds Indexed.Entries (entries (R.contents v)) out′ a
-  pub events : (v : R.File) (t : List Event) → Accepted s v t → Events.Index (R.contents v) (entries (R.contents v))
+  pub indexes : (v : R.File) (t : List Event) → Accepted s v t → (out out′ : List ℤ) (a : Indexed) → 5 * length (entries s (R.contents v)) ≤ length out → Indexes s out out′ a →
+      IndexHolds Indexed.Entries (entries s (R.contents v)) out′ a
+  pub events : (v : R.File) (t : List Event) → Accepted s v t → Events.Index (R.contents v) (entries s (R.contents v))
   -- the questions
   pub answers : (v : R.File) (t : List Event) → Accepted s v t → Tells s (reading v)
   -- with a letter that names an order, no maker's record in the way, and room, the file is written anew
@@ -593,8 +609,8 @@ pub record Demand-2 (s : List ℕ) : Type 0 where
   pub boundary-judges : (a : Header) → JudgeAnswers s a → JudgesByRules headerC refusedC s a
   pub boundary-accepted : (a : Header) → JudgeAnswers s a → a .refusal ≡ 0 → (h : FileHeader) × AcceptedAs s h × (a ≡ headerC h)
   pub boundary-lists : (v : R.File) (t : List Event) → Accepted s v t → (out out′ : List ℤ) (a : Counted) → 4 * length (rows 0 t) ≤ length out → TableAnswers s out out′ a → TableHolds wroteC (rows 0 t) out′ a
-  pub boundary-indexes : (v : R.File) (t : List Event) → Accepted s v t → (out out′ : List ℤ) (a : Counted) → 5 * length (entries (R.contents v)) ≤ length out → IndexAnswers s out out′ a →
-      IndexHolds wroteC (entries (R.contents v)) out′ a
+  pub boundary-indexes : (v : R.File) (t : List Event) → Accepted s v t → (out out′ : List ℤ) (a : Counted) → 5 * length (entries s (R.contents v)) ≤ length out → IndexAnswers s out out′ a →
+      IndexHolds wroteC (entries s (R.contents v)) out′ a
   pub boundary-answers : (v : R.File) (t : List Event) → Accepted s v t → BoundaryTells s (reading v)
   pub boundary-rewrites : (v : R.File) (t : List Event) → Accepted s v t → (order : ℕ) (to : Order) → lettered order ≡ Lettered.Names to → barrier (R.orderOf s) to (firstMaker (rows 0 t)) ≡ none →
       (out out′ : List ℕ) (a : Counted) → length (rewritten to s) ≤ length out → RewriteAnswers s order out out′ a → WrittenAnew wroteC (reading v) to out′ a
@@ -626,7 +642,7 @@ pub record SameWords (w : ℕ) (o o′ : Order) (xs xs′ : List ℕ) : Type 0 w
   pub first : xs ≡ numbersIn o w words
   pub second : xs′ ≡ numbersIn o′ w words
 
--- the views r and r′ of two files show the same numbers of channel k of recording i
+-- the parts r and r′ of two files show the same numbers of channel k of recording i
 pub record SameNumbers (g : Reading) (i k : ℕ) (file r file′ r′ : RefT (List ℕ)) : Type 0 where
   -- at the same place of each file, and as long
   pub at : ℕ
@@ -661,9 +677,8 @@ pub record BoundarySame (s s′ : List ℕ) : Type 0 where
   pub patient-item : (i j : ℕ) (a b : Item) → PatientItemAnswers s i j a → PatientItemAnswers s′ i j b → a ≡ b
   pub event-item : (i j : ℕ) (a b : Item) → EventItemAnswers s i j a → EventItemAnswers s′ i j b → a ≡ b
   pub clock : (i j : ℕ) (a b : Clock) → ClockAnswers s i j a → ClockAnswers s′ i j b → a ≡ b
-  pub count : (i j k : ℕ) (a b : Counted) → CountAnswers s i j k a → CountAnswers s′ i j k b → a ≡ b
+  pub place : (i j k : ℕ) (a b : PlaceC.Place) → PlaceAnswers s i j k a → PlaceAnswers s′ i j k b → a ≡ b
   pub sample : (i j k n : ℕ) (a b : Sample) → SampleAnswers s i j k n a → SampleAnswers s′ i j k n b → a ≡ b
-  pub view : (i j k : ℕ) (a b : View) → ViewAnswers s i j k a → ViewAnswers s′ i j k b → a ≡ b
   pub run : (c : Sibling) (i j k first n : ℕ) (out out₁ out₂ : List (Element c)) (a b : Counted) →
       RunAnswers c s i j k first n out out₁ a → RunAnswers c s′ i j k first n out out₂ b → SameEnd a b out₁ out₂
   pub index : (out out₁ out₂ : List ℤ) (a b : Counted) → IndexAnswers s out out₁ a → IndexAnswers s′ out out₂ b → SameEnd a b out₁ out₂
@@ -695,9 +710,10 @@ pub record Same (s : List ℕ) (g : Reading) (s′ : List ℕ) : Type 0 where
   pub patient-item : (i j : ℕ) (a b : ItemTold) → PatientItemAnswer s i j a → PatientItemAnswer s′ i j b → a ≡ b
   pub event-item : (i j : ℕ) (a b : ItemTold) → EventItemAnswer s i j a → EventItemAnswer s′ i j b → a ≡ b
   pub clock : (i j : ℕ) (a b : ClockTold) → ClockAnswer s i j a → ClockAnswer s′ i j b → a ≡ b
-  pub count : (i j k : ℕ) (a b : CountTold) → CountAnswer s i j k a → CountAnswer s′ i j k b → a ≡ b
+  pub place : (i j k : ℕ) (a b : PlaceTold) → PlaceAnswer s i j k a → PlaceAnswer s′ i j k b → a ≡ b
+  pub part : (i j k : ℕ) (p : Place) → PlaceAnswer s i j k (PlaceTold.At p) → (file r file′ r′ : RefT (List ℕ)) → file .now ≡ s → file′ .now ≡ s′ →
+      PartAnswer file p r → PartAnswer file′ p r′ → SameNumbers g i k file r file′ r′
   pub sample : (i j k n : ℕ) (a b : SampleTold) → SampleAnswer s i j k n a → SampleAnswer s′ i j k n b → a ≡ b
-  pub view : (i j k : ℕ) (file r file′ r′ : RefT (List ℕ)) → file .now ≡ s → file′ .now ≡ s′ → ViewAnswer file i j k r → ViewAnswer file′ i j k r′ → SameNumbers g i k file r file′ r′
   -- the same run of samples: the answer, and the numbers in the buffer
   pub run : (c : Sibling) (i j k first n : ℕ) (out out₁ out₂ : List (Element c)) (a b : Ran) →
       RunAnswer c s i j k first n out out₁ a → RunAnswer c s′ i j k first n out out₂ b → SameEnd a b out₁ out₂

@@ -1,83 +1,108 @@
--- The entries of some channels of a frame, of some frames and of some recordings, from those before them.
+-- The entries of each of some channels, frames or recordings, from those before them; and the bytes of some channels.
 -- Assumes nothing.
-use mathlib.Core.Path.{_≡_, refl, sym, ap, _∙_}
+use mathlib.Core.Path.{_≡_, refl, sym, ap, _∙_, subst}
 use mathlib.Core.Bool.{false}
 use mathlib.Core.List.{List, [], _∷_, _++_, append-nil, append-assoc}
-use Prim.Native.Nat.{ℕ, zero, suc, _+_, _-_, _*_, _≤_, _<_, zero-le}
-use native.Mathlib.Nat.{add-zero, le-refl}
+use Prim.Native.Nat.{ℕ, zero, suc, _+_, _*_, _≤_, _<_, zero-le}
+use native.Mathlib.Nat.{add-zero, zero-add, suc-mul, le-refl}
 use native.Mathlib.Omega.{arith}
-use lib.ListN.{length, take, getD}
-use lib.Seq.{take-suc, length-take-le}
-use Rattle.walk.specs.Walk.{pick}
+use lib.ListN.{length, take, getD, length-append}
 use Rattle.rules.specs.Rules as R
 use Rattle.recordings.specs.Answers.{value, indexed}
-use Rattle.recordings.proofs.Chosen.{refusal-value, indexed-in, One}
-use Rattle.index.specs.Events.{Entry, ofEvents, lastOf, codesIn, sampleEntries, channelEntries, frameEntries, recordingEntries, entriesFrom}
-use Rattle.index.proofs.Sampling.{last-append}
+use Rattle.recordings.proofs.Chosen.{refusal-value, indexed-in}
+use Rattle.index.specs.Events.{Entry, ofEvents, eachOf, channelEntries, frameEntries, recordingEntries}
 
 -- an element of a list that is long enough
 pub some-one : {A : Type 0} (l : List A) (c : ℕ) → c < length l → (y : A) × (indexed l c ≡ value y)
 some-one [] c h = absurd (omega arith)
 some-one (x ∷ l) c h = (getD (x ∷ l) c x, indexed-in x (x ∷ l) c h)
 
--- channels
-module _ (i j : ℕ) (before : List R.Frame) where
-  -- channel c, from 0, and its samples
-  abbrev pub oneChannel : ℕ → R.Channel → List ℕ → List Entry
-  oneChannel c y l = pick (ofEvents y) (sampleEntries i j (suc c) 0 (lastOf 0 (codesIn c before)) l) []
+-- Each of a list, behind the first k
 
-  pub channels-more : (k c : ℕ) (cs : List R.Channel) (ss : List (List ℕ)) {y : R.Channel} → indexed cs c ≡ value y → c < length ss →
-      channelEntries i j before k (take (suc c) cs) ss ≡ channelEntries i j before k (take c cs) ss ++ oneChannel (k + c) y (getD ss c [])
-  unfolding channelEntries indexed
-  channels-more k c [] ss h l = refusal-value h
-  channels-more k c (x ∷ cs) [] h l = absurd (omega arith)
-  channels-more k zero (x ∷ cs) (s ∷ ss) {y} h l =
-      let d : x ≡ y = cc in
-      rw (d, add-zero k) (append-nil (oneChannel k y s))
-  channels-more k (suc c) (x ∷ cs) (s ∷ ss) {y} h l =
+module _ {A : Type 0} where
+  -- this holds of each and its number
+  abbrev pub Each : (ℕ → A → Type 0) → ℕ → List A → Type 0
+  Each P k l = (c : ℕ) (a : A) → indexed l c ≡ value a → P (suc (k + c)) a
+
+  pub each-zero : (P : ℕ → A → Type 0) (l : List A) → ((c : ℕ) (a : A) → indexed l c ≡ value a → P (suc c) a) → Each P 0 l
+  each-zero P l h c a e = subst (λ (n : ℕ). P (suc n) a) (sym (zero-add c)) (h c a e)
+
+  pub each-first : (P : ℕ → A → Type 0) (k : ℕ) (a : A) (l : List A) → Each P k (a ∷ l) → P (suc k) a
+  unfolding indexed
+  each-first P k a l h = rw (add-zero k) at (h 0 a refl)
+
+  pub each-others : (P : ℕ → A → Type 0) (k : ℕ) (a : A) (l : List A) → Each P k (a ∷ l) → Each P (suc k) l
+  unfolding indexed
+  each-others P k a l h c b e =
       let d : suc k + c ≡ k + suc c = omega arith in
-      rw (channels-more (suc k) c cs ss h (omega arith), d, append-assoc)
+      rw d (h (suc c) b e)
 
-  -- channels that are not of events
-  pub channels-quiet : (a d : ℕ) (cs : List R.Channel) (ss : List (List ℕ)) → a + d ≤ length cs → length cs ≤ length ss → ((c : ℕ) (y : R.Channel) → a ≤ c → c < a + d → indexed cs c ≡ value y → ofEvents y ≡ false) →
-      channelEntries i j before 0 (take (a + d) cs) ss ≡ channelEntries i j before 0 (take a cs) ss
-  channels-quiet a zero cs ss h m q = ap (λ (n : ℕ). channelEntries i j before 0 (take n cs) ss) (add-zero a)
-  channels-quiet a (suc d) cs ss h m q =
-      let e : a + suc d ≡ suc (a + d) = omega arith in
-      let y = some-one cs (a + d) (omega arith) in
-      let n : ofEvents (y .0) ≡ false = q (a + d) (y .0) (omega arith) (omega arith) (y .1) in
-      ap (λ (n : ℕ). channelEntries i j before 0 (take n cs) ss) e ∙
-      (channels-more 0 (a + d) cs ss (y .1) (omega arith) ∙ rw n (append-nil _) ∙ channels-quiet a d cs ss (omega arith) m (λ c y l u. q c y l (omega arith)))
+  -- where two say the same of each
+  pub each-alike : (f g : ℕ → A → List Entry) (k : ℕ) (l : List A) → Each (λ n a. f n a ≡ g n a) k l → eachOf f k l ≡ eachOf g k l
+  unfolding eachOf
+  each-alike f g k [] h = refl
+  each-alike f g k (a ∷ l) h =
+      let e : f (suc k) a ≡ g (suc k) a = each-first (λ n a. f n a ≡ g n a) k a l h in
+      let r : eachOf f (suc k) l ≡ eachOf g (suc k) l = each-alike f g (suc k) l (each-others (λ n a. f n a ≡ g n a) k a l h) in
+      λ n. e n ++ r n
 
--- frames
-pub codes-append : (k : ℕ) (fs gs : List R.Frame) → codesIn k (fs ++ gs) ≡ codesIn k fs ++ codesIn k gs
-unfolding codesIn
-codes-append k [] gs = refl
-codes-append k (f ∷ fs) gs = rw (codes-append k fs gs, append-assoc)
+  module _ (f : ℕ → A → List Entry) where
+    -- one more
+    pub each-more : (k c : ℕ) (l : List A) {a : A} → indexed l c ≡ value a → eachOf f k (take (suc c) l) ≡ eachOf f k (take c l) ++ f (suc (k + c)) a
+    unfolding eachOf indexed
+    each-more k c [] h = refusal-value h
+    each-more k zero (x ∷ l) {a} h =
+        let d : x ≡ a = cc in
+        rw (d, add-zero k) (append-nil (f (suc k) a))
+    each-more k (suc c) (x ∷ l) h =
+        let d : suc k + c ≡ k + suc c = omega arith in
+        rw (each-more (suc k) c l h, d, append-assoc)
 
--- the last code of a channel behind one frame more
-pub last-frame : (k : ℕ) (fs : List R.Frame) (f : R.Frame) → lastOf 0 (codesIn k (fs ++ (f ∷ []))) ≡ lastOf (lastOf 0 (codesIn k fs)) (getD (f .channels) k [])
-unfolding codesIn
-last-frame k fs f = rw (codes-append k fs (f ∷ []), append-nil (getD (f .channels) k [])) (last-append 0 (codesIn k fs) (getD (f .channels) k []))
+    -- some that have none
+    pub each-quiet : (n d : ℕ) (l : List A) → n + d ≤ length l → ((c : ℕ) (a : A) → n ≤ c → c < n + d → indexed l c ≡ value a → f (suc c) a ≡ []) →
+        eachOf f 0 (take (n + d) l) ≡ eachOf f 0 (take n l)
+    each-quiet n zero l h q = ap (λ (m : ℕ). eachOf f 0 (take m l)) (add-zero n)
+    each-quiet n (suc d) l h q =
+        let e : n + suc d ≡ suc (n + d) = omega arith in
+        let a = some-one l (n + d) (omega arith) in
+        let none : f (suc (0 + (n + d))) (a .0) ≡ [] = ap (λ (m : ℕ). f (suc m) (a .0)) (zero-add (n + d)) ∙ q (n + d) (a .0) (omega arith) (omega arith) (a .1) in
+        let less : eachOf f 0 (take (n + d) l) ++ f (suc (0 + (n + d))) (a .0) ≡ eachOf f 0 (take (n + d) l) = rw none (append-nil (eachOf f 0 (take (n + d) l))) in
+        ap (λ (m : ℕ). eachOf f 0 (take m l)) e ∙ (each-more 0 (n + d) l (a .1) ∙ (less ∙ each-quiet n d l (omega arith) (λ c b u v. q c b u (omega arith))))
 
-module _ (i : ℕ) (cs : List R.Channel) where
-  frames-append : (j : ℕ) (before fs : List R.Frame) (f : R.Frame) →
-      frameEntries i j cs before (fs ++ (f ∷ [])) ≡ frameEntries i j cs before fs ++ channelEntries i (j + length fs) (before ++ fs) 0 cs (f .channels)
-  unfolding frameEntries
-  frames-append j before [] f = rw (add-zero j, append-nil before) (append-nil _)
-  frames-append j before (g ∷ fs) f =
-      let d : suc j + length fs ≡ j + suc (length fs) = omega arith in
-      rw (frames-append (suc j) (before ++ (g ∷ [])) fs f, d, append-assoc before (g ∷ []) fs)
-      (sym (append-assoc (channelEntries i j before 0 cs (g .channels)) (frameEntries i (suc j) cs (before ++ (g ∷ [])) fs) (channelEntries i (j + suc (length fs)) (before ++ (g ∷ fs)) 0 cs (f .channels))))
+    pub each-none : (k : ℕ) (l : List A) → Each (λ n a. f n a ≡ []) k l → eachOf f k l ≡ []
+    unfolding eachOf
+    each-none k [] h = refl
+    each-none k (a ∷ l) h = rw (each-first (λ n a. f n a ≡ []) k a l h, each-none (suc k) l (each-others (λ n a. f n a ≡ []) k a l h))
 
-  -- one frame more of a recording
-  pub frames-more : (j : ℕ) (fs : List R.Frame) (f : R.Frame) → One fs j f → frameEntries i 1 cs [] (take (suc j) fs) ≡ frameEntries i 1 cs [] (take j fs) ++ channelEntries i (suc j) (take j fs) 0 cs (f .channels)
-  frames-more j fs f o =
-      let d : 1 + j ≡ suc j = omega arith in
-      let l : length (take j fs) ≡ j = length-take-le j fs (omega (arith, o .inside)) in
-      ap (frameEntries i 1 cs []) (take-suc fs j f (o .inside) ∙ rw (o .is f)) ∙ (frames-append 1 [] (take j fs) f ∙ rw (l, d))
+    -- so many each at most
+    pub each-few : (k n m : ℕ) (l : List A) → Each (λ c a. length (f c a) ≤ m) k l → length (eachOf f k (take n l)) ≤ n * m
+    unfolding eachOf
+    each-few k zero m l h = omega arith
+    each-few k (suc n) m [] h = omega arith
+    each-few k (suc n) m (a ∷ l) h =
+        let first : length (f (suc k) a) ≤ m = each-first (λ c a. length (f c a) ≤ m) k a l h in
+        rw length-append (omega (arith, first, each-few (suc k) n m l (each-others (λ c a. length (f c a) ≤ m) k a l h), suc-mul n m))
 
--- the bytes of the samples of one channel more
+-- the channels of a frame
+pub frame-is : (s : List ℕ) (i : ℕ) (cs : List R.Channel) (j : ℕ) (f : R.Frame) → eachOf (channelEntries s i j) 0 cs ≡ frameEntries s i cs j f
+unfolding frameEntries
+frame-is s i cs j f = refl
+
+-- A channel that is not of events, and a recording without one that is
+
+pub channel-none : (s : List ℕ) (i j k : ℕ) (y : R.Channel) → ofEvents y ≡ false → channelEntries s i j k y ≡ []
+unfolding channelEntries
+channel-none s i j k y h = rw h
+
+pub recording-none : (s : List ℕ) (i : ℕ) (r : R.Recording) → ((c : ℕ) (y : R.Channel) → indexed (r .channels) c ≡ value y → ofEvents y ≡ false) → recordingEntries s i r ≡ []
+unfolding recordingEntries frameEntries
+recording-none s i r h =
+    each-none (frameEntries s i (r .channels)) 0 (r .frames)
+    (λ c f e. each-none (channelEntries s i (suc (0 + c))) 0 (r .channels) (λ n y g. channel-none s i (suc (0 + c)) (suc (0 + n)) y (h n y g)))
+
+-- The bytes of samples
+
+-- of one channel more
 pub bytes-more : (t c : ℕ) (cs : List R.Channel) {y : R.Channel} → indexed cs c ≡ value y → R.sampleBytes t (take (suc c) cs) ≡ R.sampleBytes t (take c cs) + R.samplesIn t y * R.width (y .format)
 unfolding indexed R.sampleBytes
 bytes-more t c [] h = refusal-value h
@@ -92,30 +117,3 @@ unfolding R.sampleBytes
 bytes-some t zero cs = zero-le
 bytes-some t (suc n) [] = le-refl 0
 bytes-some t (suc n) (c ∷ cs) = omega (arith, bytes-some t n cs)
-
--- a recording without a channel of events
-channels-none : (i j : ℕ) (before : List R.Frame) (k : ℕ) (cs : List R.Channel) (ss : List (List ℕ)) → ((c : ℕ) (y : R.Channel) → indexed cs c ≡ value y → ofEvents y ≡ false) → channelEntries i j before k cs ss ≡ []
-unfolding channelEntries indexed
-channels-none i j before k [] ss h = refl
-channels-none i j before k (y ∷ cs) [] h = refl
-channels-none i j before k (y ∷ cs) (s ∷ ss) h = rw (h 0 y refl) (channels-none i j before (suc k) cs ss (λ c z e. h (suc c) z e))
-
-pub frames-none : (i j : ℕ) (cs : List R.Channel) (before fs : List R.Frame) → ((c : ℕ) (y : R.Channel) → indexed cs c ≡ value y → ofEvents y ≡ false) → frameEntries i j cs before fs ≡ []
-unfolding frameEntries
-frames-none i j cs before [] h = refl
-frames-none i j cs before (f ∷ fs) h = rw (channels-none i j before 0 cs (f .channels) h) (frames-none i (suc j) cs (before ++ (f ∷ [])) fs h)
-
--- recordings
-recordings-append : (i : ℕ) (rs : List R.Recording) (r : R.Recording) → entriesFrom i (rs ++ (r ∷ [])) ≡ entriesFrom i rs ++ recordingEntries (i + length rs) r
-unfolding entriesFrom
-recordings-append i [] r = rw (add-zero i) (append-nil _)
-recordings-append i (q ∷ rs) r =
-    let d : suc i + length rs ≡ i + suc (length rs) = omega arith in
-    rw (recordings-append (suc i) rs r, d) (sym (append-assoc (recordingEntries i q) (entriesFrom (suc i) rs) (recordingEntries (i + suc (length rs)) r)))
-
--- one recording more of a file
-pub recordings-more : (i : ℕ) (rs : List R.Recording) (r : R.Recording) → One rs i r → entriesFrom 1 (take (suc i) rs) ≡ entriesFrom 1 (take i rs) ++ recordingEntries (suc i) r
-recordings-more i rs r o =
-    let d : 1 + i ≡ suc i = omega arith in
-    let l : length (take i rs) ≡ i = length-take-le i rs (omega (arith, o .inside)) in
-    ap (entriesFrom 1) (take-suc rs i r (o .inside) ∙ rw (o .is r)) ∙ (recordings-append 1 (take i rs) r ∙ rw (l, d))

@@ -1,7 +1,7 @@
 -- The index of night events is exact: each entry is an event, each event is an entry, and of two entries the first stands before the second.
 -- The list is cut into blocks four times, by recording, frame, channel and place: one law puts the blocks together each time.
 -- Assumes nothing.
-use mathlib.Core.Path.{_≡_, refl, sym, ap, _∙_}
+use mathlib.Core.Path.{_≡_, refl, sym, ap, _∙_, subst}
 use mathlib.Core.Bool.{Bool, true, false}
 use mathlib.Core.List.{List, [], _∷_, _++_, append-assoc}
 use Prim.Native.Nat.{ℕ, zero, suc, _+_, _-_, _≤_, _<_, suc-le-suc}
@@ -10,12 +10,15 @@ use native.Mathlib.Omega.{arith}
 use borrow.Author.Tests.{ltb-true, ltb-false, eqb-true, eqb-false, lt-ltb, le-ltb, eq-eqb, ne-eqb}
 use lib.Dec.{eqb, ltb}
 use lib.ListN.{length, take, drop, getD, length-drop, List·getD-append}
-use Rattle.walk.specs.Walk.{pick}
+use Rattle.words.specs.Numbers.{Bytes}
+use Rattle.walk.specs.Walk.{pick, Event, passed}
 use Rattle.walk.proofs.Apart.{zero-one, false-true}
 use Rattle.rules.specs.Rules as R
 use Rattle.recordings.specs.Answers.{value, indexed, numbered}
 use Rattle.recordings.proofs.Chosen.{refusal-value, indexed-one, numbered-one}
-use Rattle.index.specs.Events.{Entry, ofEvents, changes, lastOf, codesIn, sampleEntries, channelEntries, frameEntries, recordingEntries, entriesFrom, entries, codeBefore, IsEvent, earlier, Index}
+use Rattle.index.specs.Events.{Entry, ofEvents, changes, lastOf, codesIn, sampleEntries, entries, codeBefore, IsEvent, earlier, Index}
+use Rattle.index.proofs.Reading.{channelsRead, framesRead, recordingRead, recordingsRead, entriesRead}
+use Rattle.index.proofs.AsBefore.{entries-read}
 
 -- Lists by their indices
 
@@ -272,8 +275,8 @@ module _ (v : R.Contents) where
 
       -- the channels from k on; a frame has them all
       channels : (k : ℕ) (cs : List R.Channel) (ss : List (List ℕ)) → drop k (r .channels) ≡ cs → drop k (f .channels) ≡ ss →
-          Lists (From (InFrame i (suc j)) (λ e. e .channel) (suc k)) (channelEntries i (suc j) (take j (r .frames)) k cs ss)
-      unfolding channelEntries
+          Lists (From (InFrame i (suc j)) (λ e. e .channel) (suc k)) (channelsRead i (suc j) (take j (r .frames)) k cs ss)
+      unfolding channelsRead
       channels k [] ss d t = nothing (λ e y. past d (y .from) (y .one .one .one .described) (cc))
       channels k (c ∷ cs) [] d t = nothing (λ e y. past t (y .from) (y .one .one .one .sampled) (cc framed))
       channels k (c ∷ cs) (s ∷ ss) d t =
@@ -281,40 +284,44 @@ module _ (v : R.Contents) where
           let b = ahead (f .channels) k t in
           blocks by-channel (channel k c s (a .here) (b .here)) (channels (suc k) cs ss (a .behind) (b .behind))
 
-      frame : Lists (InFrame i (suc j)) (channelEntries i (suc j) (take j (r .frames)) 0 (r .channels) (f .channels))
+      frame : Lists (InFrame i (suc j)) (channelsRead i (suc j) (take j (r .frames)) 0 (r .channels) (f .channels))
       frame = all (λ e y. numbered-one _ _ (y .one .one .described) .0) (channels 0 (r .channels) (f .channels) refl refl)
 
     -- the frames from j on; a recording has them all
     frames : (j : ℕ) (before fs : List R.Frame) → drop j (r .frames) ≡ fs → before ≡ take j (r .frames) →
-        Lists (From (InRecording i) (λ e. e .frame) (suc j)) (frameEntries i (suc j) (r .channels) before fs)
-    unfolding frameEntries
+        Lists (From (InRecording i) (λ e. e .frame) (suc j)) (framesRead i (suc j) (r .channels) before fs)
+    unfolding framesRead
     frames j before [] d b = nothing (λ e y. past d (y .from) (y .one .one .framed) (cc))
     frames j before (f ∷ fs) d b =
         let a = ahead (r .frames) j d in
         blocks by-frame (rw (← b) at (frame j f fs d)) (frames (suc j) (before ++ (f ∷ [])) fs (a .behind) (rw b (a .before)))
 
-    recording : Lists (InRecording i) (recordingEntries i r)
+    recording : Lists (InRecording i) (recordingRead i r)
     recording = all (λ e y. numbered-one _ _ (y .one .framed) .0) (frames 0 [] (r .frames) refl refl)
 
   -- the recordings from i on
-  recordings : (i : ℕ) (rs : List R.Recording) → drop i (v .recordings) ≡ rs → Lists (From (IsEvent v) (λ e. e .recording) (suc i)) (entriesFrom (suc i) rs)
-  unfolding entriesFrom
+  recordings : (i : ℕ) (rs : List R.Recording) → drop i (v .recordings) ≡ rs → Lists (From (IsEvent v) (λ e. e .recording) (suc i)) (recordingsRead (suc i) rs)
+  unfolding recordingsRead
   recordings i [] d = nothing (λ e y. past d (y .from) (y .one .recorded) refl)
   recordings i (r ∷ rs) d =
       let a = ahead (v .recordings) i d in
       blocks by-recording (recording (suc i) r (a .here)) (recordings (suc i) rs (a .behind))
 
-  -- the index is exact
-  pub exact : Index v (entries v)
-  exact =
+  -- the list over the reading is exact
+  exact-read : Index v (entriesRead v)
+  exact-read =
       let x = all (λ e y. numbered-one _ _ (y .recorded) .0) (recordings 0 (v .recordings) refl) in
       record { only = x .only; every = x .every; ordered = x .ordered }
 
-  -- each event stands at one index only
-  pub once : (m n : ℕ) {e : Entry} → indexed (entries v) m ≡ value e → indexed (entries v) n ≡ value e → m ≡ n
-  once m n {e} h k = go (ltb m n) (ltb n m) refl refl
-    where
-      go : (x y : Bool) → ltb m n ≡ x → ltb n m ≡ y → m ≡ n
-      go true y p q = never-earlier e (exact .ordered m n e e (ltb-true m n p) h k)
-      go false true p q = never-earlier e (exact .ordered n m e e (ltb-true n m q) k h)
-      go false false p q = omega (arith, ltb-false m n p, ltb-false n m q)
+-- and so is the index of an accepted file
+pub exact : (s : List ℕ) → Bytes s → {v : R.File} {r : List ℕ} {t : List Event} → R.judge s ≡ passed v r t → Index (R.contents v) (entries s (R.contents v))
+exact s b {v} h = subst (λ (es : List Entry). Index (R.contents v) es) (sym (entries-read s b h)) (exact-read (R.contents v))
+
+-- each event stands at one index only
+pub once : {v : R.Contents} {es : List Entry} → Index v es → (m n : ℕ) {e : Entry} → indexed es m ≡ value e → indexed es n ≡ value e → m ≡ n
+once x m n {e} h k = go (ltb m n) (ltb n m) refl refl
+  where
+    go : (y z : Bool) → ltb m n ≡ y → ltb n m ≡ z → m ≡ n
+    go true z p q = never-earlier e (x .ordered m n e e (ltb-true m n p) h k)
+    go false true p q = never-earlier e (x .ordered n m e e (ltb-true n m q) k h)
+    go false false p q = omega (arith, ltb-false m n p, ltb-false n m q)

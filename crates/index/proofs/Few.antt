@@ -1,27 +1,34 @@
 -- How many entries there are at most: one for each byte of samples.
 -- Assumes nothing.
-use mathlib.Core.Path.{_≡_}
+use mathlib.Core.Path.{_≡_, subst}
 use mathlib.Core.Bool.{Bool, true, false}
-use mathlib.Core.List.{List, [], _∷_, _++_}
-use mathlib.Core.Option.{Option, some}
-use Prim.Native.Nat.{ℕ, zero, suc, _+_, _*_, _≤_}
-use native.Mathlib.Nat.{mul-one, suc-mul, mul-add, mul-le-mul-left}
+use mathlib.Core.List.{List, [], _∷_}
+use mathlib.Core.Option.{none}
+use Prim.Native.Nat.{ℕ, zero, suc, _-_, _*_, _≤_}
+use native.Mathlib.Nat.{mul-one, mul-add, mul-le-mul-left}
 use native.Mathlib.Omega.{arith}
 use lib.Dec.{eqb}
 use lib.ListN.{length, take, length-append}
 use lib.Seq.{take-length}
-use Rattle.walk.specs.Walk.{pick}
+use Rattle.words.specs.Numbers.{Bytes}
+use Rattle.walk.specs.Walk.{pick, Event, passed}
 use Rattle.rules.specs.Rules as R
 use Rattle.rules.specs.Rules.{sampleBytes, samplesIn, width}
 use Rattle.rules.specs.declared.Label.{Label}
 use Rattle.rules.specs.declared.Version.{Version}
 use Rattle.rules.specs.declared.Version.the-variants as Version
-use Rattle.rules.proofs.Canon.{RecordingsOk}
-use Rattle.rules.proofs.Renew.{All, FrameOk, SamplesOk}
-use Rattle.rules.proofs.Renewed.{RecordingOk}
+use Rattle.rules.proofs.Canon.{file-ok}
 use Rattle.rules.proofs.Sized.{longest}
-use Rattle.index.specs.Events.{ofEvents, lastOf, codesIn, sampleEntries, channelEntries, frameEntries, recordingEntries, entriesFrom}
+use Rattle.rules.proofs.Turn.{accepted}
+use Rattle.recordings.specs.Answers.{value}
+use Rattle.recordings.specs.Recordings.{Chosen, recordingOf}
+use Rattle.recordings.proofs.Chosen.{chosen-in}
+use Rattle.recordings.proofs.Reach.{one-ok}
+use Rattle.samples.specs.Frames.{ChosenFrame, frameOf}
+use Rattle.index.specs.Events.{ofEvents, lastOf, codesOf, sampleEntries, eachOf, channelEntries, frameEntries, recordingEntries}
+use Rattle.index.proofs.Channels.{Each, each-zero, each-first, each-others, each-few}
 use Rattle.index.proofs.Sampling.{entries-few}
+use Rattle.index.proofs.Standing.{recording-there, frame-there, codes-many}
 
 -- a sample has a byte
 pub width-least : (format : ℕ) → 1 ≤ width format
@@ -33,35 +40,38 @@ width-least format = go (eqb format 1) (eqb format 2)
     go false true = omega arith
     go false false = omega arith
 
-module _ (i t : ℕ) where
+module _ (s : List ℕ) (i j t : ℕ) where
   -- a channel of a frame
-  one-few : (j k b : ℕ) (y : R.Channel) (l : List ℕ) → length l ≡ samplesIn t y → length (pick (ofEvents y) (sampleEntries i j k 0 b l) []) ≤ samplesIn t y * width (y .format)
-  one-few j k b y l e = go (ofEvents y)
+  one-few : (k : ℕ) (y : R.Channel) → length (codesOf s i j k) ≡ samplesIn t y → length (channelEntries s i j k y) ≤ samplesIn t y * width (y .format)
+  unfolding channelEntries
+  one-few k y e = go (ofEvents y)
     where
       most : samplesIn t y ≤ samplesIn t y * width (y .format)
       most = omega (arith, mul-le-mul-left (samplesIn t y) (width-least (y .format)), mul-one (samplesIn t y))
 
-      go : (x : Bool) → length (pick x (sampleEntries i j k 0 b l) []) ≤ samplesIn t y * width (y .format)
-      go true = omega (arith, most, e, entries-few i j k 0 b l)
+      before : ℕ
+      before = lastOf 0 (codesOf s i (j - 1) k)
+
+      go : (x : Bool) → length (pick x (sampleEntries i j k 0 before (codesOf s i j k)) []) ≤ samplesIn t y * width (y .format)
+      go true = omega (arith, most, e, entries-few i j k 0 before (codesOf s i j k))
       go false = omega arith
 
-  -- some channels
-  pub channels-few : (j : ℕ) (before : List R.Frame) (k c : ℕ) (cs : List R.Channel) (ss : List (List ℕ)) → SamplesOk t cs ss → length (channelEntries i j before k (take c cs) ss) ≤ sampleBytes t (take c cs)
-  unfolding channelEntries sampleBytes
-  channels-few j before k zero cs ss ok = omega arith
-  channels-few j before k (suc c) [] ss ok = omega arith
-  channels-few j before k (suc c) (y ∷ cs) [] ok = absurd ok
-  channels-few j before k (suc c) (y ∷ cs) (l ∷ ss) ok =
-      rw (length-append) (omega (arith, one-few j (suc k) (lastOf 0 (codesIn k before)) y l (ok .0), channels-few j before (suc k) c cs ss (ok .2)))
+  -- some channels, whose samples are so many
+  abbrev Many : ℕ → R.Channel → Type 0
+  Many k y = length (codesOf s i j k) ≡ samplesIn t y
 
-  -- some frames
-  pub frames-few : (j : ℕ) (cs : List R.Channel) (before : List R.Frame) (n : ℕ) (fs : List R.Frame) → All (FrameOk t cs) fs → length (frameEntries i j cs before (take n fs)) ≤ n * sampleBytes t cs
-  unfolding frameEntries
-  frames-few j cs before zero fs ok = omega arith
-  frames-few j cs before (suc n) [] ok = omega arith
-  frames-few j cs before (suc n) (f ∷ fs) ok =
-      let c = rw (take-length cs) at (channels-few j before 0 (length cs) cs (f .channels) (ok .0 .samples)) in
-      rw length-append (omega (arith, c, frames-few (suc j) cs (before ++ (f ∷ [])) n fs (ok .1), suc-mul n (sampleBytes t cs)))
+  channels-few : (k c : ℕ) (cs : List R.Channel) → Each (λ n y. Many n y) k cs → length (eachOf (channelEntries s i j) k (take c cs)) ≤ sampleBytes t (take c cs)
+  unfolding eachOf sampleBytes
+  channels-few k zero cs h = omega arith
+  channels-few k (suc c) [] h = omega arith
+  channels-few k (suc c) (y ∷ cs) h = rw length-append (omega (arith, one-few (suc k) y (each-first (λ n x. Many n x) k y cs h), channels-few (suc k) c cs (each-others (λ n x. Many n x) k y cs h)))
+
+-- some channels of a frame that was asked for
+pub frame-few : (s : List ℕ) → Bytes s → (i j : ℕ) {f : ChosenFrame} → frameOf s i j ≡ value f → (c : ℕ) →
+    length (eachOf (channelEntries s i j) 0 (take c (f .of .this .recording .channels))) ≤ sampleBytes (f .of .this .recording .seconds) (take c (f .of .this .recording .channels))
+frame-few s b i j {f} is c =
+    let t : ℕ = f .of .this .recording .seconds in
+    channels-few s i j t 0 c (f .of .this .recording .channels) (each-zero (λ n y. Many s i j t n y) (f .of .this .recording .channels) (λ n y one. codes-many s b i j is n y one))
 
 -- a recording
 longest-most : (label : Label) → longest (R.mostOf label) ≤ 274877906944
@@ -74,17 +84,34 @@ longest-most label = go (label .version)
     go Version.V200 = omega arith
     go Version.V300 = omega arith
 
-module _ {label : Label} {held : Option R.Held} {r : R.Recording} (ok : RecordingOk label held r) where
-  pub recording-small : length (r .frames) * sampleBytes (r .seconds) (r .channels) ≤ 274877906944
-  recording-small = omega (arith, ok .frames .total, longest-most label, mul-add (length (r .frames)) 24 (sampleBytes (r .seconds) (r .channels)))
+module _ (s : List ℕ) (b : Bytes s) (i : ℕ) {r : Chosen} (asked : recordingOf s i ≡ value r) where
+  abbrev this : R.Recording
+  this = r .this .recording
 
-  recording-few : (i : ℕ) → length (recordingEntries i r) ≤ 274877906944
-  recording-few i = omega (arith, recording-small, rw (take-length (r .frames)) at (frames-few i (r .seconds) 1 (r .channels) [] (length (r .frames)) (r .frames) (ok .frames .each)))
+  -- some of its frames
+  pub frames-few : (n : ℕ) → length (eachOf (frameEntries s i (this .channels)) 0 (take n (this .frames))) ≤ n * sampleBytes (this .seconds) (this .channels)
+  unfolding frameEntries
+  frames-few n =
+      each-few (frameEntries s i (this .channels)) 0 n (sampleBytes (this .seconds) (this .channels)) (this .frames)
+      (each-zero (λ j g. length (frameEntries s i (this .channels) j g) ≤ sampleBytes (this .seconds) (this .channels)) (this .frames)
+      (λ j g is. rw (take-length (this .channels)) at (frame-few s b i (suc j) (frame-there s i asked j is) (length (this .channels)))))
 
--- some recordings
-pub recordings-few : (label : Label) (i : ℕ) (held : Option R.Held) (n : ℕ) (rs : List R.Recording) → RecordingsOk label held rs → length (entriesFrom i (take n rs)) ≤ n * 274877906944
-unfolding entriesFrom
-recordings-few label i held zero rs ok = omega arith
-recordings-few label i held (suc n) [] ok = omega arith
-recordings-few label i held (suc n) (r ∷ rs) ok =
-    rw length-append (omega (arith, recording-few (ok .0) i, recordings-few label (suc i) _ n rs (ok .1)))
+  -- it is as the rules ask
+  pub recording-small : length (this .frames) * sampleBytes (this .seconds) (this .channels) ≤ 274877906944
+  recording-small =
+      let c = chosen-in s b i r asked in
+      let label : Label = c .file .heading .label in
+      let ok = one-ok label none (c .file .recordings) (file-ok (length s) (accepted s b (c .judged) .plays) .recordings) (r .index) (r .this) (c .one) in
+      omega (arith, ok .1 .frames .total, longest-most label, mul-add (length (this .frames)) 24 (sampleBytes (this .seconds) (this .channels)))
+
+  recording-few : length (recordingEntries s i this) ≤ 274877906944
+  unfolding recordingEntries
+  recording-few = omega (arith, recording-small, rw (take-length (this .frames)) at (frames-few (length (this .frames))))
+
+-- some recordings of an accepted file
+pub recordings-few : (s : List ℕ) → Bytes s → {v : R.File} {r : List ℕ} {t : List Event} → R.judge s ≡ passed v r t → (n : ℕ) →
+    length (eachOf (recordingEntries s) 0 (take n (R.contents v .recordings))) ≤ n * 274877906944
+recordings-few s b {v} h n =
+    each-few (recordingEntries s) 0 n 274877906944 (R.contents v .recordings)
+    (each-zero (λ k x. length (recordingEntries s k x) ≤ 274877906944) (R.contents v .recordings)
+    (λ c x e. let y = recording-there s h c e in subst (λ (z : R.Recording). length (recordingEntries s (suc c) z) ≤ 274877906944) (y .2) (recording-few s b (suc c) (y .1))))

@@ -3,9 +3,11 @@ pub mod Quiet
 pub mod Words
 pub mod Sampling
 pub mod Channels
-pub mod Few
 pub mod Standing
+pub mod Few
 pub mod Framing
 pub mod Recorded
 pub mod Answers
+pub mod Reading
+pub mod AsBefore
 pub mod Exact

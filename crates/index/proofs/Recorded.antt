@@ -3,9 +3,8 @@
 use mathlib.Core.Path.{_≡_, refl, sym, ap, _∙_}
 use mathlib.Core.Bool.{Bool, true, false}
 use mathlib.Core.List.{List, [], _∷_}
-use mathlib.Core.Option.{none}
-use Prim.Native.Nat.{ℕ, zero, suc, _+_, _-_, _*_, _≤_, _<_}
-use native.Mathlib.Nat.{add-mul, mul-le-mul-right}
+use Prim.Native.Nat.{ℕ, zero, suc, _+_, _*_, _≤_, _<_}
+use native.Mathlib.Nat.{zero-add, add-mul, mul-le-mul-right}
 use native.Mathlib.Omega.{arith}
 use borrow.Author.Tests.{ltb-true, ltb-false}
 use lib.Dec.{ltb}
@@ -32,16 +31,15 @@ use Rattle.judge.specs.declared.recording.Recorded.the-variants as Recorded
 use Rattle.recordings.specs.Answers.{value, indexed}
 use Rattle.recordings.specs.Found.{FoundIn}
 use Rattle.recordings.specs.Recordings.{Chosen, recordingOf}
-use Rattle.recordings.proofs.Chosen.{One, in-between, chosen-in}
-use Rattle.recordings.proofs.Reach.{Going, Met, ok-of, one-ok, going-start, met, asked-found}
-use Rattle.samples.specs.Frames.{frameOf}
+use Rattle.recordings.proofs.Chosen.{One, in-between, indexed-in, chosen-in}
+use Rattle.recordings.proofs.Reach.{Going, Met, ok-of, going-start, met, asked-found}
 use Rattle.samples.proofs.Framing.{frame-of, frame-found-at}
 use Rattle.samples.proofs.Stretch.{kept-indexed, indexed-within}
-use Rattle.index.specs.Events.{ofEvents, channelEntries, frameEntries, recordingEntries, entriesFrom}
+use Rattle.index.specs.Events.{ofEvents, eachOf, channelEntries, frameEntries, recordingEntries}
 use Rattle.index.specs.Index.{numbers, entriesOf}
 use Rattle.index.specs.Listing.{eventsAt, FirstEvents, BehindEvents, ofFrame, ofRecording, StretchOf, FrameAhead, RecordingAhead, FileAhead}
 use Rattle.index.specs.declared.Stretch.{Stretch}
-use Rattle.index.proofs.Channels.{frames-more, frames-none, recordings-more}
+use Rattle.index.proofs.Channels.{some-one, each-more, frame-is, recording-none}
 use Rattle.index.proofs.Standing.{events-kept}
 use Rattle.index.proofs.Few.{frames-few, recording-small, recordings-few}
 
@@ -51,13 +49,13 @@ use Rattle.index.proofs.Few.{frames-few, recording-small, recordings-fe
 pub record Framed (o : Order) (s : List ℕ) (q : Places) (i : ℕ) (w : Bool) (out out₁ : List ℤ) (k k₁ j : ℕ) : Type 0 where
   pub ahead : RecordingAhead o s q i k
   pub few : j ≤ q .total
-  pub wrote : Wrote numbers 5 w out out₁ k k₁ (frameEntries i 1 (ahead .recording .this .recording .channels) [] (take j (ahead .recording .this .recording .frames)))
+  pub wrote : Wrote numbers 5 w out out₁ k k₁ (eachOf (frameEntries s i (ahead .recording .this .recording .channels)) 0 (take j (ahead .recording .this .recording .frames)))
 
 module _ {o : Order} {s : List ℕ} {q : Places} {i : ℕ} {w : Bool} {out : List ℤ} {k : ℕ} where
   -- no channel is of events: those before the first are not, nor those behind the last
   pub framed-none : RecordingAhead o s q i k → (first end : ℕ) → FirstEvents o s (q .channels + 32) (q .count) first → BehindEvents o s (q .channels + 32) (q .count) end → end ≤ first →
-      Wrote numbers 5 w out out k k (ofRecording i (recordingOf s i))
-  framed-none a first end f b l = rw (a .found .is, frames-none i 1 cs [] (a .recording .this .recording .frames) quiet) (wrote-nothing numbers 5 (λ _. refl) w out k)
+      Wrote numbers 5 w out out k k (ofRecording s i (recordingOf s i))
+  framed-none a first end f b l = rw (a .found .is, recording-none s i (a .recording .this .recording) quiet) (wrote-nothing numbers 5 (λ _. refl) w out k)
     where
       cs : List R.Channel
       cs = a .recording .this .recording .channels
@@ -72,7 +70,7 @@ module _ {o : Order} {s : List ℕ} {q : Places} {i : ℕ} {w : Bool} {out : Lis
           silent c (omega (arith, indexed-within cs c e, a .found .owned .stand .count)) (ltb c first) refl
 
   pub framed-start : RecordingAhead o s q i k → Framed o s q i w out out k k 0
-  unfolding frameEntries
+  unfolding eachOf
   framed-start a = record { ahead = a; few = omega arith; wrote = wrote-nothing numbers 5 (λ _. refl) w out k }
 
   module _ {out₁ : List ℤ} {k₁ j : ℕ} (t : Framed o s q i w out out₁ k k₁ j) where
@@ -82,14 +80,12 @@ module _ {o : Order} {s : List ℕ} {q : Places} {i : ℕ} {w : Bool} {out : Lis
     abbrev bytes : ℕ
     bytes = sampleBytes (q .seconds) (this .channels)
 
-    -- the recording is as the rules ask
-    frames-ok : length (frameEntries i 1 (this .channels) [] (take j (this .frames))) ≤ j * bytes
-    frames-ok =
+    -- at most an entry for each byte of their samples
+    frames-small : length (eachOf (frameEntries s i (this .channels)) 0 (take j (this .frames))) ≤ j * bytes
+    frames-small =
         let f = t .ahead .found in
-        let c = chosen-in s (f .bytes) i (t .ahead .recording) (f .is) in
-        let ok = one-ok (c .file .heading .label) none (c .file .recordings) (file-ok (length s) (accepted s (f .bytes) (c .judged) .plays) .recordings) (t .ahead .recording .index) (t .ahead .recording .this) (c .one) in
         let e : q .seconds ≡ this .seconds = ap (λ (p : Places). p .seconds) (f .same) in
-        omega (arith, frames-few i (this .seconds) 1 (this .channels) [] j (this .frames) (ok .1 .frames .each), ap (λ (t : ℕ). j * sampleBytes t (this .channels)) e)
+        omega (arith, frames-few s (f .bytes) i (f .is) j, ap (λ (t : ℕ). j * sampleBytes t (this .channels)) e)
 
     -- the next frame
     pub framed-ahead : (e : Stretch) → StretchOf o s q e → j < q .total → FrameAhead o s q e i (j + 1) k₁
@@ -102,28 +98,24 @@ module _ {o : Order} {s : List ℕ} {q : Places} {i : ℕ} {w : Bool} {out : Lis
           frame = x .0;
           stands = x .1;
           stretch = stretch;
-          room = rw same (omega (arith, t .ahead .room, t .wrote .next, frames-ok, more, add-mul j 1 bytes));
+          room = rw same (omega (arith, t .ahead .room, t .wrote .next, frames-small, more, add-mul j 1 bytes));
         }
 
-    pub framed-more : {out₂ : List ℤ} {k₂ : ℕ} → j < q .total → Wrote numbers 5 w out₁ out₂ k₁ k₂ (ofFrame i (j + 1) (frameOf s i (j + 1))) → Framed o s q i w out out₂ k k₂ (j + 1)
+    pub framed-more : {out₂ : List ℤ} {k₂ : ℕ} → j < q .total → Wrote numbers 5 w out₁ out₂ k₁ k₂ (ofFrame s i (j + 1) (recordingOf s i)) → Framed o s q i w out out₂ k k₂ (j + 1)
     framed-more {out₂} {k₂} l h =
-        let x = frame-found-at (t .ahead .found) (j + 1) (in-between 1 (q .total) (j + 1) (omega arith) (omega arith)) in
-        let b = frame-of s (t .ahead .found .bytes) i (j + 1) (x .1 .is) in
-        let same : x .0 .of ≡ t .ahead .recording = cc (b .asked, t .ahead .found .is) in
-        let d : j + 1 - 1 ≡ j = omega arith in
+        let x = some-one (this .frames) j (omega (arith, l, t .ahead .found .frames)) in
         let e : j + 1 ≡ suc j = omega arith in
-        let one : One (this .frames) j (x .0 .frame) = rw (same, d) at (b .one) in
-        let path : ofFrame i (j + 1) (frameOf s i (j + 1)) ≡ channelEntries i (suc j) (take j (this .frames)) 0 (this .channels) (x .0 .frame .channels) =
-        ap (ofFrame i (j + 1)) (x .1 .is) ∙ ap (λ (r : Chosen). channelEntries i (j + 1) (take (j + 1 - 1) (r .this .recording .frames)) 0 (r .this .recording .channels) (x .0 .frame .channels)) same ∙
-        ap (λ (n : ℕ). channelEntries i (j + 1) (take n (this .frames)) 0 (this .channels) (x .0 .frame .channels)) d ∙ ap (λ (n : ℕ). channelEntries i n (take j (this .frames)) 0 (this .channels) (x .0 .frame .channels)) e in
-        let y : Wrote numbers 5 w out₁ out₂ k₁ k₂ (channelEntries i (suc j) (take j (this .frames)) 0 (this .channels) (x .0 .frame .channels)) = rw path at h in
+        let path : ofFrame s i (j + 1) (recordingOf s i) ≡ frameEntries s i (this .channels) (suc j) (x .0) =
+        ap (ofFrame s i (j + 1)) (t .ahead .found .is) ∙ (ap (λ (n : ℕ). eachOf (channelEntries s i n) 0 (this .channels)) e ∙ frame-is s i (this .channels) (suc j) (x .0)) in
+        let y : Wrote numbers 5 w out₁ out₂ k₁ k₂ (frameEntries s i (this .channels) (suc j) (x .0)) = rw path at h in
         record {
           ahead = t .ahead;
           few = omega arith;
-          wrote = rw (e, frames-more i (this .channels) j (this .frames) (x .0 .frame) one) (wrote-join numbers 5 (λ _. refl) w out out₁ out₂ k k₁ k₂ _ _ (t .wrote) y);
+          wrote = rw (e, each-more (frameEntries s i (this .channels)) 0 j (this .frames) (x .1), zero-add j) (wrote-join numbers 5 (λ _. refl) w out out₁ out₂ k k₁ k₂ _ _ (t .wrote) y);
         }
 
-    pub framed-all : q .total ≤ j → Wrote numbers 5 w out out₁ k k₁ (ofRecording i (recordingOf s i))
+    pub framed-all : q .total ≤ j → Wrote numbers 5 w out out₁ k k₁ (ofRecording s i (recordingOf s i))
+    unfolding recordingEntries
     framed-all l =
         let whole : take j (this .frames) ≡ this .frames = take-all j (this .frames) (omega (arith, t .ahead .found .frames)) in
         rw (t .ahead .found .is) (rw whole at (t .wrote))
@@ -137,11 +129,11 @@ pub record Filed (o : Order) (label : Label) (s : List ℕ) (count : ℕ) (w : B
   pub inside : p ≤ length s
   pub room : HeldWithin (length s) before
   pub going : Going o label s (ahead .header .count) (ahead .accepted .file .recordings) p i before
-  pub wrote : Wrote numbers 5 w out out₁ 0 k (entriesFrom 1 (take i (readings (ahead .accepted .file .recordings))))
+  pub wrote : Wrote numbers 5 w out out₁ 0 k (eachOf (recordingEntries s) 0 (take i (readings (ahead .accepted .file .recordings))))
 
 module _ {o : Order} {label : Label} {s : List ℕ} {count : ℕ} {w : Bool} {out : List ℤ} where
   pub filed-start : 32 ≤ length s → FileAhead o label s count → Filed o label s count w out out 0 32 0 Before.Nothing
-  unfolding entriesFrom
+  unfolding eachOf
   filed-start l a = record {
     ahead = a;
     few = omega arith;
@@ -193,34 +185,33 @@ module _ {o : Order} {label : Label} {s : List ℕ} {count : ℕ} {w : Bool} {ou
         pub filed-ahead : RecordingAhead o s q (i + 1) k
         filed-ahead =
             let v = file-ok (length s) (accepted s b (t .ahead .accepted .judged) .plays) in
-            let c = chosen-in s b (i + 1) (found .0) (found .1 .is) in
-            let ok = one-ok (c .file .heading .label) none (c .file .recordings) (file-ok (length s) (accepted s b (c .judged) .plays) .recordings) (found .0 .index) (found .0 .this) (c .one) in
             let e : q .seconds ≡ found .0 .this .recording .seconds = ap (λ (x : Places). x .seconds) (found .1 .same) in
             let all : q .total * sampleBytes (q .seconds) (found .0 .this .recording .channels) ≡ length (found .0 .this .recording .frames) * sampleBytes (found .0 .this .recording .seconds) (found .0 .this .recording .channels) =
             ap (λ (n : ℕ). n * sampleBytes (q .seconds) (found .0 .this .recording .channels)) (found .1 .frames) ∙ ap (λ (n : ℕ). length (found .0 .this .recording .frames) * sampleBytes n (found .0 .this .recording .channels)) e in
-            let few = recordings-few (file .heading .label) 1 none i rs (v .recordings) in
+            let few = recordings-few s b (t .ahead .accepted .judged) i in
             let most = between-in 1 64 (length rs) (v .header .count) in
             record {
               recording = found .0;
               found = found .1;
-              room = omega (arith, recording-small (ok .1), all, few, most .1, t .wrote .next, next-one .inside);
+              room = omega (arith, recording-small s b (i + 1) (found .1 .is), all, few, most .1, t .wrote .next, next-one .inside);
             }
 
-        pub filed-more : {out₂ : List ℤ} {k₂ : ℕ} → Wrote numbers 5 w out₁ out₂ k k₂ (ofRecording (i + 1) (recordingOf s (i + 1))) → Filed o label s count w out out₂ k₂ (q .end) (i + 1) (Before.These q)
+        pub filed-more : {out₂ : List ℤ} {k₂ : ℕ} → Wrote numbers 5 w out₁ out₂ k k₂ (ofRecording s (i + 1) (recordingOf s (i + 1))) → Filed o label s count w out out₂ k₂ (q .end) (i + 1) (Before.These q)
         filed-more {out₂} {k₂} h =
             let u = rw on at (again .continues) in
             let e : i + 1 ≡ suc i = omega arith in
-            let y : Wrote numbers 5 w out₁ out₂ k k₂ (recordingEntries (suc i) (found .0 .this .recording)) = rw (found .1 .is, e) at h in
+            let y : Wrote numbers 5 w out₁ out₂ k k₂ (recordingEntries s (suc i) (found .0 .this .recording)) = rw (found .1 .is, e) at h in
+            let one : indexed rs i ≡ value (found .0 .this .recording) = indexed-in (found .0 .this .recording) rs i (next-one .inside) ∙ ap value (next-one .is (found .0 .this .recording)) in
             record {
               ahead = t .ahead;
               few = omega arith;
               inside = u .end;
               room = u .channels;
               going = on-next;
-              wrote = rw (e, recordings-more i rs (found .0 .this .recording) next-one) (wrote-join numbers 5 (λ _. refl) w out out₁ out₂ 0 k k₂ _ _ (t .wrote) y);
+              wrote = rw (e, each-more (recordingEntries s) 0 i rs one, zero-add i) (wrote-join numbers 5 (λ _. refl) w out out₁ out₂ 0 k k₂ _ _ (t .wrote) y);
             }
 
-    pub filed-all : count ≤ i → Wrote numbers 5 w out out₁ 0 k (entriesOf (R.judge s))
+    pub filed-all : count ≤ i → Wrote numbers 5 w out out₁ 0 k (entriesOf s (R.judge s))
     filed-all l =
         let x = t .ahead .accepted in
         let whole : take i rs ≡ rs = take-all i rs (omega (arith, l, t .ahead .count, x .count, length-map (file .recordings) (λ (y : R.Placed). y .recording))) in

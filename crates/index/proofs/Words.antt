@@ -1,4 +1,4 @@
--- Words of two bytes that stand one after the other, as a list.
+-- Numbers that stand one after the other, as a list; and words of two bytes.
 -- Assumes nothing.
 use mathlib.Core.Path.{_≡_, refl, sym, ap, _∙_}
 use mathlib.Core.List.{List, [], _∷_, _++_}
@@ -6,15 +6,18 @@ use Prim.Native.Nat.{ℕ, zero, suc, _+_, _*_, _<_}
 use native.Mathlib.Nat.{add-zero}
 use native.Mathlib.Omega.{arith}
 use lib.ListN.{length, getD}
-use Rattle.words.specs.Numbers.{numberAt}
+use Rattle.words.specs.Numbers.{numberAt, numbersAt}
 use Rattle.words.specs.declared.Order.{Order}
 use Rattle.index.specs.Events.{lastOf}
 use Rattle.index.specs.Listing.{wordsAt}
 
+pub length-numbers : (o : Order) (w : ℕ) (s : List ℕ) (at n : ℕ) → length (numbersAt o w n s at) ≡ n
+length-numbers o w s at zero = refl
+length-numbers o w s at (suc n) = ap suc (length-numbers o w s (at + w) n)
+
 module _ (o : Order) (s : List ℕ) where
   pub length-words : (at n : ℕ) → length (wordsAt o s at n) ≡ n
-  length-words at zero = refl
-  length-words at (suc n) = ap suc (length-words (at + 2) n)
+  length-words at n = length-numbers o 2 s at n
 
   -- some, and those behind them
   pub words-add : (at m n : ℕ) → wordsAt o s at (m + n) ≡ wordsAt o s at m ++ wordsAt o s (at + 2 * m) n

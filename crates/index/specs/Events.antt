@@ -1,4 +1,4 @@
--- The night events of a file, as document 02 says it (request 7), over the reading.
+-- The night events of a file, as document 02 says it (request 7): as a list, by the places of the samples (request 8); and what the list is, over the reading.
 -- Assumes nothing.
 use mathlib.Core.Path.{_≡_}
 use mathlib.Core.Bool.{Bool, true, _&&_, not}
@@ -6,9 +6,12 @@ use mathlib.Core.List.{List, [], _∷_, _++_}
 use Prim.Native.Nat.{ℕ, suc, _+_, _-_, _<_}
 use lib.Dec.{eqb, ltb}
 use lib.ListN.{length, take, getD}
+use Rattle.words.specs.Numbers.{numbersAt}
 use Rattle.walk.specs.Walk.{pick}
 use Rattle.rules.specs.Rules as R
-use Rattle.recordings.specs.Answers.{value, indexed, numbered}
+use Rattle.recordings.specs.Answers.{Answer, value, refusal, indexed, numbered}
+use Rattle.samples.specs.Placed.{placeOf, bytesOf}
+use Rattle.samples.specs.declared.Place.{Place}
 
 -- an entry: a sample by recording, frame and channel, each from 1, and by its place in the frame, from 0; and its code, an unsigned number of 16 bits
 pub record Entry : Type 0 where
@@ -33,44 +36,49 @@ unfoldable pub lastOf : ℕ → List ℕ → ℕ
 lastOf before [] = before
 lastOf before (c ∷ cs) = lastOf c cs
 
+-- the codes of a channel of a frame from this place on, behind the one before them
+unfoldable pub sampleEntries : (recording frame channel place before : ℕ) → List ℕ → List Entry
+sampleEntries recording frame channel place before [] = []
+sampleEntries recording frame channel place before (c ∷ cs) =
+    pick (changes before c) (record { recording = recording; frame = frame; channel = channel; place = place; code = c } ∷ []) [] ++
+    sampleEntries recording frame channel (suc place) c cs
+
+-- the codes that stand at a place of the file s; none where there is no place
+abbrev pub codesAt : List ℕ → Answer Place → List ℕ
+codesAt s (value p) = numbersAt (R.orderOf s) (p .width) (p .count) (bytesOf s p) 0
+codesAt s (refusal n p) = []
+
+-- those of channel k in frame j of recording i, each from 1
+unfoldable pub codesOf : List ℕ → (i j k : ℕ) → List ℕ
+codesOf s i j k = codesAt s (placeOf s i j k)
+
+-- what each of a list has, numbered behind the first k
+unfoldable pub eachOf : {A : Type 0} → (ℕ → A → List Entry) → ℕ → List A → List Entry
+eachOf f k [] = []
+eachOf f k (a ∷ l) = f (suc k) a ++ eachOf f (suc k) l
+
+-- the entries of channel k, which is c, in a frame: before its first code stands the last of the frame before, or 0
+unfoldable pub channelEntries : List ℕ → (i j k : ℕ) → R.Channel → List Entry
+channelEntries s i j k c = pick (ofEvents c) (sampleEntries i j k 0 (lastOf 0 (codesOf s i (j - 1) k)) (codesOf s i j k)) []
+
+-- of frame j of a recording with these channels
+unfoldable pub frameEntries : List ℕ → ℕ → List R.Channel → ℕ → R.Frame → List Entry
+frameEntries s i cs j f = eachOf (channelEntries s i j) 0 cs
+
+-- of recording i
+unfoldable pub recordingEntries : List ℕ → ℕ → R.Recording → List Entry
+recordingEntries s i r = eachOf (frameEntries s i (r .channels)) 0 (r .frames)
+
+-- of the file s with this reading
+abbrev pub entries : List ℕ → R.Contents → List Entry
+entries s v = eachOf (recordingEntries s) 0 (v .recordings)
+
+-- What the list is
+
 -- the codes of a channel, from 0, in some frames, one after the other
 unfoldable pub codesIn : ℕ → List R.Frame → List ℕ
 codesIn k [] = []
 codesIn k (f ∷ fs) = getD (f .channels) k [] ++ codesIn k fs
-
--- of a recording and a frame
-module _ (recording frame : ℕ) where
-  -- the codes of a channel from this place on, behind the one before them
-  unfoldable pub sampleEntries : (channel place before : ℕ) → List ℕ → List Entry
-  sampleEntries channel place before [] = []
-  sampleEntries channel place before (c ∷ cs) =
-      pick (changes before c) (record { recording = recording; frame = frame; channel = channel; place = place; code = c } ∷ []) [] ++
-      sampleEntries channel (suc place) c cs
-
-  -- the channels from k on, from 0, each with its samples; these frames of the recording stand before
-  unfoldable pub channelEntries : List R.Frame → ℕ → List R.Channel → List (List ℕ) → List Entry
-  channelEntries before k [] ss = []
-  channelEntries before k (c ∷ cs) [] = []
-  channelEntries before k (c ∷ cs) (s ∷ ss) =
-      pick (ofEvents c) (sampleEntries (suc k) 0 (lastOf 0 (codesIn k before)) s) [] ++ channelEntries before (suc k) cs ss
-
--- the frames from this one on, of a recording with these channels
-unfoldable pub frameEntries : (recording frame : ℕ) → List R.Channel → List R.Frame → List R.Frame → List Entry
-frameEntries recording frame cs before [] = []
-frameEntries recording frame cs before (f ∷ fs) =
-    channelEntries recording frame before 0 cs (f .channels) ++ frameEntries recording (suc frame) cs (before ++ (f ∷ [])) fs
-
-abbrev pub recordingEntries : ℕ → R.Recording → List Entry
-recordingEntries recording r = frameEntries recording 1 (r .channels) [] (r .frames)
-
-unfoldable pub entriesFrom : ℕ → List R.Recording → List Entry
-entriesFrom recording [] = []
-entriesFrom recording (r ∷ rs) = recordingEntries recording r ++ entriesFrom (suc recording) rs
-
-abbrev pub entries : R.Contents → List Entry
-entries v = entriesFrom 1 (v .recordings)
-
--- What the list is
 
 -- the code before that of sample `place` of a frame, in that channel and recording; the first of a recording counts as after 0
 abbrev pub codeBefore : R.Recording → (frame channel place : ℕ) → ℕ

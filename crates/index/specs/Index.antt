@@ -30,25 +30,25 @@ counted es room = pick (leb (5 * length es) room) (value (length es)) (refusal 1
 abbrev pub kept : List Entry → List ℤ → List ℤ
 kept es out = pick (leb (5 * length es) (length out)) (written numbers 5 true out 0 es) out
 
--- the entries of a file: none where it is refused
-abbrev pub entriesOf : Outcome R.File → List Entry
-entriesOf (refused n p) = []
-entriesOf (passed v r t) = entries (R.contents v)
+-- the entries of the file s: none where it is refused
+abbrev pub entriesOf : List ℕ → Outcome R.File → List Entry
+entriesOf s (refused n p) = []
+entriesOf s (passed v r t) = entries s (R.contents v)
 
-abbrev pub answered : Outcome R.File → ℕ → Answer ℕ
-answered (refused n p) room = refusal n p
-answered (passed v r t) room = counted (entries (R.contents v)) room
+abbrev pub answered : List ℕ → Outcome R.File → ℕ → Answer ℕ
+answered s (refused n p) room = refusal n p
+answered s (passed v r t) room = counted (entries s (R.contents v)) room
 
-abbrev pub holding : Outcome R.File → List ℤ → List ℤ
-holding (refused n p) out = out
-holding (passed v r t) out = kept (entries (R.contents v)) out
+abbrev pub holding : List ℕ → Outcome R.File → List ℤ → List ℤ
+holding s (refused n p) out = out
+holding s (passed v r t) out = kept (entries s (R.contents v)) out
 
 -- the answer for a file, with room for so many numbers; and the buffer afterwards
 abbrev pub answerOf : List ℕ → ℕ → Answer ℕ
-answerOf s room = answered (R.judge s) room
+answerOf s room = answered s (R.judge s) room
 
 abbrev pub afterwards : List ℕ → List ℤ → List ℤ
-afterwards s out = holding (R.judge s) out
+afterwards s out = holding s (R.judge s) out
 
 -- what `index` does with the file s and a buffer
 pub record Indexes (s : List ℕ) (out out′ : List ℤ) (a : Indexed) : Type 0 where

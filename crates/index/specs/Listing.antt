@@ -6,7 +6,7 @@ use mathlib.Core.List.{List, [], _∷_}
 use Prim.Native.Nat.{ℕ, suc, _+_, _-_, _*_, _/_, _%_, _≤_, _<_}
 use lib.Dec.{eqb}
 use lib.IntN.{ℤ}
-use lib.ListN.{length, take, getD}
+use lib.ListN.{length, take}
 use Rattle.words.specs.Lent.{Wrote}
 use Rattle.words.specs.Numbers.{numberAt, numbersAt}
 use Rattle.words.specs.Sizes.{Addressable}
@@ -21,10 +21,10 @@ use Rattle.descriptions.specs.declared.Places.{Places}
 use Rattle.judge.specs.Judged.{AcceptedAs}
 use Rattle.recordings.specs.Answers.{Answer, value, refusal, indexed}
 use Rattle.recordings.specs.Found.{FoundIn}
-use Rattle.recordings.specs.Recordings.{Chosen}
+use Rattle.recordings.specs.Recordings.{Chosen, recordingOf}
 use Rattle.samples.specs.Asked.{FrameStands}
-use Rattle.samples.specs.Frames.{ChosenFrame, frameOf}
-use Rattle.index.specs.Events.{Entry, ofEvents, lastOf, codesIn, sampleEntries, channelEntries, recordingEntries}
+use Rattle.samples.specs.Frames.{ChosenFrame}
+use Rattle.index.specs.Events.{Entry, eachOf, channelEntries, recordingEntries}
 use Rattle.index.specs.Index.{numbers}
 use Rattle.index.specs.declared.Passed.{Passed}
 use Rattle.index.specs.declared.Spot.{Spot}
@@ -118,24 +118,15 @@ pub record Behind (bytes frame at n size : ℕ) : Type 0 where
 unfoldable pub codeBehind : Order → List ℕ → (frame at n size : ℕ) → ℕ
 codeBehind o s frame at n size = pick (eqb frame 1) 0 (numberAt o 2 s (at - size + 2 * (n - 1)))
 
--- What each lists: a channel of a frame, a frame, and a recording
+-- What each lists: a frame, and a recording
 
-abbrev pub inChannel : (i j c : ℕ) → ChosenFrame → Answer R.Channel → List Entry
-inChannel i j c f (refusal n p) = []
-inChannel i j c f (value y) =
-    pick (ofEvents y) (sampleEntries i j (suc c) 0 (lastOf 0 (codesIn c (take (j - 1) (f .of .this .recording .frames)))) (getD (f .frame .channels) c [])) []
+abbrev pub ofFrame : List ℕ → (i j : ℕ) → Answer Chosen → List Entry
+ofFrame s i j (refusal n p) = []
+ofFrame s i j (value r) = eachOf (channelEntries s i j) 0 (r .this .recording .channels)
 
-abbrev pub ofChannel : (i j c : ℕ) → Answer ChosenFrame → List Entry
-ofChannel i j c (refusal n p) = []
-ofChannel i j c (value f) = inChannel i j c f (indexed (f .of .this .recording .channels) c)
-
-abbrev pub ofFrame : (i j : ℕ) → Answer ChosenFrame → List Entry
-ofFrame i j (refusal n p) = []
-ofFrame i j (value f) = channelEntries i j (take (j - 1) (f .of .this .recording .frames)) 0 (f .of .this .recording .channels) (f .frame .channels)
-
-abbrev pub ofRecording : ℕ → Answer Chosen → List Entry
-ofRecording i (refusal n p) = []
-ofRecording i (value r) = recordingEntries i (r .this .recording)
+abbrev pub ofRecording : List ℕ → ℕ → Answer Chosen → List Entry
+ofRecording s i (refusal n p) = []
+ofRecording s i (value r) = recordingEntries s i (r .this .recording)
 
 -- where frame j of the recording with the places q stands
 abbrev pub frameFrom : Places → ℕ → ℕ
@@ -154,11 +145,12 @@ pub record ChannelAhead (o : Order) (s : List ℕ) (q : Places) (x : Spot) (c at
   -- at most an entry each
   pub room : (y : R.Channel) → indexed (frame .of .this .recording .channels) c ≡ value y → Addressable (k + 5 * R.samplesIn (q .seconds) y)
 
--- its entries, and where the samples of the next channel stand
+-- its entries, and where the samples of the next channel stand; the recording is r, and the channel y
 pub record ChannelListed (s : List ℕ) (x : Spot) (c at : ℕ) (write : Bool) (out out′ : List ℤ) (k : ℕ) (p : Passed) : Type 0 where
-  pub behind : (f : ChosenFrame) (y : R.Channel) → frameOf s (x .recording) (x .frame) ≡ value f → indexed (f .of .this .recording .channels) c ≡ value y →
-      p .at ≡ at + R.samplesIn (f .of .this .recording .seconds) y * R.width (y .format)
-  pub wrote : Wrote numbers 5 write out out′ k (p .k) (ofChannel (x .recording) (x .frame) c (frameOf s (x .recording) (x .frame)))
+  pub behind : (r : Chosen) (y : R.Channel) → recordingOf s (x .recording) ≡ value r → indexed (r .this .recording .channels) c ≡ value y →
+      p .at ≡ at + R.samplesIn (r .this .recording .seconds) y * R.width (y .format)
+  pub wrote : (r : Chosen) (y : R.Channel) → recordingOf s (x .recording) ≡ value r → indexed (r .this .recording .channels) c ≡ value y →
+      Wrote numbers 5 write out out′ k (p .k) (channelEntries s (x .recording) (x .frame) (suc c) y)
 
 -- the channels of events of the recording with the places q lie in this stretch
 pub record StretchOf (o : Order) (s : List ℕ) (q : Places) (e : Stretch) : Type 0 where

@@ -7,7 +7,6 @@ ghost use Rattle.words.specs.Lent.{Wrote};
 ghost use Rattle.words.specs.declared.Order.the-variants.{Little};
 ghost use Rattle.rules.specs.Rules as R;
 ghost use Rattle.recordings.specs.Recordings.{recordingOf};
-ghost use Rattle.samples.specs.Frames.{frameOf};
 ghost use Rattle.index.specs.Events.{sampleEntries};
 ghost use Rattle.index.specs.Index.{numbers, entriesOf, Indexes};
 ghost use Rattle.index.specs.Listing.{entryAt, ofChange, pairOf, wordsAt, Ahead, Eight, SamePairs, Samples, Same, Repeated, SamplesAhead};
@@ -29,6 +28,8 @@ use rules::Frame;
 use rules::Frames;
 use rules::Label;
 use rules::Refusal;
+use samples::Place;
+use samples::part;
 use words::Order;
 use words::number2;
 use words::number4;
@@ -241,7 +242,8 @@ fn channel_entries(
     let format = number4(o, file, p + Channel::FORMAT);
     let rate = number4(o, file, p + Channel::RATE);
     let n = samples_in(q.seconds, flags, rate);
-    let end = at + width(format) * n;
+    let wide = width(format);
+    let end = at + wide * n;
     if n == 0 {
         return Passed { at: end, k };
     }
@@ -249,7 +251,12 @@ fn channel_entries(
         return Passed { at: end, k };
     }
     let before = code_before(o, file, spot.frame, at, n, q.frame);
-    let next = sample_entries(o, &file[at..end], n, before, spot, out, k, write);
+    let place = Place {
+        position: at,
+        width: wide,
+        count: n,
+    };
+    let next = sample_entries(o, part(file, place), n, before, spot, out, k, write);
     Passed { at: end, k: next }
 }
 
@@ -267,7 +274,7 @@ fn frame_entries(
 ) -> usize
     requires { ⌜ FrameAhead o (now file) q e recording frame k ⌝ }
     ensures { λ r. ⌜ Wrote numbers 5 write (now (out .entry)) (now (out .exit)) k r
-        (ofFrame recording frame (frameOf (now (file .entry)) recording frame)) ⌝ }
+        (ofFrame (now (file .entry)) recording frame (recordingOf (now (file .entry)) recording)) ⌝ }
 {
     let start = q.frames + Frames::FIRST + q.frame * (frame - 1) as usize;
     let mut at = start + Frame::SAMPLES + e.before;
@@ -299,7 +306,7 @@ fn recording_entries(
 ) -> usize
     requires { ⌜ RecordingAhead o (now file) q recording k ⌝ }
     ensures { λ r. ⌜ Wrote numbers 5 write (now (out .entry)) (now (out .exit)) k r
-        (ofRecording recording (recordingOf (now (file .entry)) recording)) ⌝ }
+        (ofRecording (now (file .entry)) recording (recordingOf (now (file .entry)) recording)) ⌝ }
 {
     let subs = q.channels + Channels::SUBS;
     let first = first_events(o, file, subs, q.count);
@@ -328,7 +335,8 @@ fn file_entries(
     write: bool,
 ) -> usize
     requires { ⌜ FileAhead o label (now file) count ⌝ }
-    ensures { λ r. ⌜ Wrote numbers 5 write (now (out .entry)) (now (out .exit)) 0 r (entriesOf (R.judge (now (file .entry)))) ⌝ }
+    ensures { λ r. ⌜ Wrote numbers 5 write (now (out .entry)) (now (out .exit)) 0 r
+        (entriesOf (now (file .entry)) (R.judge (now (file .entry)))) ⌝ }
 {
     let mut at = FileHeader::LENGTH;
     let mut before = Before::Nothing;

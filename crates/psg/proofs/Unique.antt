@@ -10,7 +10,7 @@ use Rattle.runs.specs.declared.Sibling.{Sibling}
 use Rattle.answers.specs.Flat.{Leaves}
 use Rattle.psg.specs.Calls.{JudgeAnswers, TableAnswers, TurnAnswers, RewriteAnswers, RoomAnswers}
 use Rattle.psg.specs.Calls.{HeaderAnswers, FactsAnswers, ChannelAnswers, MontageCountAnswers, MontageAnswers, PatientItemAnswers, EventItemAnswers}
-use Rattle.psg.specs.Calls.{ClockAnswers, CountAnswers, SampleAnswers, ViewAnswers, RunAnswers, IndexAnswers}
+use Rattle.psg.specs.Calls.{ClockAnswers, PlaceAnswers, PartAnswers, SampleAnswers, RunAnswers, IndexAnswers}
 use Rattle.psg.specs.Calls.{KindAnswers}
 use Rattle.answers.specs.declared.Channel.{Channel}
 use Rattle.answers.specs.declared.Clock.{Clock}
@@ -21,8 +21,9 @@ use Rattle.answers.specs.declared.Heading.{Heading}
 use Rattle.answers.specs.declared.Item.{Item}
 use Rattle.answers.specs.declared.Kind.{Kind}
 use Rattle.answers.specs.declared.Montage.{Montage}
+use Rattle.answers.specs.declared.Part.{Part}
+use Rattle.answers.specs.declared.Place.{Place}
 use Rattle.answers.specs.declared.Sample.{Sample}
-use Rattle.answers.specs.declared.View.{View}
 
 -- what is one thing is one
 only : {A : Type 0} {x a b : A} → a ≡ x → b ≡ x → a ≡ b
@@ -73,14 +74,11 @@ module _ (s : List ℕ) where
   pub psg-clock-unique : (i j : ℕ) (a b : Clock) → ClockAnswers s i j a → ClockAnswers s i j b → a ≡ b
   psg-clock-unique i j a b = only
 
-  pub psg-count-unique : (i j k : ℕ) (a b : Counted) → CountAnswers s i j k a → CountAnswers s i j k b → a ≡ b
-  psg-count-unique i j k a b = only
+  pub psg-place-unique : (i j k : ℕ) (a b : Place) → PlaceAnswers s i j k a → PlaceAnswers s i j k b → a ≡ b
+  psg-place-unique i j k a b = only
 
   pub psg-sample-unique : (i j k n : ℕ) (a b : Sample) → SampleAnswers s i j k n a → SampleAnswers s i j k n b → a ≡ b
   psg-sample-unique i j k n a b = only
-
-  pub psg-view-unique : (i j k : ℕ) (a b : View) → ViewAnswers s i j k a → ViewAnswers s i j k b → a ≡ b
-  psg-view-unique i j k a b = only
 
   -- a run of samples, by either call
   pub psg-run-unique : (k : Sibling) (i j c first n : ℕ) (out out₁ out₂ : List (Runs.Element k)) (a b : Counted) → RunAnswers k s i j c first n out out₁ a → RunAnswers k s i j c first n out out₂ b → (a ≡ b) × (out₁ ≡ out₂)
@@ -90,6 +88,9 @@ module _ (s : List ℕ) where
   pub psg-index-unique : (out out₁ out₂ : List ℤ) (a b : Counted) → IndexAnswers s out out₁ a → IndexAnswers s out out₂ b → (a ≡ b) × (out₁ ≡ out₂)
   psg-index-unique out out₁ out₂ a b = only-leaves
 
--- of a code, and no file
+-- of four numbers, and of a code: no file
+pub psg-part-unique : (n position width count : ℕ) (a b : Part) → PartAnswers n position width count a → PartAnswers n position width count b → a ≡ b
+psg-part-unique n position width count a b = only
+
 pub psg-event-kind-unique : (c : ℕ) (a b : Kind) → KindAnswers c a → KindAnswers c b → a ≡ b
 psg-event-kind-unique c a b = only

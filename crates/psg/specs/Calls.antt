@@ -12,11 +12,12 @@ use Rattle.turn.specs.Turn as Turn
 use Rattle.rewrite.specs.Rewrite as Rewrite
 use Rattle.room.specs.Room.{roomOf}
 use Rattle.codes.specs.Codes.{kindTold}
-use Rattle.questions.specs.Questions.{headerOf, factsOf, channelOf, montageCountOf, montageOf, patientItemOf, eventItemOf, clockOf, countOf, sampleOf, viewOf}
+use Rattle.questions.specs.Questions.{headerOf, factsOf, channelOf, montageCountOf, montageOf, patientItemOf, eventItemOf, clockOf, sampleOf}
+use Rattle.samples.specs.Placed.{placeOf, partIn}
 use Rattle.index.specs.Index as Index
 use Rattle.runs.specs.Runs as Runs
 use Rattle.runs.specs.declared.Sibling.{Sibling}
-use Rattle.answers.specs.Flat.{Leaves, countedRows, countedBytes, flatHeader, flatHeading, flatFacts, flatChannel, flatMontage, flatItem, flatClock, flatCount, flatSample, flatView}
+use Rattle.answers.specs.Flat.{Leaves, countedRows, countedBytes, flatHeader, flatHeading, flatFacts, flatChannel, flatMontage, flatItem, flatClock, flatCount, flatPlace, flatPart, flatSample}
 use Rattle.answers.specs.Flat.{flatKind}
 use Rattle.answers.specs.declared.Channel.{Channel}
 use Rattle.answers.specs.declared.Clock.{Clock}
@@ -27,8 +28,9 @@ use Rattle.answers.specs.declared.Heading.{Heading}
 use Rattle.answers.specs.declared.Item.{Item}
 use Rattle.answers.specs.declared.Kind.{Kind}
 use Rattle.answers.specs.declared.Montage.{Montage}
+use Rattle.answers.specs.declared.Part.{Part}
+use Rattle.answers.specs.declared.Place.{Place}
 use Rattle.answers.specs.declared.Sample.{Sample}
-use Rattle.answers.specs.declared.View.{View}
 
 abbrev pub JudgeAnswers : List ℕ → Header → Type 0
 JudgeAnswers s a = a ≡ flatHeader s (R.judge s)
@@ -73,14 +75,15 @@ EventItemAnswers s i j a = a ≡ flatItem (eventItemOf s i j)
 abbrev pub ClockAnswers : List ℕ → ℕ → ℕ → Clock → Type 0
 ClockAnswers s i j a = a ≡ flatClock (clockOf s i j)
 
-abbrev pub CountAnswers : List ℕ → ℕ → ℕ → ℕ → Counted → Type 0
-CountAnswers s i j k a = a ≡ flatCount (countOf s i j k)
+abbrev pub PlaceAnswers : List ℕ → ℕ → ℕ → ℕ → Place → Type 0
+PlaceAnswers s i j k a = a ≡ flatPlace (placeOf s i j k)
+
+-- the place of three numbers, in any file of n bytes
+abbrev pub PartAnswers : (n position width count : ℕ) → Part → Type 0
+PartAnswers n position width count a = a ≡ flatPart (partIn n (record { position = position; width = width; count = count }))
 
 abbrev pub SampleAnswers : List ℕ → ℕ → ℕ → ℕ → ℕ → Sample → Type 0
 SampleAnswers s i j k n a = a ≡ flatSample (sampleOf s i j k n)
-
-abbrev pub ViewAnswers : List ℕ → ℕ → ℕ → ℕ → View → Type 0
-ViewAnswers s i j k a = a ≡ flatView (viewOf s i j k)
 
 -- the night events
 abbrev pub IndexAnswers : List ℕ → List ℤ → List ℤ → Counted → Type 0

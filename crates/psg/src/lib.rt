@@ -2,7 +2,7 @@
 ghost use Rattle.psg.specs.Calls.{JudgeAnswers, TableAnswers, TurnAnswers, RewriteAnswers, RoomAnswers};
 ghost use Rattle.psg.specs.Calls.{HeaderAnswers, FactsAnswers, ChannelAnswers, MontageCountAnswers, MontageAnswers};
 ghost use Rattle.psg.specs.Calls.{PatientItemAnswers, EventItemAnswers, ClockAnswers};
-ghost use Rattle.psg.specs.Calls.{CountAnswers, SampleAnswers, ViewAnswers, RunAnswers, IndexAnswers};
+ghost use Rattle.psg.specs.Calls.{PlaceAnswers, PartAnswers, SampleAnswers, RunAnswers, IndexAnswers};
 ghost use Rattle.psg.specs.Calls.{KindAnswers};
 ghost use Rattle.runs.specs.declared.Sibling.the-variants as Sibling;
 use answers::Channel;
@@ -14,8 +14,9 @@ use answers::Heading;
 use answers::Item;
 use answers::Kind;
 use answers::Montage;
+use answers::Part;
+use answers::Place;
 use answers::Sample;
-use answers::View;
 use judge::Judged;
 use rules::FileHeader;
 use table::Listed;
@@ -127,10 +128,23 @@ pub extern "C" fn psg_clock(file: &[u8], recording: usize, frame: usize) -> Cloc
 }
 
 #[no_mangle]
-pub extern "C" fn psg_count(file: &[u8], recording: usize, frame: usize, channel: usize) -> Counted
-    ensures { λ a. ⌜ CountAnswers (now (file .entry)) recording frame channel a ⌝ }
+pub extern "C" fn psg_place(file: &[u8], recording: usize, frame: usize, channel: usize) -> Place
+    ensures { λ a. ⌜ PlaceAnswers (now (file .entry)) recording frame channel a ⌝ }
 {
-    answers::count_of(questions::count(file, recording, frame, channel))
+    answers::place_of(questions::place(file, recording, frame, channel))
+}
+
+// The part of a file of so many bytes that `samples::part` cuts by a place. It needs no file.
+#[no_mangle]
+pub extern "C" fn psg_part(bytes: usize, position: usize, width: usize, count: usize) -> Part
+    ensures { λ a. ⌜ PartAnswers bytes position width count a ⌝ }
+{
+    let place = samples::Place {
+        position,
+        width,
+        count,
+    };
+    answers::part_of(samples::part_in(bytes, place))
 }
 
 #[no_mangle]
@@ -144,18 +158,6 @@ pub extern "C" fn psg_sample(
     ensures { λ a. ⌜ SampleAnswers (now (file .entry)) recording frame channel sample a ⌝ }
 {
     answers::sample_of(questions::sample(file, recording, frame, channel, sample))
-}
-
-// The part that `questions::view` shows.
-#[no_mangle]
-pub extern "C" fn psg_view(file: &[u8], recording: usize, frame: usize, channel: usize) -> View
-    ensures { λ a. ⌜ ViewAnswers (now (file .entry)) recording frame channel a ⌝ }
-{
-    let part = questions::view_part(file, recording, frame, channel);
-    View {
-        start: part.at as u64,
-        length: part.length as u64,
-    }
 }
 
 // A run of samples: so many whole numbers, or the 32 bits of so many floats.

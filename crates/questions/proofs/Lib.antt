@@ -6,5 +6,5 @@ pub mod Owners
 pub mod Replies
 pub mod Readings
 pub mod Texts
-pub mod Views
+pub mod Showing
 pub mod Unique

@@ -6,11 +6,8 @@ use mathlib.Core.List.{List}
 use Prim.Native.Nat.{ℕ, _+_, _-_, _*_, _≤_, _<_}
 use native.Mathlib.Nat.{mul-le-mul-left}
 use native.Mathlib.Omega.{arith}
-use borrow.Author.Tests.{eq-eqb, ne-eqb}
-use borrow.Rule.Slice.PartAt.{slPart}
-use denote.Ref.{RefT}
 use lib.ListN.{length}
-use Rattle.words.specs.Numbers.{bytesAt, numberAt}
+use Rattle.words.specs.Numbers.{numberAt}
 use Rattle.words.specs.declared.Order.{Order}
 use Rattle.walk.specs.See.{goes, see}
 use Rattle.rules.specs.Rules as R
@@ -24,15 +21,16 @@ use Rattle.recordings.specs.Recordings.{Chosen, recordingOf, at120}
 use Rattle.recordings.proofs.Chosen.{indexed-out, numbered-out, ChosenIn, chosen-in}
 use Rattle.samples.specs.Asked.{FrameStands, RunIn}
 use Rattle.samples.specs.Frames.{ChosenFrame, frameOf, Samples, samplesOf, numberIn, timeOf}
+use Rattle.samples.specs.Placed.{placeOf}
 use Rattle.samples.specs.declared.Number.{Number}
 use Rattle.samples.specs.declared.Run.{Run}
 use Rattle.samples.specs.declared.Time.{Time}
 use Rattle.samples.proofs.Framing.{numbered-some}
+use Rattle.samples.proofs.Placing.{run-wide}
 use Rattle.questions.specs.Holding.{MontageInside, montageChannels}
-use Rattle.questions.specs.Questions.{factsOf, channelOf, montageCountOf, montageOf, clockOf, countOf, sampleOf, viewOf, Shows}
-use Rattle.questions.specs.Values.{textAt, descriptorOf, DescriptorAt, wiredOf, WiredAt}
+use Rattle.questions.specs.Questions.{factsOf, channelOf, montageCountOf, montageOf, clockOf, sampleOf}
+use Rattle.questions.specs.Values.{descriptorOf, DescriptorAt, wiredOf, WiredAt}
 use Rattle.questions.specs.declared.channels.Descriptor.{Descriptor}
-use Rattle.questions.specs.declared.channels.Text.{Text}
 use Rattle.questions.specs.declared.channels.Wired.{Wired}
 use Rattle.questions.proofs.Described.{subAt, montageAt, wiredAt, ChannelSeen, channels-calibrated, channel-seen, montage-none, MontageStands, montage-stands, montage-seen}
 
@@ -136,50 +134,27 @@ clock-told {q} {f} h d told =
 
 -- Samples
 
-pub count-refused : (s : List ℕ) (i j k : ℕ) {n p : ℕ} → samplesOf s i j k ≡ refusal n p → refusal n p ≡ countOf s i j k
-count-refused s i j k h = rw h
+pub place-refused : (s : List ℕ) (i j k : ℕ) {n p : ℕ} → samplesOf s i j k ≡ refusal n p → refusal n p ≡ placeOf s i j k
+place-refused s i j k h = rw h
 
 pub sample-refused : (s : List ℕ) (i j k m : ℕ) {n p : ℕ} → samplesOf s i j k ≡ refusal n p → refusal n p ≡ sampleOf s i j k m
 sample-refused s i j k m h = rw h
-
-pub view-refused : (s : List ℕ) (i j k : ℕ) {n p : ℕ} → samplesOf s i j k ≡ refusal n p → viewOf s i j k ≡ textAt 0 0
-view-refused s i j k h = rw h
-
--- a part of the file, as the code makes it
-pub shown : (file : RefT (List ℕ)) (a e γ : ℕ) {p : Text} → p ≡ textAt a (e - a) → Shows file p (slPart file (a + file .ptr .1) a e γ)
-unfolding bytesAt
-shown file a e γ h = rw h (record { bytes = refl; block = refl; offset = omega arith })
-
-pub part-back : (a n : ℕ) → textAt a n ≡ textAt a (a + n - a)
-part-back a n = let d : n ≡ a + n - a = omega arith in ap (textAt a) d
 
 -- the answer of one of them
 abbrev said : Answer Value → Answer Number
 said a = a >>= λ v. value (numberIn v)
 
--- they lie in the file, at the width w that the code has; and sample m among them
-pub ended-at : (at w v n L : ℕ) → w ≡ v → at + v * n ≤ L → at + w * n ≤ L
-ended-at at w v n L e l = rw e l
+module _ {s : List ℕ} {i j k : ℕ} {o : Order} {run : Run} {x : Samples} (h : RunIn s i j k o run x) (m : ℕ) where
+  many : length (x .values) ≡ run .place .count
+  many = sym (ap (λ (r : Run). r .place .count) (h .same))
 
-pub among : (at w v m n L : ℕ) → w ≡ v → m < n → at + v * n ≤ L → at + w * m + w ≤ L
-among at w v m n L e h l = omega (arith, mul-le-mul-left w h, ended-at at w v n L e l)
+  pub sample-outside : run .place .count ≤ m → refusal 19 0 ≡ sampleOf s i j k m
+  sample-outside l = rw (h .is) (sym (ap said (indexed-out (x .values) m (omega (arith, many)))))
 
-module _ {s : List ℕ} {i j k : ℕ} {o : Order} {run : Run} {x : Samples} (h : RunIn s i j k o run x) where
-  pub count-told : value (run .count) ≡ countOf s i j k
-  count-told = rw (h .is) (ap (λ (r : Run). value (r .count)) (h .same))
+  -- sample m lies in the file
+  pub among : m < run .place .count → run .place .position + run .place .width * m + run .place .width ≤ length s
+  among l = omega (arith, mul-le-mul-left (run .place .width) l, h .inside)
 
-  many : length (x .values) ≡ run .count
-  many = sym (ap (λ (r : Run). r .count) (h .same))
-
-  pub sample-outside : (m : ℕ) → run .count ≤ m → refusal 19 0 ≡ sampleOf s i j k m
-  sample-outside m l = rw (h .is) (sym (ap said (indexed-out (x .values) m (omega (arith, many)))))
-
-  pub sample-told : (m w : ℕ) → w ≡ R.width (run .format) → m < run .count → (d : Number) →
-      d ≡ numberIn (valueOf (run .format) (R.width (run .format)) (numberAt o (R.width (run .format)) s (run .at + w * m))) → value d ≡ sampleOf s i j k m
-  sample-told m w e l d g = rw (h .is) (ap value (rw e at g) ∙ sym (ap said (h .each m l)))
-
-  pub view-none : run .count ≡ 0 → viewOf s i j k ≡ textAt 0 0
-  view-none e = rw (h .is, eq-eqb (length (x .values)) 0 (many ∙ e))
-
-  pub view-told : (w : ℕ) → w ≡ R.width (run .format) → (run .count ≡ 0 → ⊥) → viewOf s i j k ≡ textAt (run .at) (w * run .count)
-  view-told w e z = rw (h .is, ne-eqb (length (x .values)) 0 (λ y. z (sym many ∙ y)), e) (sym (ap (λ (r : Run). textAt (r .at) (R.width (r .format) * r .count)) (h .same)))
+  pub sample-told : m < run .place .count → (d : Number) →
+      d ≡ numberIn (valueOf (run .format) (R.width (run .format)) (numberAt o (R.width (run .format)) s (run .place .position + run .place .width * m))) → value d ≡ sampleOf s i j k m
+  sample-told l d g = rw (h .is) (ap value (rw (run-wide h) at g) ∙ sym (ap said (h .each m l)))

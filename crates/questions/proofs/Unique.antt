@@ -1,22 +1,21 @@
--- Only one answer meets the contract of each question, for every file and whatever is asked; and of the bytes of a channel only one part of the file.
+-- Only one answer meets the contract of each question, for every file and whatever is asked.
 -- Assumes nothing.
-use mathlib.Core.Path.{_≡_, refl, sym, _∙_}
+use mathlib.Core.Path.{_≡_, refl}
 use mathlib.Core.List.{List}
 use Prim.Native.Nat.{ℕ}
-use denote.Ref.{RefT}
 use Rattle.walk.proofs.Unique.{one}
 use Rattle.rules.specs.declared.Refusal.{Refusal}
 use Rattle.recordings.specs.Answers.{Answer, value, refusal}
 use Rattle.recordings.specs.declared.FactsTold.{FactsTold}
 use Rattle.recordings.specs.declared.FactsTold.the-variants as FactsTold
-use Rattle.samples.specs.declared.CountTold.{CountTold}
-use Rattle.samples.specs.declared.CountTold.the-variants as CountTold
+use Rattle.samples.specs.declared.PlaceTold.{PlaceTold}
+use Rattle.samples.specs.declared.PlaceTold.the-variants as PlaceTold
 use Rattle.samples.specs.declared.SampleTold.{SampleTold}
 use Rattle.samples.specs.declared.SampleTold.the-variants as SampleTold
 use Rattle.samples.specs.declared.ClockTold.{ClockTold}
 use Rattle.samples.specs.declared.ClockTold.the-variants as ClockTold
-use Rattle.questions.specs.Contracts.{HeaderAnswer, FactsAnswer, ChannelAnswer, MontageCountAnswer, MontageAnswer, PatientItemAnswer, EventItemAnswer, ClockAnswer, CountAnswer, SampleAnswer, ViewAnswer}
-use Rattle.questions.specs.Meanings.{meaningH, meaningF, meaningD, meaningN, meaningM, meaningI, meaningT, meaningC, meaningS}
+use Rattle.questions.specs.Contracts.{HeaderAnswer, FactsAnswer, ChannelAnswer, MontageCountAnswer, MontageAnswer, PatientItemAnswer, EventItemAnswer, ClockAnswer, PlaceAnswer, SampleAnswer}
+use Rattle.questions.specs.Meanings.{meaningH, meaningF, meaningD, meaningN, meaningM, meaningI, meaningT, meaningP, meaningS}
 use Rattle.questions.specs.declared.channels.ChannelTold.{ChannelTold}
 use Rattle.questions.specs.declared.channels.ChannelTold.the-variants as ChannelTold
 use Rattle.questions.specs.declared.channels.MontageCountTold.{MontageCountTold}
@@ -61,9 +60,9 @@ clock-back : (a : ClockTold) → answer ClockTold.At ClockTold.Refused (meaningT
 clock-back (ClockTold.At x) = refl
 clock-back (ClockTold.Refused r) = refl
 
-count-back : (a : CountTold) → answer CountTold.Samples CountTold.Refused (meaningC a) ≡ a
-count-back (CountTold.Samples x) = refl
-count-back (CountTold.Refused r) = refl
+place-back : (a : PlaceTold) → answer PlaceTold.At PlaceTold.Refused (meaningP a) ≡ a
+place-back (PlaceTold.At x) = refl
+place-back (PlaceTold.Refused r) = refl
 
 sample-back : (a : SampleTold) → answer SampleTold.Value SampleTold.Refused (meaningS a) ≡ a
 sample-back (SampleTold.Value x) = refl
@@ -96,12 +95,8 @@ module _ (s : List ℕ) (i : ℕ) where
   pub clock-unique : (j : ℕ) (a b : ClockTold) → ClockAnswer s i j a → ClockAnswer s i j b → a ≡ b
   clock-unique j a b = one meaningT (answer ClockTold.At ClockTold.Refused) clock-back
 
-  pub count-unique : (j k : ℕ) (a b : CountTold) → CountAnswer s i j k a → CountAnswer s i j k b → a ≡ b
-  count-unique j k a b = one meaningC (answer CountTold.Samples CountTold.Refused) count-back
+  pub place-unique : (j k : ℕ) (a b : PlaceTold) → PlaceAnswer s i j k a → PlaceAnswer s i j k b → a ≡ b
+  place-unique j k a b = one meaningP (answer PlaceTold.At PlaceTold.Refused) place-back
 
   pub sample-unique : (j k n : ℕ) (a b : SampleTold) → SampleAnswer s i j k n a → SampleAnswer s i j k n b → a ≡ b
   sample-unique j k n a b = one meaningS (answer SampleTold.Value SampleTold.Refused) sample-back
-
--- its bytes, and where it lies in memory
-pub view-unique : (file : RefT (List ℕ)) (i j k : ℕ) (r u : RefT (List ℕ)) → ViewAnswer file i j k r → ViewAnswer file i j k u → (r .now ≡ u .now) × (r .ptr ≡ u .ptr)
-view-unique file i j k r u x y = (x .bytes ∙ sym (y .bytes), λ n. ((x .block ∙ sym (y .block)) n, (x .offset ∙ sym (y .offset)) n))

@@ -3,13 +3,13 @@
 use mathlib.Core.Path.{_≡_}
 use mathlib.Core.List.{List}
 use Prim.Native.Nat.{ℕ}
-use denote.Ref.{RefT}
 use Rattle.recordings.specs.declared.FactsTold.{FactsTold}
+use Rattle.samples.specs.Placed.{placeOf}
 use Rattle.samples.specs.declared.ClockTold.{ClockTold}
-use Rattle.samples.specs.declared.CountTold.{CountTold}
+use Rattle.samples.specs.declared.PlaceTold.{PlaceTold}
 use Rattle.samples.specs.declared.SampleTold.{SampleTold}
-use Rattle.questions.specs.Meanings.{meaningH, meaningF, meaningD, meaningN, meaningM, meaningI, meaningT, meaningC, meaningS}
-use Rattle.questions.specs.Questions.{headerOf, factsOf, channelOf, montageCountOf, montageOf, patientItemOf, eventItemOf, clockOf, countOf, sampleOf, viewOf, Shows}
+use Rattle.questions.specs.Meanings.{meaningH, meaningF, meaningD, meaningN, meaningM, meaningI, meaningT, meaningP, meaningS}
+use Rattle.questions.specs.Questions.{headerOf, factsOf, channelOf, montageCountOf, montageOf, patientItemOf, eventItemOf, clockOf, sampleOf}
 use Rattle.questions.specs.declared.channels.ChannelTold.{ChannelTold}
 use Rattle.questions.specs.declared.channels.MontageCountTold.{MontageCountTold}
 use Rattle.questions.specs.declared.channels.MontageTold.{MontageTold}
@@ -43,12 +43,8 @@ module _ (s : List ℕ) (i : ℕ) where
   abbrev pub ClockAnswer : ℕ → ClockTold → Type 0
   ClockAnswer j a = meaningT a ≡ clockOf s i j
 
-  abbrev pub CountAnswer : ℕ → ℕ → CountTold → Type 0
-  CountAnswer j k a = meaningC a ≡ countOf s i j k
+  abbrev pub PlaceAnswer : ℕ → ℕ → PlaceTold → Type 0
+  PlaceAnswer j k a = meaningP a ≡ placeOf s i j k
 
   abbrev pub SampleAnswer : ℕ → ℕ → ℕ → SampleTold → Type 0
   SampleAnswer j k n a = meaningS a ≡ sampleOf s i j k n
-
--- the part r of the file's own bytes
-abbrev pub ViewAnswer : RefT (List ℕ) → ℕ → ℕ → ℕ → RefT (List ℕ) → Type 0
-ViewAnswer file i j k r = Shows file (viewOf (file .now) i j k) r

@@ -5,8 +5,9 @@ use Rattle.recordings.specs.Answers.{Answer, value, refusal}
 use Rattle.recordings.specs.declared.Counts.{Counts}
 use Rattle.recordings.specs.declared.FactsTold.{FactsTold}
 use Rattle.recordings.specs.declared.FactsTold.the-variants as FactsTold
-use Rattle.samples.specs.declared.CountTold.{CountTold}
-use Rattle.samples.specs.declared.CountTold.the-variants as CountTold
+use Rattle.samples.specs.declared.Place.{Place}
+use Rattle.samples.specs.declared.PlaceTold.{PlaceTold}
+use Rattle.samples.specs.declared.PlaceTold.the-variants as PlaceTold
 use Rattle.samples.specs.declared.Number.{Number}
 use Rattle.samples.specs.declared.SampleTold.{SampleTold}
 use Rattle.samples.specs.declared.SampleTold.the-variants as SampleTold
@@ -56,9 +57,9 @@ abbrev pub meaningT : ClockTold → Answer Time
 meaningT (ClockTold.At x) = value x
 meaningT (ClockTold.Refused r) = refusal (r .0) (r .1)
 
-abbrev pub meaningC : CountTold → Answer ℕ
-meaningC (CountTold.Samples n) = value n
-meaningC (CountTold.Refused r) = refusal (r .0) (r .1)
+abbrev pub meaningP : PlaceTold → Answer Place
+meaningP (PlaceTold.At x) = value x
+meaningP (PlaceTold.Refused r) = refusal (r .0) (r .1)
 
 abbrev pub meaningS : SampleTold → Answer Number
 meaningS (SampleTold.Value x) = value x

@@ -1,13 +1,9 @@
 -- The answer to each question about a file, by the rules' outcome for the file: its refusal, then 19 outside a range, then the values of the
 -- reading and where they stand.
 -- Assumes nothing.
-use mathlib.Core.Path.{_≡_}
 use mathlib.Core.List.{List, []}
-use Prim.Native.Nat.{ℕ, _+_, _-_, _*_, _≤_}
-use lib.Dec.{eqb}
+use Prim.Native.Nat.{ℕ, _+_, _-_, _*_}
 use lib.ListN.{length, take}
-use denote.Ref.{RefT}
-use Rattle.words.specs.Numbers.{bytesAt}
 use Rattle.words.specs.declared.Order.{Order}
 use Rattle.walk.specs.Walk.{pick, Outcome, refused, passed}
 use Rattle.rules.specs.Rules as R
@@ -17,12 +13,11 @@ use Rattle.records.specs.declared.items.Holder.the-variants as Holder
 use Rattle.recordings.specs.Answers.{Answer, value, refusal, _>>=_, indexed, numbered}
 use Rattle.recordings.specs.Recordings.{Chosen, recordingOf, startOf, at120, at130}
 use Rattle.recordings.specs.declared.Counts.{Counts}
-use Rattle.samples.specs.Frames.{frameOf, timeOf, Samples, samplesOf, numberIn}
+use Rattle.samples.specs.Frames.{frameOf, timeOf, samplesOf, numberIn}
 use Rattle.samples.specs.declared.Number.{Number}
 use Rattle.samples.specs.declared.Time.{Time}
-use Rattle.questions.specs.Values.{textAt, descriptorOf, wiredOf, entryOf}
+use Rattle.questions.specs.Values.{descriptorOf, wiredOf, entryOf}
 use Rattle.questions.specs.declared.channels.Descriptor.{Descriptor}
-use Rattle.questions.specs.declared.channels.Text.{Text}
 use Rattle.questions.specs.declared.channels.Wired.{Wired}
 use Rattle.questions.specs.declared.headers.Header.{Header}
 use Rattle.questions.specs.declared.items.Entry.{Entry}
@@ -107,37 +102,10 @@ eventItemOf = itemOf Holder.Event
 abbrev pub clockOf : List ℕ → ℕ → ℕ → Answer Time
 clockOf s i j = frameOf s i j >>= λ f. value (timeOf (f .frame))
 
--- the samples of a channel in a frame
-
-abbrev pub countOf : List ℕ → ℕ → ℕ → ℕ → Answer ℕ
-countOf s i j k = samplesOf s i j k >>= λ x. value (length (x .values))
+-- a sample of a channel in a frame
 
 abbrev pub sampleOf : List ℕ → ℕ → ℕ → ℕ → ℕ → Answer Number
 sampleOf s i j k n = do
   x ← samplesOf s i j k
   v ← indexed (x .values) n
   value (numberIn v)
-
--- the part of the file that they are; for a refusal and where there are none the empty part at its start
-abbrev pub partOf : Answer Samples → Text
-partOf (refusal n p) = textAt 0 0
-partOf (value x) = pick (eqb (length (x .values)) 0) (textAt 0 0) (textAt (x .at) (R.width (x .format) * length (x .values)))
-
-abbrev pub viewOf : List ℕ → ℕ → ℕ → ℕ → Text
-viewOf s i j k = partOf (samplesOf s i j k)
-
--- the code's part r of the file s is the part p, and lies in the file
-pub record PartIs (s : List ℕ) (p r : Text) : Type 0 where
-  -- its first byte and its length
-  pub same : r ≡ p
-  -- no byte of it beyond the file's end
-  pub inside : r .at + r .length ≤ length s
-
--- a slice is this part of the file: its bytes, and where its first byte lies in memory
-pub record Shows (file : RefT (List ℕ)) (p : Text) (r : RefT (List ℕ)) : Type 0 where
-  -- what it holds
-  pub bytes : r .now ≡ bytesAt (p .length) (file .now) (p .at)
-  -- it lies in the same block of memory
-  pub block : r .ptr .0 ≡ file .ptr .0
-  -- and there so many bytes behind the file's first
-  pub offset : r .ptr .1 ≡ file .ptr .1 + p .at

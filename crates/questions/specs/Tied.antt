@@ -1,22 +1,22 @@
 -- What a question asks for in the file's reading; and how an answer shows it: values are the reading's, the bytes that a text names are the reading's
--- text, and those that a view names are, number by number, the reading's samples.
+-- text, and those of a place are, number by number, the reading's samples.
 -- Assumes nothing.
 use mathlib.Core.Path.{_≡_}
-use mathlib.Core.List.{List, [], _∷_}
-use Prim.Native.Nat.{ℕ, zero, suc, _+_, _*_, _≤_}
+use mathlib.Core.List.{List, []}
+use Prim.Native.Nat.{ℕ, _+_, _*_, _≤_}
 use lib.IntN.{pos, natAbs}
 use lib.ListN.{length}
-use Rattle.words.specs.Numbers.{bytesAt, numberAt}
-use Rattle.words.specs.declared.Order.{Order}
+use Rattle.words.specs.Numbers.{bytesAt}
 use Rattle.walk.specs.Walk.{pick}
-use Rattle.rules.specs.Rules.{orderOf, width}
-use Rattle.rules.specs.Reading.{Value, valueOf, ChannelReading, ItemReading, FrameReading, RecordingReading, Reading}
+use Rattle.rules.specs.Rules.{width}
+use Rattle.rules.specs.Reading.{Value, ChannelReading, ItemReading, FrameReading, RecordingReading, Reading}
 use Rattle.records.specs.declared.items.Holder.{Holder}
 use Rattle.records.specs.declared.items.Holder.the-variants as Holder
 use Rattle.recordings.specs.Answers.{Answer, value, refusal, _>>=_, indexed, numbered}
 use Rattle.recordings.specs.declared.Counts.{Counts}
+use Rattle.samples.specs.Placed.{valuesOf}
+use Rattle.samples.specs.declared.Place.{Place}
 use Rattle.samples.specs.declared.Time.{Time}
-use Rattle.questions.specs.Questions.{viewOf}
 use Rattle.questions.specs.declared.channels.Descriptor.{Descriptor}
 use Rattle.questions.specs.declared.channels.Text.{Text}
 use Rattle.questions.specs.declared.channels.Wired.{Wired}
@@ -114,20 +114,15 @@ pub record ClockIs (x : Time) (f : FrameReading) : Type 0 where
 abbrev pub formatIn : ChannelReading → ℕ
 formatIn c = natAbs (c .format)
 
--- n samples of this format, one after the other, at p of a list of bytes
-unfoldable pub valuesAt : Order → ℕ → ℕ → List ℕ → ℕ → List Value
-valuesAt o format zero s p = []
-valuesAt o format (suc n) s p = valueOf format (width format) (numberAt o (width format) s p) ∷ valuesAt o format n s (p + width format)
-
--- the view of channel k in frame j of recording i, where n samples are counted, and the samples vs of the reading v
-pub record ViewIs (s : List ℕ) (v : Reading) (i j k n : ℕ) (vs : List Value) : Type 0 where
-  -- as many as are counted
-  pub count : n ≡ length vs
+-- the place p of the samples of channel k of recording i in a frame, and the samples vs that the reading v has of them
+pub record PlaceIs (s : List ℕ) (v : Reading) (i k : ℕ) (p : Place) (vs : List Value) : Type 0 where
   -- the channel
   pub channel : ChannelReading
   pub described : channelRead v i k ≡ value channel
-  -- no byte of the view beyond the file's end, and n numbers of the format's width in it
-  pub inside : viewOf s i j k .at + viewOf s i j k .length ≤ length s
-  pub long : viewOf s i j k .length ≡ width (formatIn channel) * n
-  -- its bytes, read in the file's order, are the samples
-  pub shows : valuesAt (orderOf s) (formatIn channel) n (bytesAt (viewOf s i j k .length) s (viewOf s i j k .at)) 0 ≡ vs
+  -- the bytes of one sample, and how many there are
+  pub wide : p .width ≡ width (formatIn channel)
+  pub count : p .count ≡ length vs
+  -- no byte of them beyond the file's end
+  pub inside : p .position + p .width * p .count ≤ length s
+  -- the bytes that `part` cuts there, read in the file's order, are the samples
+  pub shows : valuesOf s (formatIn channel) p ≡ vs

@@ -7,12 +7,11 @@ pub mod items;
 ghost use mathlib.Core.Path.{_≡_};
 ghost use Rattle.questions.specs.Contracts.{HeaderAnswer, FactsAnswer, ChannelAnswer, MontageCountAnswer, MontageAnswer};
 ghost use Rattle.questions.specs.Contracts.{PatientItemAnswer, EventItemAnswer};
-ghost use Rattle.questions.specs.Contracts.{ClockAnswer, CountAnswer, SampleAnswer, ViewAnswer};
-ghost use Rattle.questions.specs.Questions.{versionNumber, formNumber, viewOf, PartIs};
+ghost use Rattle.questions.specs.Contracts.{ClockAnswer, PlaceAnswer, SampleAnswer};
+ghost use Rattle.questions.specs.Questions.{versionNumber, formNumber};
 use crate::channels::ChannelTold;
 use crate::channels::MontageCountTold;
 use crate::channels::MontageTold;
-use crate::channels::Text;
 use crate::headers::Header;
 use crate::headers::HeaderTold;
 use crate::items::ItemTold;
@@ -28,8 +27,8 @@ use rules::Label;
 use rules::Refusal;
 use rules::Version;
 use samples::ClockTold;
-use samples::CountTold;
 use samples::FrameFound;
+use samples::PlaceTold;
 use samples::SampleTold;
 use samples::SamplesFound;
 
@@ -157,15 +156,16 @@ pub fn clock(file: &[u8], recording: usize, frame: usize) -> ClockTold
     ClockTold::At(samples::time_at(order, file, at))
 }
 
-// How many samples of a channel a frame has.
-pub fn count(file: &[u8], recording: usize, frame: usize, channel: usize) -> CountTold
-    ensures { λ a. ⌜ CountAnswer (now (file .entry)) recording frame channel a ⌝ }
+// Where the samples of a channel in a frame stand; where there are none, the place that they would take.
+pub fn place(file: &[u8], recording: usize, frame: usize, channel: usize) -> PlaceTold
+    ensures { λ a. ⌜ PlaceAnswer (now (file .entry)) recording frame channel a ⌝ }
 {
     let ran = samples::samples_asked(file, recording, frame, channel);
     let SamplesFound::At(_, run) = ran else {
-        return CountTold::Refused(samples::of_samples_found(ran));
+        return PlaceTold::Refused(samples::of_samples_found(ran));
     };
-    CountTold::Samples(run.count)
+    let place = run.place;
+    PlaceTold::At(place)
 }
 
 // One sample of a channel in a frame.
@@ -182,37 +182,10 @@ pub fn sample(
     let SamplesFound::At(order, run) = ran else {
         return SampleTold::Refused(samples::of_samples_found(ran));
     };
-    if run.count <= sample {
+    let place = run.place;
+    if place.count <= sample {
         return SampleTold::Refused(Refusal(19, 0));
     }
-    let at = run.at + records::channels::width(run.format) * sample;
+    let at = place.position + place.width * sample;
     SampleTold::Value(samples::number_at(order, file, at, run.format))
-}
-
-// Where the bytes of a channel in a frame lie in the file: the empty part at its start for a refusal and for a channel without samples.
-// Where a slice lies cannot be read off it, so C is answered this part, and `view` the slice of it.
-pub fn view_part(file: &[u8], recording: usize, frame: usize, channel: usize) -> Text
-    ensures { λ r. ⌜ PartIs (now (file .entry)) (viewOf (now (file .entry)) recording frame channel) r ⌝ }
-{
-    let ran = samples::samples_asked(file, recording, frame, channel);
-    let SamplesFound::At(_, run) = ran else {
-        return Text { at: 0, length: 0 };
-    };
-    if run.count == 0 {
-        return Text { at: 0, length: 0 };
-    }
-    Text {
-        at: run.at,
-        length: records::channels::width(run.format) * run.count,
-    }
-}
-
-// The bytes of a channel in a frame, as a part of the file.
-pub fn view(file: &[u8], recording: usize, frame: usize, channel: usize) -> &[u8]
-    ensures { λ r. ⌜ ViewAnswer (file .entry) recording frame channel r ⌝ }
-{
-    let part = view_part(file, recording, frame, channel);
-    let at = part.at;
-    let end = at + part.length;
-    &file[at..end]
 }

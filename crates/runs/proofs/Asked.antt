@@ -1,64 +1,83 @@
--- The run asked for, from the channel's samples, by the tests of its range and of the room.
+-- The run asked for, from the place of the channel's samples, by the tests of its range and of the room; and that it is the same run of the reading's
+-- samples.
 -- Assumes nothing.
 use mathlib.Core.Path.{_≡_, refl, sym, ap, _∙_}
 use mathlib.Core.Bool.{Bool, true, false, _&&_}
 use mathlib.Core.List.{List}
-use Prim.Native.Nat.{ℕ, _+_, _-_, _*_, _≤_, _<_}
-use native.Mathlib.Nat.{mul-add, mul-comm, mul-le-mul-left}
-use native.Mathlib.Omega.{arith}
-use borrow.Author.Tests.{le-leb, lt-leb, leb-true, leb-false}
+use Prim.Native.Nat.{ℕ, _+_, _≤_, _<_}
+use borrow.Author.Tests.{le-leb, lt-leb, leb-true}
 use lib.Dec.{leb}
 use lib.ListN.{length, take, drop}
+use Rattle.words.specs.Numbers.{Bytes}
 use Rattle.words.specs.declared.Order.{Order}
 use Rattle.walk.specs.Walk.{pick}
-use Rattle.recordings.specs.Answers.{Answer, value, refusal, outside}
+use Rattle.walk.proofs.Seen.{and-right}
+use Rattle.recordings.specs.Answers.{Answer, value, refusal, _>>=_, outside}
 use Rattle.samples.specs.Asked.{RunIn}
-use Rattle.samples.specs.Frames.{Samples, samplesOf}
+use Rattle.samples.specs.Frames.{formatOf, Samples, samplesOf}
+use Rattle.samples.specs.Placed.{placeIn, placeOf, valuesOf}
+use Rattle.samples.specs.declared.Place.{Place}
 use Rattle.samples.specs.declared.Run.{Run}
-use Rattle.runs.specs.Found.{PartOf, FoundIn}
-use Rattle.runs.specs.Runs.{serves, runOf, answerOf}
-use Rattle.runs.specs.declared.Part.{Part}
+use Rattle.samples.proofs.Framing.{frame-of}
+use Rattle.samples.proofs.Placing.{placed, run-wide, some-shown}
+use Rattle.samples.proofs.Sampling.{SamplesIn, samples-from}
+use Rattle.runs.specs.Found.{RunInside, FoundIn}
+use Rattle.runs.specs.Runs.{serves, runWithin, placeFrom, runAt, runOf, answerOf}
 use Rattle.runs.specs.declared.Sibling.{Sibling}
-
--- the test that the code makes of a run, behind the first
-pub leb-behind : (n first count : ℕ) → first ≤ count → leb n (count - first) ≡ leb (first + n) count
-leb-behind n first count h = go (leb n (count - first)) refl
-  where
-    go : (c : Bool) → leb n (count - first) ≡ c → leb n (count - first) ≡ leb (first + n) count
-    go true e = e ∙ sym (le-leb (first + n) count (omega (arith, leb-true n (count - first) e)))
-    go false e = e ∙ sym (lt-leb (first + n) count (omega (arith, leb-false n (count - first) e)))
-
--- n of the samples from the first on, at the width w that the code has, end in the file
-pub part-ends : (at w v first n count bytes : ℕ) → w ≡ v → first + n ≤ count → at + v * count ≤ bytes → at + w * first + n * w ≤ bytes
-part-ends at w v first n count bytes e h l = rw e (omega (arith, mul-le-mul-left v h, mul-add v first n, mul-comm v n))
 
 pub run-refused : (b : Sibling) (s : List ℕ) (i j k first n space : ℕ) {m p : ℕ} → samplesOf s i j k ≡ refusal m p → answerOf b s i j k first n space ≡ refusal m p
 run-refused b s i j k first n space h = rw h
 
 module _ {s : List ℕ} {i j k : ℕ} {o : Order} {run : Run} {x : Samples} (h : RunIn s i j k o run x) where
-  format-is : x .format ≡ run .format
-  format-is = sym (ap (λ (r : Run). r .format) (h .same))
-
-  pub count-is : length (x .values) ≡ run .count
-  count-is = sym (ap (λ (r : Run). r .count) (h .same))
-
   module _ (b : Sibling) (first n : ℕ) where
     -- by the tests of the code
-    run-by : runOf b s i j k first n ≡ pick (serves b (run .format) && leb (first + n) (run .count)) (value (take n (drop first (x .values)))) outside
-    run-by = rw (h .is, format-is, count-is)
-
-    pub run-inside : serves b (run .format) ≡ true → first + n ≤ run .count → runOf b s i j k first n ≡ value (take n (drop first (x .values)))
-    run-inside e l = run-by ∙ rw (e, le-leb (first + n) (run .count) l)
+    run-by : runOf b s i j k first n ≡ runAt b s first n (run .format) (run .place)
+    run-by = rw (placed h, h .described)
 
     module _ (space : ℕ) where
       pub run-unserved : serves b (run .format) ≡ false → answerOf b s i j k first n space ≡ refusal 19 0
       run-unserved e = rw (run-by, e)
 
-      pub run-outside : serves b (run .format) ≡ true → leb (first + n) (run .count) ≡ false → answerOf b s i j k first n space ≡ refusal 19 0
-      run-outside e l = rw (run-by, e, l)
+      module _ (served : serves b (run .format) ≡ true) where
+        pub run-outside : leb (first + n) (run .place .count) ≡ false → answerOf b s i j k first n space ≡ refusal 19 0
+        run-outside l = rw (run-by, served, l)
 
-      pub run-short : serves b (run .format) ≡ true → leb (first + n) (run .count) ≡ true → space < n → answerOf b s i j k first n space ≡ refusal 17 n
-      run-short e l r = rw (run-inside e (leb-true (first + n) (run .count) l), lt-leb n space r)
+        pub run-short : leb (first + n) (run .place .count) ≡ true → space < n → answerOf b s i j k first n space ≡ refusal 17 n
+        run-short l r = rw (run-by, served, l, lt-leb n space r)
 
-      pub run-found : serves b (run .format) ≡ true → leb (first + n) (run .count) ≡ true → n ≤ space → (p : Part) → PartOf (length s) first n run p → FoundIn b s i j k first n space o p
-      run-found e l r p q = record { run = run; all = x; samples = h; served = e; inside = leb-true (first + n) (run .count) l; room = r; part = q }
+        pub run-within : leb (first + n) (run .place .count) ≡ true → RunInside (length s) first n (run .place)
+        run-within l = record { file = h .inside; inside = leb-true (first + n) (run .place .count) l }
+
+        pub run-found : leb (first + n) (run .place .count) ≡ true → n ≤ space → (p : Place) → p ≡ placeFrom first n (run .place) → FoundIn b s i j k first n space o (run .format) p
+        run-found l r p q = record {
+          order = h .order;
+          all = run .place;
+          placed = placed h;
+          described = h .described;
+          wide = run-wide h;
+          served = served;
+          inside = run-within l;
+          room = r;
+          place = q;
+        }
+
+-- The definition before places: some of the values of the reading
+
+same-if : {A : Type 0} (c : Bool) (x y z : A) → (c ≡ true → x ≡ y) → pick c x z ≡ pick c y z
+same-if true x y z h = h refl
+same-if false x y z h = refl
+
+pub as-before : (s : List ℕ) → Bytes s → (b : Sibling) (i j k first n : ℕ) → runOf b s i j k first n ≡ (samplesOf s i j k >>= λ x. runWithin b first n (x .format) (x .values))
+as-before s y b i j k first n = go (samplesOf s i j k) refl
+  where
+    shown : (x : Samples) → SamplesIn s x → runAt b s first n (x .format) (placeIn x) ≡ runWithin b first n (x .format) (x .values)
+    shown x z =
+        same-if (serves b (x .format) && leb (first + n) (length (x .values))) _ _ outside
+        (λ e. ap value (some-shown s x z first n (leb-true (first + n) (length (x .values)) (and-right (serves b (x .format)) _ e))))
+
+    go : (a : Answer Samples) → samplesOf s i j k ≡ a → runOf b s i j k first n ≡ (a >>= λ x. runWithin b first n (x .format) (x .values))
+    go (refusal m q) e = rw e
+    go (value x) e =
+        let a = samples-from s y i j k e in
+        let f : formatOf s i k ≡ value (x .format) = rw (frame-of s y i j (a .framed) .asked, a .described) (ap value (sym (a .format))) in
+        rw (e, f) (shown x (a .located))

@@ -4,33 +4,34 @@
 use mathlib.Core.Path.{_≡_, refl, sym, ap, _∙_}
 use mathlib.Core.Bool.{Bool, true, false}
 use mathlib.Core.List.{List, _++_, map}
-use Prim.Native.Nat.{ℕ, _+_, _-_, _*_, _≤_, _<_}
-use native.Mathlib.Nat.{mul-add, mul-comm, add-mul, mul-le-mul-right}
+use Prim.Native.Nat.{ℕ, _+_, _*_, _≤_, _<_}
+use native.Mathlib.Nat.{mul-add, mul-comm, mul-le-mul-left}
 use native.Mathlib.Omega.{arith}
 use borrow.Author.Tests.{le-leb, eqb-true}
 use lib.Dec.{eqb, leb}
-use lib.ListN.{length, getD, take, drop, length-map, length-drop, List·getD-map}
-use lib.Seq.{ext-getD, getD-take, getD-drop, length-take-le}
-use Rattle.words.specs.Numbers.{wordIn, numberAt}
+use lib.ListN.{length, getD, take, drop, length-map, List·getD-map}
+use lib.Seq.{ext-getD, length-take-le}
+use Rattle.words.specs.Numbers.{numberAt}
 use Rattle.words.specs.Values.{signed}
 use Rattle.words.specs.declared.Order.{Order}
 use Rattle.walk.specs.Walk.{pick}
 use Rattle.walk.proofs.Apart.{false-true}
-use Rattle.walk.proofs.Seen.{part-bytes}
 use Rattle.walk.proofs.Unique.{one}
 use Rattle.rules.specs.Reading.{Value, whole, float, valueOf}
 use Rattle.rules.specs.Rules as R
 use Rattle.recordings.specs.Answers.{Answer, value, refusal}
-use Rattle.recordings.proofs.Chosen.{refusal-value, indexed-one}
+use Rattle.recordings.proofs.Chosen.{refusal-value}
+use Rattle.samples.specs.Placed.{bytesOf, valuesOf}
+use Rattle.samples.specs.declared.Cut.{Cut}
+use Rattle.samples.specs.declared.Place.{Place}
+use Rattle.samples.proofs.Placing.{part-inside, bytes-many, values-many, values-each}
 use Rattle.decode.specs.Decoded.{Decoded, itself}
 use Rattle.runs.specs.Found.{FoundIn}
 use Rattle.runs.specs.Runs.{meaning, serves, Element, elementOf, runOf, counted, holding, answerOf, RunAnswer}
-use Rattle.runs.specs.declared.Part.{Part}
 use Rattle.runs.specs.declared.Ran.{Ran}
 use Rattle.runs.specs.declared.Ran.the-variants as Ran
 use Rattle.runs.specs.declared.Sibling.{Sibling}
 use Rattle.runs.specs.declared.Sibling.the-variants as Sibling
-use Rattle.runs.proofs.Asked.{count-is, run-inside}
 
 -- what each call makes of a word of w bytes
 abbrev pub means : (b : Sibling) → ℕ → ℕ → Element b
@@ -60,52 +61,52 @@ runs-refused b s i j k first n out {m} {p} h = record { answer = sym h; buffer =
         room-for false h = refl
 
 -- what was decoded of its bytes
-module _ {b : Sibling} {s : List ℕ} {i j k first n space : ℕ} {o : Order} {p : Part} (f : FoundIn b s i j k first n space o p) where
+module _ {b : Sibling} {s : List ℕ} {i j k first n space : ℕ} {o : Order} {format : ℕ} {p : Place} (f : FoundIn b s i j k first n space o format p) where
   abbrev w : ℕ
-  w = R.width (f .run .format)
-
-  abbrev bytes : List ℕ
-  bytes = take (p .end - p .at) (drop (p .at) s)
+  w = R.width format
 
   abbrev values : List Value
-  values = take n (drop first (f .all .values))
+  values = valuesOf s format p
+
+  many : p .count ≡ n
+  many = ap (λ (q : Place). q .count) (f .place)
+
+  wide : p .width ≡ w
+  wide = ap (λ (q : Place). q .width) (f .place) ∙ f .wide
 
   -- each sample is what its word means
-  each : (v : Value) (q : ℕ) → q < n → elementOf b (getD values q v) ≡ means b w (numberAt o w bytes (q * w))
-  unfolding numberAt
+  each : (v : Value) (q : ℕ) → q < n → elementOf b (getD values q v) ≡ means b w (numberAt o w (bytesOf s p) (q * w))
   each v q l =
-      let inside : first + q < f .run .count = omega (arith, f .inside) in
-      let y = indexed-one (f .all .values) (first + q) (f .samples .each (first + q) inside) in
-      let here : p .at + q * w ≡ f .run .at + w * (first + q) = omega (arith, f .part .start, mul-add w first q, mul-comm w q) in
-      let more : (q + 1) * w ≤ n * w = mul-le-mul-right w (omega arith) in
-      let room : q * w + w ≤ p .end - p .at = omega (arith, f .part .long, add-mul q 1 w, more) in
-      ap (elementOf b) (getD-take n (drop first (f .all .values)) q v l ∙ getD-drop first (f .all .values) q v ∙ y .is v)
-      ∙ (written b (f .run .format) w _ (f .served) ∙ ap (λ (z : List ℕ). means b w (wordIn o z)) (sym (part-bytes s (p .at) (p .end - p .at) (q * w) w room ∙ ap (λ (z : ℕ). take w (drop z s)) here)))
+      let here : 0 + w * q ≡ q * w = omega (arith, mul-comm w q) in
+      ap (elementOf b) (values-each (R.orderOf s) format (bytesOf s p) (p .count) 0 q v (omega (arith, many)))
+      ∙ (written b format w _ (f .served) ∙ rw (f .order) (ap (λ (z : ℕ). means b w (numberAt (R.orderOf s) w (bytesOf s p) z)) here))
 
   long : length values ≡ n
-  long = length-take-le n (drop first (f .all .values)) (rw length-drop (omega (arith, f .inside, count-is (f .samples))))
+  long = values-many (R.orderOf s) format (bytesOf s p) (p .count) 0 ∙ many
 
-  decoded : (v : Value) (d d′ : List (Element b)) → length d ≡ n → Decoded (elementOf b v) (means b w) o w bytes d d′ → d′ ≡ map (elementOf b) values
+  decoded : (v : Value) (d d′ : List (Element b)) → length d ≡ n → Decoded (elementOf b v) (means b w) o w (bytesOf s p) d d′ → d′ ≡ map (elementOf b) values
   decoded v d d′ size g =
       ext-getD (elementOf b v) d′ (map (elementOf b) values) (g .long ∙ (size ∙ sym (length-map values (elementOf b) ∙ long)))
       (λ q l. g .each q (omega (arith, g .long)) ∙ (sym (each v q (omega (arith, g .long, size))) ∙ sym (List·getD-map (elementOf b) values q v)))
 
-  -- by the width v that the code has
-  module _ (out : List (Element b)) (room : length out ≡ space) (v : ℕ) (is : v ≡ w) where
+  run-is : runOf b s i j k first n ≡ value values
+  run-is = rw (f .placed, f .described, f .served, le-leb (first + n) (f .all .count) (f .inside .inside), f .place)
+
+  -- the bytes that the code cut, and the width v that it has
+  module _ (out : List (Element b)) (room : length out ≡ space) (bytes : List ℕ) (cut : bytes ≡ bytesOf s p) (v : ℕ) (is : v ≡ w) where
     first-long : length (take n out) ≡ n
     first-long = length-take-le n out (omega (arith, f .room))
 
     pub bytes-long : length bytes ≡ length (take n out) * v
     bytes-long =
-        let l : length bytes ≡ p .end - p .at = length-take-le (p .end - p .at) (drop (p .at) s) (rw length-drop (omega (arith, f .part .within))) in
-        let e : length (take n out) * v ≡ n * w = rw (first-long, is) in
-        omega (arith, l, e, f .part .long)
+        let inside : p .position + p .width * p .count ≤ length s = rw (f .place) (omega (arith, f .inside .file, mul-le-mul-left (f .all .width) (f .inside .inside), mul-add (f .all .width) first n)) in
+        let l : length bytes ≡ w * n = ap length cut ∙ (bytes-many s p ∙ (ap (λ (q : Cut). q .length) (part-inside (length s) p inside) ∙ rw (wide, many))) in
+        l ∙ rw (first-long, is) (mul-comm w n)
 
     pub runs-told : (x : Value) (d′ : List (Element b)) → Decoded (elementOf b x) (means b v) o v bytes (take n out) d′ → RunAnswer b s i j k first n out (d′ ++ drop n out) (Ran.Numbers n)
     runs-told x d′ g =
-        let e : runOf b s i j k first n ≡ value values = run-inside (f .samples) b first n (f .served) (f .inside) in
         let r = le-leb n (length out) (omega (arith, f .room)) in
-        record { answer = rw (e, r); buffer = rw (e, r) (ap (λ (z : List (Element b)). z ++ drop n out) (decoded x (take n out) d′ first-long (rw is at g))) }
+        record { answer = rw (run-is, r); buffer = rw (run-is, r) (ap (λ (z : List (Element b)). z ++ drop n out) (decoded x (take n out) d′ first-long (rw (is, cut) at g))) }
 
 -- floats have four bytes
 pub floats-wide : (format : ℕ) → serves Sibling.Floats format ≡ true → 4 ≡ R.width format

@@ -1,17 +1,19 @@
--- A run of samples, of a channel in a frame: how many are asked for from the first on, and by which of two calls; the answer, and what the buffer holds
--- afterwards.
+-- A run of samples, of a channel in a frame: how many are asked for from the first on of those at its place, and by which of two calls; the answer, and
+-- what the buffer holds afterwards.
 -- Assumes nothing.
 use mathlib.Core.Path.{_≡_}
 use mathlib.Core.Bool.{Bool, _&&_, not}
 use mathlib.Core.List.{List, _++_, map}
-use Prim.Native.Nat.{ℕ, _+_}
+use Prim.Native.Nat.{ℕ, _+_, _*_}
 use lib.Dec.{leb, eqb}
 use lib.IntN.{ℤ, pos}
 use lib.ListN.{length, take, drop}
 use Rattle.walk.specs.Walk.{pick}
 use Rattle.rules.specs.Reading.{Value, whole, float}
 use Rattle.recordings.specs.Answers.{Answer, value, refusal, _>>=_, outside}
-use Rattle.samples.specs.Frames.{Samples, samplesOf}
+use Rattle.samples.specs.Frames.{formatOf}
+use Rattle.samples.specs.Placed.{placeOf, valuesOf}
+use Rattle.samples.specs.declared.Place.{Place}
 use Rattle.runs.specs.declared.Ran.{Ran}
 use Rattle.runs.specs.declared.Ran.the-variants as Ran
 use Rattle.runs.specs.declared.Sibling.{Sibling}
@@ -37,16 +39,23 @@ elementOf Sibling.Whole (float n) = pos 0
 elementOf Sibling.Floats (whole z) = 0
 elementOf Sibling.Floats (float n) = n
 
--- n samples from the first on, of those of a channel of this format: by the format's own call, and inside
+-- n samples from the first on, of samples of this format: by the format's own call, and inside
 abbrev pub runWithin : Sibling → (first n format : ℕ) → List Value → Answer (List Value)
 runWithin b first n format vs = pick (serves b format && leb (first + n) (length vs)) (value (take n (drop first vs))) outside
 
-abbrev pub runIn : Sibling → (first n : ℕ) → Samples → Answer (List Value)
-runIn b first n x = runWithin b first n (x .format) (x .values)
+-- and of the samples at a place of the file s: those in the bytes of the place that n of them take
+abbrev pub placeFrom : (first n : ℕ) → Place → Place
+placeFrom first n p = record { position = p .position + p .width * first; width = p .width; count = n }
+
+abbrev pub runAt : Sibling → List ℕ → (first n format : ℕ) → Place → Answer (List Value)
+runAt b s first n format p = pick (serves b format && leb (first + n) (p .count)) (value (valuesOf s format (placeFrom first n p))) outside
 
 -- of recording i, frame j, channel k of the file s
 abbrev pub runOf : Sibling → List ℕ → (i j k first n : ℕ) → Answer (List Value)
-runOf b s i j k first n = samplesOf s i j k >>= runIn b first n
+runOf b s i j k first n = do
+  p ← placeOf s i j k
+  format ← formatOf s i k
+  runAt b s first n format p
 
 -- the answer with room for so many numbers: 17 says how many were asked for
 abbrev pub counted : ℕ → ℕ → Answer (List Value) → Answer ℕ

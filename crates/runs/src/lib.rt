@@ -1,13 +1,14 @@
 // A run of samples in one call: so many from a first one on, of one channel in one frame, into a lent buffer.
 ghost use mathlib.Core.Path.{_≡_};
-ghost use Prim.Native.Nat.{_+_};
-ghost use lib.Dec.{leb};
-ghost use Rattle.runs.specs.Found.{refusalRun, RunFoundAs, PartAsked, PartOf};
-ghost use Rattle.runs.specs.Runs.{serves, RunAnswer};
+ghost use lib.ListN.{length};
+ghost use Rattle.runs.specs.Found.{refusalRun, RunInside, RunFoundAs};
+ghost use Rattle.runs.specs.Runs.{serves, placeFrom, RunAnswer};
 ghost use Rattle.runs.specs.declared.Sibling.the-variants as Sibling;
 use rules::Channel;
 use rules::Refusal;
+use samples::Place;
 use samples::SamplesFound;
+use samples::part;
 use words::Order;
 
 // The two calls: signed numbers of formats 1 to 3, and the 32 bits of floats, format 4.
@@ -22,16 +23,9 @@ pub enum Ran {
     Refused(Refusal),
 }
 
-// The bytes of a run, and the channel's format.
-struct Part {
-    at: usize,
-    end: usize,
-    format: u32,
-}
-
-// The file's byte order, and the bytes of the run asked for; or the refusal.
+// The file's byte order, the channel's format, and the place of the run asked for; or the refusal.
 enum RunFound {
-    At(Order, Part),
+    At(Order, u32, Place),
     Refused(Refusal),
 }
 
@@ -39,7 +33,7 @@ fn of_run_found(a: RunFound) -> Refusal
     ensures { λ r. ⌜ r ≡ refusalRun a ⌝ }
 {
     match a {
-        RunFound::At(_, _) => Refusal(0, 0),
+        RunFound::At(_, _, _) => Refusal(0, 0),
         RunFound::Refused(r) => r,
     }
 }
@@ -54,27 +48,15 @@ fn format_served(b: Sibling, format: u32) -> bool
     }
 }
 
-// Whether n samples from the first on are among `count`, whatever the numbers are.
-fn run_inside(count: usize, first: usize, n: usize) -> bool
-    ensures { λ r. ⌜ r ≡ leb (first + n) count ⌝ }
+// The place of n samples from the first on, of those at a place in a file of so many bytes.
+fn place_from(bytes: usize, place: Place, first: usize, n: usize) -> Place
+    requires { ⌜ RunInside bytes first n place ⌝ }
+    ensures { λ p. ⌜ p ≡ placeFrom first n place ⌝ }
 {
-    if count < first {
-        return false;
-    }
-    n <= count - first
-}
-
-// The bytes of n samples from the first on, of the samples `run` in a file of so many bytes.
-fn part_of(bytes: usize, run: samples::Run, first: usize, n: usize) -> Part
-    requires { ⌜ PartAsked bytes first n run ⌝ }
-    ensures { λ p. ⌜ PartOf bytes first n run p ⌝ }
-{
-    let width = records::channels::width(run.format);
-    let at = run.at + width * first;
-    Part {
-        at,
-        end: at + n * width,
-        format: run.format,
+    Place {
+        position: place.position + place.width * first,
+        width: place.width,
+        count: n,
     }
 }
 
@@ -98,13 +80,15 @@ fn run_asked(
     if !format_served(b, run.format) {
         return RunFound::Refused(Refusal(19, 0));
     }
-    if !run_inside(run.count, first, number) {
+    let place = run.place;
+    if !samples::fits(place.count, first, number) {
         return RunFound::Refused(Refusal(19, 0));
     }
     if room < number {
         return RunFound::Refused(Refusal(17, number));
     }
-    RunFound::At(order, part_of(file.len(), run, first, number))
+    let from = place_from(file.len(), place, first, number);
+    RunFound::At(order, run.format, from)
 }
 
 // A run of whole numbers, of a channel of format 1, 2 or 3.
@@ -122,12 +106,10 @@ pub fn run(
     let room = out.len();
     let b = Sibling::Whole;
     let found = run_asked(file, b, recording, frame, channel, first, number, room);
-    let RunFound::At(order, part) = found else {
+    let RunFound::At(order, format, place) = found else {
         return Ran::Refused(of_run_found(found));
     };
-    let at = part.at;
-    let end = part.end;
-    decode::numbers(order, part.format, &file[at..end], &mut out[..number]);
+    decode::numbers(order, format, part(file, place), &mut out[..number]);
     Ran::Numbers(number)
 }
 
@@ -146,11 +128,9 @@ pub fn run_floats(
     let room = out.len();
     let b = Sibling::Floats;
     let found = run_asked(file, b, recording, frame, channel, first, number, room);
-    let RunFound::At(order, part) = found else {
+    let RunFound::At(order, _, place) = found else {
         return Ran::Refused(of_run_found(found));
     };
-    let at = part.at;
-    let end = part.end;
-    decode::patterns(order, &file[at..end], &mut out[..number]);
+    decode::patterns(order, part(file, place), &mut out[..number]);
     Ran::Numbers(number)
 }

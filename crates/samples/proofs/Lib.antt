@@ -4,3 +4,4 @@ pub mod Framing
 pub mod Stretch
 pub mod Readings
 pub mod Sampling
+pub mod Placing

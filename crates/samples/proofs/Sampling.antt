@@ -24,6 +24,7 @@ use Rattle.recordings.proofs.Chosen.{indexed-in, numbered-out, numbered-one, On
 use Rattle.recordings.proofs.Standing.{found-seen}
 use Rattle.samples.specs.Asked.{FrameStands, RunInside, RunAt, RunIn, SamplesFoundAs, runOf}
 use Rattle.samples.specs.Frames.{ChosenFrame, frameOf, Samples, samplesOf}
+use Rattle.samples.specs.Placed.{placeIn}
 use Rattle.samples.specs.declared.SamplesFound.the-variants as SamplesFound
 use Rattle.samples.specs.declared.Run.{Run}
 use Rattle.samples.proofs.Stretch.{run-inside}
@@ -142,15 +143,16 @@ module _ {s : List ℕ} {i j : ℕ} {o : Order} {q : Places} {at : ℕ} {f : Cho
         let e₁ : q .seconds ≡ f .of .this .recording .seconds = ap (λ (p : Places). p .seconds) (h .found .same) in
         let e₂ : at + (24 + sampleBytes (q .seconds) (take (k - 1) (f .of .this .recording .channels))) ≡ f .at + (24 + sampleBytes (f .of .this .recording .seconds) (take (k - 1) (f .of .this .recording .channels))) = rw (h .place, e₁) in
         let e₃ : samplesIn (q .seconds) y ≡ length (samplesAre f k y .values) = rw e₁ (sym (many s (h .found .bytes) i j f (h .is) k y is)) in
-        let e : run ≡ record { at = samplesAre f k y .at; count = length (samplesAre f k y .values); format = y .format } = g ∙ (λ n. record { at = e₂ n; count = e₃ n; format = y .format }) in
+        let e : run ≡ record { format = y .format; place = placeIn (samplesAre f k y) } = g ∙ (λ n. record { format = y .format; place = record { position = e₂ n; width = width (y .format); count = e₃ n } }) in
         record {
           is = samples-are s (h .found .bytes) i j f (h .is) k y is;
           order = h .found .order;
           same = e;
+          described = rw (h .found .is, is) (ap (λ (x : Run). value (x .format)) (sym e));
           inside = l;
           each = λ m v.
-              rw (ap (λ (x : Run). x .format) e, ap (λ (x : Run). x .at) e, h .found .order)
-              (samples-in s (h .found .bytes) i j f (h .is) k y is .each m (omega (arith, v, ap (λ (x : Run). x .count) e)));
+              rw (ap (λ (x : Run). x .format) e, ap (λ (x : Run). x .place .position) e, h .found .order)
+              (samples-in s (h .found .bytes) i j f (h .is) k y is .each m (omega (arith, v, ap (λ (x : Run). x .place .count) e)));
         }
 
   pub samples-found-at : R.between 1 (q .count) k ≡ true → (run : Run) → RunAt o s (q .channels + 32) (k - 1) (q .seconds) at run → SamplesFoundAs s i j k (SamplesFound.At o run)

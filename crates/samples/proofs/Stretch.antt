@@ -84,21 +84,24 @@ pub run-inside : (t n at L : ℕ) (cs : List R.Channel) {x : R.Channel} → inde
 run-inside t n at L cs h l = omega (arith, bytes-before t n cs h)
 
 -- the code sums the bytes before, and reads the channel's record
-module _ (o : Order) (s : List ℕ) (subs n t at before flags format rate count : ℕ) (sums : (cs : List R.Channel) → length cs ≡ n → Kept o s subs cs → before ≡ sampleBytes t cs) (e₁ : flags ≡ numberAt o 4 s (subs + 256 * n + 20)) (e₂ : format ≡ numberAt o 4 s (subs + 256 * n + 28)) (e₃ : rate ≡ numberAt o 4 s (subs + 256 * n + 32)) (e₄ : count ≡ samplesOf t flags rate) where
-  run-same : (cs : List R.Channel) (x : R.Channel) → Kept o s subs cs → indexed cs n ≡ value x → _≡_ {A = Run} (record { at = at + 24 + before; count = count; format = format }) (runOf t (take n cs) x at)
+module _ (o : Order) (s : List ℕ) (subs n t at before flags format rate count w : ℕ) (sums : (cs : List R.Channel) → length cs ≡ n → Kept o s subs cs → before ≡ sampleBytes t cs) (e₁ : flags ≡ numberAt o 4 s (subs + 256 * n + 20)) (e₂ : format ≡ numberAt o 4 s (subs + 256 * n + 28)) (e₃ : rate ≡ numberAt o 4 s (subs + 256 * n + 32)) (e₄ : count ≡ samplesOf t flags rate) (e₅ : w ≡ width format) where
+  abbrev ran : ℕ → ℕ → Run
+  ran p m = record { format = format; place = record { position = p; width = w; count = m } }
+
+  run-same : (cs : List R.Channel) (x : R.Channel) → Kept o s subs cs → indexed cs n ≡ value x → ran (at + 24 + before) count ≡ runOf t (take n cs) x at
   run-same cs x kept is =
       let k = kept-indexed o s subs n cs kept is in
       let b : before ≡ sampleBytes t (take n cs) = sums (take n cs) (length-take-le n cs (omega (arith, indexed-within cs n is))) (kept-take o s subs n cs kept) in
       let a : at + 24 + before ≡ at + (24 + sampleBytes t (take n cs)) = omega arith in
       cc
 
-  pub run-found : at + 24 + before + width format * count ≤ length s → RunAt o s subs n t at (record { at = at + 24 + before; count = count; format = format })
+  pub run-found : at + 24 + before + w * count ≤ length s → RunAt o s subs n t at (ran (at + 24 + before) count)
   run-found l = record { inside = l; same = λ cs x k i _. run-same cs x k i }
 
-  pub run-outside : at ≤ length s → length s < at + 24 + before + width format * count → RunAt o s subs n t at (record { at = at; count = 0; format = format })
+  pub run-outside : at ≤ length s → length s < at + 24 + before + w * count → RunAt o s subs n t at (ran at 0)
   run-outside l g = record {
     inside = omega arith;
     same = λ cs x k i f.
-        let h : at + 24 + before + width format * count ≤ length s = subst (λ (r : Run). RunInside (length s) r) (sym (run-same cs x k i)) f in
+        let h : at + 24 + before + w * count ≤ length s = subst (λ (r : Run). RunInside (length s) r) (sym (run-same cs x k i)) f in
         absurd (omega arith);
   }

@@ -15,7 +15,8 @@ use Rattle.records.specs.Says.{Kept}
 use Rattle.descriptions.specs.declared.Places.{Places}
 use Rattle.recordings.specs.Answers.{value, refusal, indexed}
 use Rattle.recordings.specs.Found.{FoundIn}
-use Rattle.samples.specs.Frames.{ChosenFrame, frameOf, timeOf, Samples, samplesOf}
+use Rattle.samples.specs.Frames.{ChosenFrame, frameOf, timeOf, formatOf, Samples, samplesOf}
+use Rattle.samples.specs.Placed.{placeIn}
 use Rattle.samples.specs.declared.FrameFound.{FrameFound}
 use Rattle.samples.specs.declared.FrameFound.the-variants as FrameFound
 use Rattle.samples.specs.declared.SamplesFound.{SamplesFound}
@@ -54,16 +55,20 @@ FrameFoundAs s i j (FrameFound.Refused r) = frameOf s i j ≡ refusal (r .0) (r 
 
 -- the time r is the clock of the frame that a walk gives at `at`
 abbrev pub ClockAt : Order → List ℕ → ℕ → Time → Type 0
-ClockAt o s at r = (label : Label) (size t : ℕ) (cs : List R.Channel) (room i : ℕ) (f : R.Frame) (e : ℕ) → see o 0 s at (R.frame label size t cs room i) ≡ goes f e → r ≡ timeOf f
+ClockAt o s at r = (label : Label) (size t : ℕ) (cs : List R.Channel) (room i : ℕ) (f : R.Frame) (e : ℕ) →
+    see o 0 s at (R.frame label size t cs room i) ≡ goes f e → r ≡ timeOf f
 
 -- the samples of the channel c in the frame of t seconds at `at`, behind those of the channels before it
 abbrev pub runOf : ℕ → List R.Channel → R.Channel → ℕ → Run
-runOf t before c at = record { at = at + (24 + R.sampleBytes t before); count = R.samplesIn t c; format = c .format }
+runOf t before c at = record {
+  format = c .format;
+  place = record { position = at + (24 + R.sampleBytes t before); width = R.width (c .format); count = R.samplesIn t c };
+}
 
 -- Samples: they lie in a file of n bytes
 
 abbrev pub RunInside : ℕ → Run → Type 0
-RunInside n r = r .at + R.width (r .format) * r .count ≤ n
+RunInside n r = r .place .position + r .place .width * r .place .count ≤ n
 
 -- the code looks for those of channel c, from 0, in a file of n bytes
 pub record Reachable (n subs c t at : ℕ) : Type 0 where
@@ -81,7 +86,8 @@ pub record RunAt (o : Order) (s : List ℕ) (subs c t at : ℕ) (r : Run) : Type
   -- samples in the file, whatever it holds
   pub inside : RunInside (length s) r
   -- those of the channel x, where it is the one asked for of the channels cs, and its samples are in the file
-  pub same : (cs : List R.Channel) (x : R.Channel) → Kept o s subs cs → indexed cs c ≡ value x → RunInside (length s) (runOf t (take c cs) x at) → r ≡ runOf t (take c cs) x at
+  pub same : (cs : List R.Channel) (x : R.Channel) → Kept o s subs cs → indexed cs c ≡ value x →
+      RunInside (length s) (runOf t (take c cs) x at) → r ≡ runOf t (take c cs) x at
 
 -- they are those asked for, and each is what the bytes at its place mean
 pub record RunIn (s : List ℕ) (i j k : ℕ) (o : Order) (run : Run) (x : Samples) : Type 0 where
@@ -89,13 +95,15 @@ pub record RunIn (s : List ℕ) (i j k : ℕ) (o : Order) (run : Run) (x : Sampl
   pub is : samplesOf s i j k ≡ value x
   -- the file's byte order
   pub order : o ≡ R.orderOf s
-  -- where they stand, how many, and their format
-  pub same : run ≡ record { at = x .at; count = length (x .values); format = x .format }
+  -- their format, and their place
+  pub same : run ≡ record { format = x .format; place = placeIn x }
+  pub described : formatOf s i k ≡ value (run .format)
   -- they are in the file
   pub inside : RunInside (length s) run
   -- each is what its bytes mean
-  pub each : (n : ℕ) → n < run .count →
-      indexed (x .values) n ≡ value (valueOf (run .format) (R.width (run .format)) (numberAt o (R.width (run .format)) s (run .at + R.width (run .format) * n)))
+  pub each : (n : ℕ) → n < run .place .count →
+      indexed (x .values) n ≡
+      value (valueOf (run .format) (R.width (run .format)) (numberAt o (R.width (run .format)) s (run .place .position + R.width (run .format) * n)))
 
 abbrev pub SamplesFoundAs : List ℕ → ℕ → ℕ → ℕ → SamplesFound → Type 0
 SamplesFoundAs s i j k (SamplesFound.At o run) = (x : Samples) × RunIn s i j k o run x

@@ -33,6 +33,13 @@ frameOf s i j = do
 abbrev pub timeOf : R.Frame → Time
 timeOf f = record { hour = f .hour; minute = f .minute; second = f .second }
 
+-- the format of channel k of recording i
+abbrev pub formatOf : List ℕ → ℕ → ℕ → Answer ℕ
+formatOf s i k = do
+  r ← recordingOf s i
+  c ← numbered (r .this .recording .channels) k
+  value (c .format)
+
 -- The samples of a channel in a frame
 
 pub record Samples : Type 0 where

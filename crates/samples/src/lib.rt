@@ -1,11 +1,13 @@
 // The frames of a recording, and the samples of a channel in a frame.
 ghost use mathlib.Core.Path.{_≡_};
-ghost use Prim.Native.Nat.{_+_, _≤_};
+ghost use Prim.Native.Nat.{_+_, _*_, _≤_};
+ghost use lib.Dec.{leb};
 ghost use lib.ListN.{length};
 ghost use Rattle.words.specs.Numbers.{numberAt};
 ghost use Rattle.rules.specs.Rules as R;
 ghost use Rattle.rules.specs.Reading.{valueOf};
 ghost use Rattle.samples.specs.Frames.{floatIn, numberIn};
+ghost use Rattle.samples.specs.Placed.{partIn, PartAnswer};
 ghost use Rattle.samples.specs.Asked.{refusalFrame, refusalSamples, FrameFoundAs, SamplesFoundAs, ClockAt, Reachable, RunAt};
 use descriptions::Places;
 use recordings::RecordingFound;
@@ -33,9 +35,22 @@ pub enum ClockTold {
     Refused(Refusal),
 }
 
-pub enum CountTold {
-    Samples(usize),
+// Where samples stand in a file: the first byte, the bytes of one, and how many there are.
+pub struct Place {
+    pub position: usize,
+    pub width: usize,
+    pub count: usize,
+}
+
+pub enum PlaceTold {
+    At(Place),
     Refused(Refusal),
+}
+
+// A part of a file: its first byte, and its length.
+pub struct Cut {
+    pub start: usize,
+    pub length: usize,
 }
 
 // A sample, by the channel's format. A NaN's pattern cannot become an f32, and is answered as its 32 bits.
@@ -56,11 +71,10 @@ pub enum FrameFound {
     Refused(Refusal),
 }
 
-// The samples of a channel in a frame: their first byte, how many there are, and their format.
+// The samples of a channel in a frame: their format, and their place.
 pub struct Run {
-    pub at: usize,
-    pub count: usize,
     pub format: u32,
+    pub place: Place,
 }
 
 pub enum SamplesFound {
@@ -84,6 +98,56 @@ pub fn of_samples_found(a: SamplesFound) -> Refusal
         SamplesFound::At(_, _) => Refusal(0, 0),
         SamplesFound::Refused(r) => r,
     }
+}
+
+// Whether n of something behind `before` of it are at most `room`, whatever the numbers are.
+pub fn fits(room: usize, before: usize, n: usize) -> bool
+    ensures { λ r. ⌜ r ≡ leb (before + n) room ⌝ }
+{
+    if room < before {
+        return false;
+    }
+    n <= room - before
+}
+
+// Whether so many samples of a width are at most `room` bytes, whatever the numbers are.
+fn samples_fit(room: usize, width: usize, count: usize) -> bool
+    ensures { λ r. ⌜ r ≡ leb (width * count) room ⌝ }
+{
+    if width == 0 {
+        return true;
+    }
+    count <= room / width
+}
+
+// The part of a file of so many bytes that a place names, whatever its numbers are: the empty part at the file's end where not all of it is inside.
+pub fn part_in(bytes: usize, place: Place) -> Cut
+    ensures { λ r. ⌜ r ≡ partIn bytes place ⌝ }
+{
+    let none = Cut {
+        start: bytes,
+        length: 0,
+    };
+    if bytes < place.position {
+        return none;
+    }
+    if !samples_fit(bytes - place.position, place.width, place.count) {
+        return none;
+    }
+    Cut {
+        start: place.position,
+        length: place.width * place.count,
+    }
+}
+
+// The bytes of a place, as a part of the file. Another file than the one that the place was found in does no harm.
+pub fn part(file: &[u8], place: Place) -> &[u8]
+    ensures { λ r. ⌜ PartAnswer (file .entry) place r ⌝ }
+{
+    let cut = part_in(file.len(), place);
+    let start = cut.start;
+    let end = start + cut.length;
+    &file[start..end]
 }
 
 // The frame asked for.
@@ -126,27 +190,24 @@ fn run_at(o: Order, s: &[u8], subs: usize, c: u32, t: u32, at: usize) -> Run
     let format = number4(o, s, p + Channel::FORMAT);
     let rate = number4(o, s, p + Channel::RATE);
     let count = records::channels::samples_in(t, flags, rate);
+    let width = records::channels::width(format);
     let start = at + Frame::SAMPLES;
     let room = s.len() - start;
-    if room < before {
-        return Run {
-            at,
+    let bytes = width * count;
+    if !fits(room, before, bytes) {
+        let place = Place {
+            position: at,
+            width,
             count: 0,
-            format,
         };
+        return Run { format, place };
     }
-    if room - before < records::channels::width(format) * count {
-        return Run {
-            at,
-            count: 0,
-            format,
-        };
-    }
-    Run {
-        at: start + before,
+    let place = Place {
+        position: start + before,
+        width,
         count,
-        format,
-    }
+    };
+    Run { format, place }
 }
 
 // The samples asked for.

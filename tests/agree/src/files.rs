@@ -2,6 +2,7 @@
 
 use crate::buffers::written_differs;
 use crate::events::times_differ;
+use crate::parts::{part_differs, parts_differ};
 use ask::{refused, Answer};
 use second::generate::{self, questions, Question};
 use second::judge::judge;
@@ -80,7 +81,7 @@ fn share(seed: u64, indices: impl Iterator<Item = u64>, until: Until) -> Compare
 }
 
 /// Where the library differs from the second program, whose verdict this is: the verdict, what is written, the times of
-/// events, and the answers to questions.
+/// events, parts cut by any numbers, and the answers to questions.
 pub fn differences(
     file: &[u8],
     verdict: &Result<Model, Refusal>,
@@ -90,6 +91,7 @@ pub fn differences(
         .into_iter()
         .chain(written_differs(file))
         .chain(times_differ(file, verdict))
+        .chain(parts_differ(file))
         .chain(asked.iter().filter_map(|one| answer_differs(file, one)))
         .collect()
 }
@@ -106,7 +108,7 @@ fn verdict_differs(file: &[u8], verdict: &Result<Model, Refusal>) -> Option<Stri
         .then(|| format!("judge: {found:?}, but the second program says {expected:?}"))
 }
 
-/// A difference in the answer, in the buffer where one was lent, or among a run's entries.
+/// A difference in the answer, in the buffer where one was lent, among a run's entries, or in the part of a place.
 fn answer_differs(file: &[u8], one: &Question) -> Option<String> {
     let Question { op, args } = one;
     let (found, stray) = match ask::answer(file, op, args) {
@@ -121,19 +123,20 @@ fn answer_differs(file: &[u8], one: &Question) -> Option<String> {
     } else if let Some(place) = stray {
         Some(format!("the lent buffer was written at {place}"))
     } else {
-        entry_differs(file, one, found?.ok()?)
+        let values = found?.ok()?;
+        match *op {
+            "run_int" => entry_differs(file, 0, args, &values),
+            "run_float" => entry_differs(file, 1, args, &values),
+            "place" => placed_differs(file, args),
+            _ => None,
+        }
     };
     why.map(|why| format!("{op} {args:?}: {why}"))
 }
 
-/// The first entry of a run that is not what the single question answers.
-fn entry_differs(file: &[u8], run: &Question, values: String) -> Option<String> {
-    let is_float = match run.op {
-        "run_int" => 0,
-        "run_float" => 1,
-        _ => return None,
-    };
-    let [recording, frame, channel, first, ..] = run.args[..] else {
+/// The first entry of a run, of floats or not, that is not what the single question answers.
+fn entry_differs(file: &[u8], is_float: u8, args: &[u64], values: &str) -> Option<String> {
+    let [recording, frame, channel, first, ..] = args[..] else {
         return None;
     };
     values
@@ -144,4 +147,14 @@ fn entry_differs(file: &[u8], run: &Question, values: String) -> Option<String> 
             let same = single == Ok(format!("{is_float} {entry}"));
             (!same).then(|| format!("{entry}, but sample {sample} is {single:?}"))
         })
+}
+
+/// A difference in the part that is cut by a place which was answered.
+fn placed_differs(file: &[u8], args: &[u64]) -> Option<String> {
+    let &[recording, frame, channel] = args else {
+        return None;
+    };
+    let [recording, frame, channel] = [recording, frame, channel].map(|arg| arg as usize);
+    let place = psg::place(file, recording, frame, channel).ok()?;
+    part_differs(file, place)
 }

@@ -3,3 +3,4 @@
 mod buffers;
 mod events;
 pub mod files;
+mod parts;

@@ -2,7 +2,7 @@
 //! through the library as a whole, and through the second program.
 
 use agree::files::differences;
-use psg::{Clock, Entry, EventKind, Facts, Refusal, Sample};
+use psg::{Clock, Entry, EventKind, Facts, Place, Refusal, Sample};
 use second::bytes::Order;
 use second::generate::questions;
 use second::header::{self, Form, Header, Spelling, Version};
@@ -196,12 +196,16 @@ fn its_questions_are_answered_by_what_was_recorded() {
             assert_eq!((described.rate, described.format), (period, FORMAT));
             for frame in [1, 2, 77, FRAMES] {
                 assert_eq!(psg::clock(&file, 1, frame), Ok(clock(frame)));
-                assert_eq!(psg::count(&file, 1, frame, channel), Ok(count));
-                let at = place(frame, channel);
-                let view = psg::view(&file, 1, frame, channel);
+                let expected = Place {
+                    position: place(frame, channel),
+                    width: WIDTH,
+                    count,
+                };
+                assert_eq!(psg::place(&file, 1, frame, channel), Ok(expected));
+                let samples = expected.position..expected.position + WIDTH * count;
                 assert_eq!(
-                    view.as_ptr_range(),
-                    file[at..at + WIDTH * count].as_ptr_range()
+                    psg::part(&file, expected).as_ptr_range(),
+                    file[samples].as_ptr_range()
                 );
                 for sample in [0, 1, count / 2, count - 1] {
                     let value = Sample::Whole(recorded(frame, channel, sample).into());

@@ -6,7 +6,7 @@ mod lent;
 use lent::by_bits;
 pub use lent::{marked, Answer, Lent};
 
-use psg::{Calibration, Channel, EventKind, FloatBits, Heading, Item, Montage, Text};
+use psg::{Calibration, Channel, EventKind, FloatBits, Heading, Item, Montage, Place, Text};
 use second::lines::joined;
 use second::refusal::Refusal;
 use std::fmt::Display;
@@ -96,8 +96,7 @@ fn question(file: &[u8], op: &str, args: &[u64]) -> Option<Result<String, psg::R
         ("patient_item", &[r, i]) => psg::patient_item(file, r, i).map(item),
         ("event_item", &[r, i]) => psg::event_item(file, r, i).map(item),
         ("clock", &[r, f]) => psg::clock(file, r, f).map(|c| joined(&[c.hour, c.minute, c.second])),
-        ("count", &[r, f, c]) => psg::count(file, r, f, c).map(|n| n.to_string()),
-        ("view", &[r, f, c]) => Ok(view(file, psg::view(file, r, f, c))),
+        ("place", &[r, f, c]) => psg::place(file, r, f, c).map(place),
         ("sample", &[r, f, c, s]) => psg::sample(file, r, f, c, s).map(sample),
         ("event_kind", &[code]) => psg::event_kind(code as u64).map(|k| kind(k).to_string()),
         _ => return None,
@@ -115,18 +114,16 @@ fn header(h: Heading) -> String {
     ])
 }
 
-/// Where the part stands in the file, by its address, and its length.
-fn view(file: &[u8], part: &[u8]) -> String {
-    let start = part.as_ptr() as usize - file.as_ptr() as usize;
-    joined(&[start, part.len()])
-}
-
 fn text(text: Text) -> String {
     joined(&[text.position, text.length])
 }
 
 fn item(item: Item) -> String {
     format!("{} {}", item.code, text(item.text))
+}
+
+fn place(place: Place) -> String {
+    joined(&[place.position, place.width, place.count])
 }
 
 fn sample(sample: psg::Sample) -> String {

@@ -17,8 +17,13 @@ const SECONDS: u32 = 60;
 const RATE: u32 = 1_000_000;
 const COUNT: u32 = 20;
 
-/// A frame's bytes up to its padding: head, clock, reserve, 16-bit samples.
-const FILLED: u64 = 24 + (SECONDS * RATE * 2) as u64;
+/// The samples of a frame, of 16 bits.
+pub const SAMPLES: usize = (SECONDS * RATE) as usize;
+pub const WIDTH: usize = 2;
+
+/// A frame's bytes up to its padding: head, clock, reserve, samples.
+pub const BEFORE_SAMPLES: usize = 24;
+const FILLED: u64 = (BEFORE_SAMPLES + WIDTH * SAMPLES) as u64;
 
 /// The size and the multiplier of a record that holds so many bytes, and less than a multiplier of padding.
 #[derive(Clone, Copy)]
@@ -83,7 +88,7 @@ pub fn make(path: &str) -> io::Result<()> {
     for (serial, at) in (1..).zip(frames()) {
         put(at, &frame().head(145, serial))?;
         // Some samples that are not zero, the last one among them.
-        put(at + 24, &[0x0201 * serial])?;
+        put(at + BEFORE_SAMPLES as u64, &[0x0201 * serial])?;
         put(at + FILLED - 4, &[0x0403 * serial])?;
     }
     Ok(())

@@ -1,9 +1,10 @@
-//! A sparse file of more than 2 GiB: listed, turned there and back, and rewritten through the library, and the
-//! canonical form compared with the second program's. `large PATH` makes the file at PATH, and leaves it there.
+//! A sparse file of more than 2 GiB: listed, its samples placed and cut, turned there and back, and rewritten through
+//! the library, and the canonical form compared with the second program's. `large PATH` makes the file at PATH, and
+//! leaves it there.
 
 mod file;
 
-use psg::Order;
+use psg::{Order, Place};
 use std::process::ExitCode;
 
 /// What a step did not come to.
@@ -28,6 +29,7 @@ fn run(path: &str) -> Result<(), Failed> {
     let file = std::fs::read(path).map_err(|error| format!("{path}: {error}"))?;
     println!("{path}: {} bytes", file.len());
     listed(&file)?;
+    placed(&file)?;
     let turned = psg::turned(&file).map_err(|refusal| refusal.to_string())?;
     turned_back(&file, &turned)?;
     rewritten(&file, &turned)
@@ -49,6 +51,28 @@ fn listed(file: &[u8]) -> Result<(), Failed> {
         .collect();
     same("frames", frames, file::frames())?;
     println!("listed: {} records", rows.len());
+    Ok(())
+}
+
+/// The samples of the first frame and of the last, which stands beyond 2 GiB.
+fn placed(file: &[u8]) -> Result<(), Failed> {
+    let frames = file::frames();
+    for (frame, start) in [(1, frames[0]), (frames.len(), frames[frames.len() - 1])] {
+        let place = psg::place(file, 1, frame, 1).map_err(|refusal| refusal.to_string())?;
+        let expected = Place {
+            position: start as usize + file::BEFORE_SAMPLES,
+            width: file::WIDTH,
+            count: file::SAMPLES,
+        };
+        same("a place", place, expected)?;
+        let bytes = &file[expected.position..][..file::WIDTH * file::SAMPLES];
+        let part = psg::part(file, place);
+        same("a part", part.as_ptr_range(), bytes.as_ptr_range())?;
+        println!(
+            "frame {frame}: {} samples at {}",
+            place.count, place.position
+        );
+    }
     Ok(())
 }
 

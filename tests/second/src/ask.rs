@@ -4,6 +4,7 @@ use crate::index::{event_kind, index};
 use crate::judge::judge;
 use crate::lines::{answer_line, indexed, joined, listed, written, Desk, Question};
 use crate::model::{Calibration, Item, Model, Sample, Span, Sub};
+use crate::place::{place, Place};
 use crate::questions;
 use crate::refusal::Refusal;
 use crate::rewrite::{rewrite, rewrite_room};
@@ -33,8 +34,7 @@ pub fn answer(file: &[u8], op: &str, args: &[u64]) -> Option<Result<String, Refu
         ("patient_item", &[r, i]) => questions::patient_item(file, r, i).map(|i| item_values(&i)),
         ("event_item", &[r, i]) => questions::event_item(file, r, i).map(|i| item_values(&i)),
         ("clock", &[r, f]) => questions::clock(file, r, f).map(|clock| joined(&clock)),
-        ("count", &[r, f, c]) => questions::count(file, r, f, c).map(|n| n.to_string()),
-        ("view", &[r, f, c]) => Ok(span_values(questions::view(file, r, f, c))),
+        ("place", &[r, f, c]) => place(file, r, f, c).map(place_values),
         ("sample", &[r, f, c, s]) => questions::sample(file, r, f, c, s).map(sample_values),
         ("run_int", &[ref run @ .., room]) => {
             run_int(file, run_of(run)?, room).map(|samples| joined(&samples))
@@ -84,6 +84,10 @@ fn span_values(span: Span) -> String {
 
 fn item_values(item: &Item) -> String {
     format!("{} {}", item.code, span_values(item.text))
+}
+
+fn place_values(place: Place) -> String {
+    joined(&[place.position, place.width, place.count])
 }
 
 fn sample_values(sample: Sample) -> String {

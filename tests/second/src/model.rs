@@ -23,7 +23,7 @@ impl Record {
 }
 
 /// A part of the file: a text, or the samples of a channel.
-#[derive(Clone, Copy, Debug, Default, PartialEq, Eq)]
+#[derive(Clone, Copy, Debug, PartialEq, Eq)]
 pub struct Span {
     pub at: usize,
     pub length: usize,

@@ -5,7 +5,7 @@
 use crate::bytes::Order;
 use crate::header::Header;
 use crate::judge::judge;
-use crate::model::{Frame, Item, Model, Sample, Slot, Span, Sub};
+use crate::model::{Frame, Item, Model, Sample, Slot, Sub};
 use crate::record::Format;
 use crate::refusal::{self, Refusal};
 
@@ -71,26 +71,6 @@ pub fn clock(file: &[u8], recording: u64, frame: u64) -> Result<[u16; 3], Refusa
     let model = judge(file)?;
     let recording = nth(&model.recordings, recording)?;
     Ok(nth(&recording.block.frames, frame)?.clock)
-}
-
-/// The count of samples of a channel in a frame.
-pub fn count(file: &[u8], recording: u64, frame: u64, channel: u64) -> Result<u64, Refusal> {
-    let model = judge(file)?;
-    let (_, slot) = samples_of(&model, recording, frame, channel)?;
-    Ok(slot.count)
-}
-
-/// The bytes of one channel in one frame. When refused, and for a channel
-/// without samples, it is the empty part at the file's start.
-pub fn view(file: &[u8], recording: u64, frame: u64, channel: u64) -> Span {
-    let found = judge(file).and_then(|model| {
-        let (frame, slot) = samples_of(&model, recording, frame, channel)?;
-        Ok(frame.samples(slot))
-    });
-    match found {
-        Ok(span) if span.length > 0 => span,
-        _ => Span::default(),
-    }
 }
 
 pub fn sample(

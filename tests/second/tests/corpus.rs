@@ -75,6 +75,10 @@ fn every_question_is_answered_and_refused() {
             (_, value) => {
                 let file = fs::read(folder.join(file)).unwrap();
                 found.insert(format!("{op} ok"));
+                if let ("place", Some(width), Some(count)) = (op, words.next(), words.next()) {
+                    let samples = if count == "0" { "no" } else { "some" };
+                    found.insert(format!("place of {samples} samples, {width} bytes each"));
+                }
                 let values = value.map_or("empty", |_| "with values");
                 found.insert(format!("{op} ok {values}"));
                 found.extend(value.map(|first| format!("{op} ok {first}")));
@@ -83,7 +87,7 @@ fn every_question_is_answered_and_refused() {
             }
         }
     }
-    let ops = "table header facts channel montage_count patient_item event_item clock count sample run_int run_float \
+    let ops = "table header facts channel montage_count patient_item event_item clock place sample run_int run_float \
         index event_kind rewrite rewrite_room turn";
     for op in ops.split(' ') {
         assert!(found.contains(&format!("{op} refused")), "{op} refused");
@@ -94,7 +98,12 @@ fn every_question_is_answered_and_refused() {
         }
     }
     assert!(found.contains("montage ok") && found.contains("montage refused"));
-    assert!(found.contains("view ok") && !found.contains("view refused"));
+    for width in 2..=4 {
+        for samples in ["no", "some"] {
+            let shown = format!("place of {samples} samples, {width} bytes each");
+            assert!(found.contains(&shown), "{shown}");
+        }
+    }
     for op in ["run_int", "run_float"] {
         for shown in "ok empty, ok with values, refused 17, refused 19".split(", ") {
             let shown = format!("{op} {shown}");

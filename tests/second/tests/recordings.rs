@@ -5,7 +5,8 @@ mod common;
 use common::{spelled, Pen, PENS};
 use second::header::Spelling;
 use second::judge::judge;
-use second::model::{Calibration, Sample, Span};
+use second::model::{Calibration, Sample};
+use second::place::{place, Place};
 use second::questions;
 use second::refusal::Refusal;
 use second::rewrite::rewrite;
@@ -20,6 +21,11 @@ fn refused(number: u8, at: usize) -> Option<Refusal> {
 
 fn letter(pen: Pen) -> u64 {
     u64::from(pen.0.letter())
+}
+
+/// How many samples the first channel has in the first frame of a recording.
+fn count(file: &[u8], recording: u64) -> Result<u64, Refusal> {
+    place(file, recording, 1, 1).map(|place| place.count)
 }
 
 fn maker(pen: Pen) -> Vec<u8> {
@@ -62,8 +68,8 @@ fn the_nearest_earlier_records_hold() {
         };
         assert_eq!(one.channels, other.channels);
         assert_eq!(one.patient, other.patient);
-        assert_eq!(questions::count(&file, 1, 1, 1), Ok(2));
-        assert_eq!(questions::count(&file, 2, 1, 1), Ok(4));
+        assert_eq!(count(&file, 1), Ok(2));
+        assert_eq!(count(&file, 2), Ok(4));
         let item = questions::patient_item(&file, 2, 1).expect("the inherited item");
         let text = &file[item.text.at..item.text.at + item.text.length];
         assert_eq!((item.code, text), (1, &b"name"[..]));
@@ -127,9 +133,9 @@ fn an_inherited_period_is_tested_against_each_recordings_seconds() {
         ];
         pen.file(&[pen.recording(1, 0, &one), pen.recording(2, 0, &other)])
     };
-    for (period, seconds, count) in [(500_000, 4, 8), (1_500_000, 4, 2), (1_500_000, 2, 1)] {
+    for (period, seconds, samples) in [(500_000, 4, 8), (1_500_000, 4, 2), (1_500_000, 2, 1)] {
         let file = parts(period, seconds);
-        assert_eq!(questions::count(&file, 2, 1, 1), Ok(count));
+        assert_eq!(count(&file, 2), Ok(samples));
     }
     // Two samples in three seconds, none in one.
     let file = parts(1_500_000, 1);
@@ -160,14 +166,14 @@ fn a_periods_samples_are_counted_down() {
         (700_000, 7, 10),
     ];
     for pen in PENS {
-        for (period, seconds, count) in cases {
+        for (period, seconds, samples) in cases {
             let channels = [[PERIOD, 1, 1, period]];
-            let file = sampled(pen, &channels, seconds, 2 * count);
-            assert_eq!(questions::count(&file, 1, 1, 1), Ok(count as u64));
+            let file = sampled(pen, &channels, seconds, 2 * samples);
+            assert_eq!(count(&file, 1), Ok(samples as u64));
             // One sample more or less is no frame of this file.
-            for other in [count - 1, count + 1] {
+            for other in [samples - 1, samples + 1] {
                 let file = sampled(pen, &channels, seconds, 2 * other);
-                let expected = if other < count {
+                let expected = if other < samples {
                     refused(14, 488 + 20)
                 } else {
                     refused(10, 520)
@@ -189,11 +195,15 @@ fn what_stands_behind_a_period_that_does_not_divide() {
     for pen in PENS {
         let file = sampled(pen, &channels, 1, 512 + 9 + 8);
         let frame = 48 + 128 + (32 + 4 * 256) + 24 + 32;
-        for (channel, at, length) in [(1, 24, 512), (3, 536, 9), (4, 545, 8)] {
-            let at = frame + at;
-            assert_eq!(questions::view(&file, 1, 1, channel), Span { at, length });
+        let places = [(24, 2, 256), (536, 4, 0), (536, 3, 3), (545, 4, 2)];
+        for (channel, (at, width, count)) in (1..).zip(places) {
+            let expected = Place {
+                position: frame + at,
+                width,
+                count,
+            };
+            assert_eq!(place(&file, 1, 1, channel), Ok(expected));
         }
-        assert_eq!(questions::count(&file, 1, 1, 2), Ok(0));
         assert_eq!(rewrite(&file, letter(pen), u64::MAX), Ok(file.clone()));
         let turned = turn(&file, u64::MAX).expect("room enough");
         assert_eq!(turn(&turned, u64::MAX), Ok(file));
@@ -415,8 +425,7 @@ fn float_channels() {
     let file = pen.set(&file, &[(208 + 256 + 36, NAN as i32)]);
     let off = questions::channel(&file, 1, 1).expect("channel 1");
     assert_eq!(off.calibration, Calibration::Whole([0; 4]));
-    assert_eq!(questions::count(&file, 1, 1, 1), Ok(0));
-    assert_eq!(questions::view(&file, 1, 1, 1), Span::default());
+    assert_eq!(count(&file, 1), Ok(0));
     let outside = refused(19, 0);
     assert_eq!(questions::sample(&file, 1, 1, 1, 0).err(), outside);
     let float = questions::channel(&file, 1, 2).expect("channel 2");

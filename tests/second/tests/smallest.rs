@@ -6,7 +6,8 @@ use common::{spelled, Pen, PENS};
 use second::ask::answer;
 use second::judge::judge;
 use second::listing::listing;
-use second::model::{Sample, Span};
+use second::model::Sample;
+use second::place::{place, Place};
 use second::questions;
 use second::refusal::Refusal;
 use second::rewrite::{rewrite, rewrite_room};
@@ -64,11 +65,12 @@ fn its_questions() {
     let facts = questions::facts(&little, 1).expect("recording 1");
     assert_eq!((facts.channels, facts.frames, facts.seconds), (1, 1, 1));
     assert_eq!(questions::clock(&little, 1, 1), Ok([0, 0, 0]));
-    assert_eq!(questions::count(&little, 1, 1, 1), Ok(1));
-    assert_eq!(
-        questions::view(&little, 1, 1, 1),
-        Span { at: 544, length: 2 }
-    );
+    let expected = Place {
+        position: 544,
+        width: 2,
+        count: 1,
+    };
+    assert_eq!(place(&little, 1, 1, 1), Ok(expected));
     // FF 7F, by either order.
     let sample = |file| questions::sample(file, 1, 1, 1, 0);
     assert_eq!(sample(&little), Ok(Sample::Whole(32_767)));
@@ -83,9 +85,9 @@ fn questions_outside() {
         assert_eq!(questions::facts(&file, n).err(), outside);
         assert_eq!(questions::channel(&file, 1, n).err(), outside);
         assert_eq!(questions::clock(&file, 1, n).err(), outside);
-        assert_eq!(questions::count(&file, 1, n, 1).err(), outside);
-        assert_eq!(questions::count(&file, 1, 1, n).err(), outside);
-        assert_eq!(questions::view(&file, n, 1, 1), Span::default());
+        assert_eq!(place(&file, n, 1, 1).err(), outside);
+        assert_eq!(place(&file, 1, n, 1).err(), outside);
+        assert_eq!(place(&file, 1, 1, n).err(), outside);
     }
     for n in [1, 2, 1 << 32, 1 << 63, u64::MAX] {
         assert_eq!(questions::sample(&file, 1, 1, 1, n).err(), outside);

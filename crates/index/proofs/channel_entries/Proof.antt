@@ -2,16 +2,20 @@
 -- Assumes nothing.
 use mathlib.Core.Path.{_≡_, sym, ap, _∙_}
 use mathlib.Core.Bool.{true}
-use Prim.Native.Nat.{ℕ, _+_, _-_, _*_, _≤_}
+use mathlib.Core.List.{List}
+use Prim.Native.Nat.{ℕ, _+_, _*_, _≤_}
 use native.Mathlib.Nat.{mul-comm}
 use native.Mathlib.Omega.{arith}
 use denote.Ref.{now}
-use lib.ListN.{length, take, drop, length-drop}
-use lib.Seq.{length-take-le}
+use lib.ListN.{length}
 use borrow.Author.Needs.{needs}
 use borrow.Author.Tests.{not-true, not-false}
 use Rattle.rules.specs.Rules as R
 use Rattle.records.specs.Says.{subsAt, ChannelsIn}
+use Rattle.samples.specs.Placed.{partIn, bytesOf}
+use Rattle.samples.specs.declared.Cut.{Cut}
+use Rattle.samples.specs.declared.Place.{Place}
+use Rattle.samples.proofs.Placing.{allOf, part-inside, bytes-many}
 use Rattle.index.specs.Events.{ofEvents}
 use Rattle.index.proofs.Framing.{the-one, its-sub, its-end, its-frame, far-enough, its-bytes, channel-quiet, channel-empty, channel-listed}
 use Rattle.index.proofs.Standing.{events-kept, events-width, before-there}
@@ -52,7 +56,7 @@ events e =
     let w = e .before .before .before in
     sym (events-kept _ _ _ _ (its-sub (start w .pre))) ∙ sym (e .before .events-at .ensures) ∙ not-false (e .before .events-at .result) (e .if2 .left)
 
--- its samples are two bytes each, and their bytes are the part
+-- its samples are two bytes each, and as many bytes are the part
 twice : (e : tie.Else2) →
     let w = e .before .before .before in
     w .width .result * w .before .samples-in .result ≡ 2 * w .before .samples-in .result
@@ -60,14 +64,17 @@ twice e =
     let w = e .before .before .before in
     ap (λ (m : ℕ). m * w .before .samples-in .result) (wide w ∙ events-width (y w) (events e))
 
-part-long : (e : tie.Else2) →
+abbrev place : tie.After-width → Place
+place w = record { position = start w .args .at; width = w .width .result; count = w .before .samples-in .result }
+
+part-long : (e : tie.Else2) (part : List ℕ) →
     let w = e .before .before .before in
-    let a = start w .args in
-    length (take (a .at + w .width .result * w .before .samples-in .result - a .at) (drop (a .at) (now (a .file)))) ≡ 2 * w .before .samples-in .result
-part-long e =
+    part ≡ bytesOf (now (start w .args .file)) (place w) → length part ≡ 2 * w .before .samples-in .result
+part-long e part h =
     let w = e .before .before .before in
-    let a = start w .args in
-    length-take-le (a .at + w .width .result * w .before .samples-in .result - a .at) (drop (a .at) (now (a .file))) (rw length-drop (omega (arith, its-end (start w .pre), ends w))) ∙ omega (arith, twice e)
+    let s = now (start w .args .file) in
+    let l : partIn (length s) (place w) ≡ allOf (place w) = part-inside (length s) (place w) (omega (arith, its-end (start w .pre), ends w)) in
+    ap length h ∙ (bytes-many s (place w) ∙ (ap (λ (p : Cut). p .length) l ∙ twice e))
 
 returns : tie.Need-returns
 returns c = let w = c .before in channel-empty (start w .pre) _ (ends w) (sym (many w) ∙ c .if1 .taken)
@@ -92,22 +99,23 @@ sample-entries-requires c κs =
     let e = c .before .before .before in
     let w = e .before .before .before in
     record {
-      long = part-long e;
+      long = part-long e _ (c .before .part .ensures .bytes);
       small = omega (arith, c .before .before .code-before .ensures .1);
       ahead = record { room = omega (arith, start w .pre .room (y w) (the-one (start w .pre) .1), many w); short = omega (arith, its-bytes (start w .pre) (events e), many w, start w .good) };
     }
 
 returns-3 : tie.Need-returns-3
 returns-3 c =
-    let b = c .before .before .before .before in
+    let p = c .before .before .before in
+    let b = p .before in
     let e = b .before in
     let w = e .before .before .before in
-    let p = start w .pre in
+    let a = start w .pre in
     let n = w .before .samples-in .result in
     let some : 1 ≤ n = omega (arith, e .before .before .if1 .left) in
-    channel-listed p _ (ends w) n (b .code-before .result) _ (start w .args .at + w .width .result * n - start w .args .at) (events e) (many w) some
-    (b .code-before .ensures .0 ∙ before-there (start w .args .spot .frame) (its-frame p) (p .stands) (start w .args .c) (y w) (the-one p .1) (events-width (y w) (events e)) n (start w .args .at) (sym (many w)) some (p .place))
-    (omega (arith, twice e)) (c .before .sample-entries .ensures)
+    channel-listed a _ (ends w) n (w .width .result) (b .code-before .result) _ _ (events e) (many w) (wide w)
+    (b .code-before .ensures .0 ∙ before-there (start w .args .spot .frame) (its-frame a) (a .stands) (start w .args .c) (y w) (the-one a .1) (events-width (y w) (events e)) n (start w .args .at) (sym (many w)) some (a .place))
+    (p .part .ensures .bytes) (c .before .sample-entries .ensures)
 
 pub channel-entries-spec : {M : Type 1} → statement M
 channel-entries-spec =
@@ -130,9 +138,7 @@ channel-entries-spec =
     (λ c κs. sub-inside (start (c .before)))
     returns-2
     code-before-requires
-    (λ c. search needs)
-    (λ c. search needs)
-    (λ c. omega (arith, its-end (start (c .before .before .before .before) .pre), ends (c .before .before .before .before)))
+    (λ c κs. search needs)
     sample-entries-requires
     (λ c. search needs)
     returns-3)

@@ -7,13 +7,14 @@ use denote.Ref.{now}
 use lib.ListN.{length}
 use Rattle.samples.specs.Asked.{SamplesFoundAs}
 use Rattle.samples.specs.declared.SamplesFound.the-variants as SamplesFound
+use Rattle.samples.proofs.Placing.{run-wide}
 use Rattle.questions.proofs.Replies.{among, sample-refused, sample-outside, sample-told}
 use Rattle.questions.proofs.sample.Statement.{statement}
 use Rattle.questions.proofs.sample.Tie as tie
 
 -- what was known behind the samples found, and at the start
-abbrev back : tie.After-width → tie.After-ran
-back c = c .before .before .before .before
+abbrev back : tie.After-struct-known2 → tie.After-ran
+back c = c .before .before .before .before .before
 
 abbrev start : tie.After-ran → tie.Start
 start x = x .before .before .before .before
@@ -30,19 +31,17 @@ returns c =
 
 returns-2 : tie.Need-returns-2
 returns-2 c =
-    let x = c .before .before .before in
+    let x : tie.After-ran = c .before .before .before .before in
     let y = known x in
     sample-outside (y .1) _ (c .if1 .taken)
 
 -- the sample asked for lies in the file
-placed : (c : tie.After-width) →
+placed : (c : tie.After-struct-known2) →
     let x = back c in
     let z = start x in
-    x .ran .given .0 .1 .0 .at + c .width .result * z .args .sample + c .width .result ≤ length (now (z .args .file))
-placed c =
-    let x = back c in
-    let y = known x in
-    among _ _ _ _ (x .ran .given .0 .1 .0 .count) _ (c .width .ensures .0) (c .before .if1 .left) (y .1 .inside)
+    let p = x .ran .given .0 .1 .0 .place in
+    p .position + p .width * z .args .sample + p .width ≤ length (now (z .args .file))
+placed c = let y = known (back c) in among (y .1) _ (c .before .if1 .left)
 
 mul-at : tie.Need-mul-at
 mul-at c = record { fits = omega (arith, placed c, start (back c) .good) }
@@ -51,14 +50,15 @@ add-at : tie.Need-add-at
 add-at c = record { fits = omega (arith, placed (c .before), start (back (c .before)) .good) }
 
 number-at-requires : tie.Need-number-at-requires
-number-at-requires c κs = omega (arith, placed (c .before), c .before .width .ensures .0)
+number-at-requires c κs =
+    let y = known (back (c .before)) in
+    omega (arith, placed (c .before), run-wide (y .1))
 
 returns-3 : tie.Need-returns-3
 returns-3 c =
     let b = c .before .before in
-    let x = back b in
-    let y = known x in
-    sample-told (y .1) _ _ (b .width .ensures .0) (b .before .if1 .left) _ (c .number-at .ensures)
+    let y = known (back b) in
+    sample-told (y .1) _ (b .before .if1 .left) _ (c .number-at .ensures)
 
 pub sample-spec : {M : Type 1} → statement M
 sample-spec =
@@ -70,7 +70,6 @@ sample-spec =
     (λ c κs. search needs)
     returns
     returns-2
-    (λ c κs. search needs)
     mul-at
     add-at
     number-at-requires

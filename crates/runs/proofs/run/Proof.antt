@@ -23,7 +23,7 @@ start x = x .before .before .before .before
 -- the run found
 known : (x : tie.After-found) →
     let a = start x .args in
-    RunFoundAs Sibling.Whole (now (a .file)) (a .recording) (a .frame) (a .channel) (a .first) (a .number) (length (now (a .out))) (RunFound.At (x .found .given .0 .0) (x .found .given .0 .1 .0))
+    RunFoundAs Sibling.Whole (now (a .file)) (a .recording) (a .frame) (a .channel) (a .first) (a .number) (length (now (a .out))) (RunFound.At (x .found .given .0 .0) (x .found .given .0 .1 .0) (x .found .given .0 .1 .1 .0))
 known x = rw (x .found .given .1) at (x .before .before .run-asked .ensures)
 
 returns : tie.Need-returns
@@ -31,15 +31,6 @@ returns c =
     let a = c .before .before .before .before .before .args in
     let e = c .before .enum-told .given .1 in
     rw (c .of-run-found .ensures, e) (runs-refused Sibling.Whole (now (a .file)) (a .recording) (a .frame) (a .channel) (a .first) (a .number) (now (a .out)) (rw e at (c .before .before .before .run-asked .ensures)))
-
-sub-numbers : tie.Need-sub-numbers
-sub-numbers c = omega (arith, known (c .before) .part .long)
-
-part-numbers-start : tie.Need-part-numbers-start
-part-numbers-start c = omega (arith, known (c .before) .part .long)
-
-part-numbers-end : tie.Need-part-numbers-end
-part-numbers-end c = omega (arith, known (c .before) .part .within)
 
 slice-relend-prefix-numbers : tie.Need-slice-relend-prefix-numbers
 slice-relend-prefix-numbers c = omega (arith, known (c .before .before) .room)
@@ -51,13 +42,14 @@ numbers-requires : tie.Need-numbers-requires
 numbers-requires c κs =
     let x = c .before .before .before in
     let f = known x in
-    bytes-long f (now (start x .args .out)) refl _ (ap R.width (f .part .format))
+    bytes-long f (now (start x .args .out)) refl _ (c .before .part .ensures .bytes) _ refl
 
 returns-2 : tie.Need-returns-2
 returns-2 c =
-    let x = c .before .before .before .before .before in
+    let p = c .before .before .before in
+    let x = p .before .before in
     let f = known x in
-    runs-told f (now (start x .args .out)) refl _ (ap R.width (f .part .format)) (whole (pos 0)) _ (c .before .numbers .ensures)
+    runs-told f (now (start x .args .out)) refl _ (p .part .ensures .bytes) _ refl (whole (pos 0)) _ (c .before .numbers .ensures)
 
 pub run-spec : {M : Type 1} → statement M
 run-spec =
@@ -68,9 +60,7 @@ run-spec =
     (λ c. search needs)
     (λ c κs. search needs)
     returns
-    sub-numbers
-    part-numbers-start
-    part-numbers-end
+    (λ c κs. search needs)
     slice-relend-prefix-numbers
     slice-aggregate-numbers
     numbers-requires

@@ -4,13 +4,13 @@ use mathlib.Core.Path.{_≡_, sym, _∙_}
 use mathlib.Core.Bool.{true}
 use Prim.Native.Nat.{_+_}
 use borrow.Author.Needs.{needs}
-use borrow.Author.Tests.{not-true, not-false, leb-true}
+use borrow.Author.Tests.{not-true, not-false}
 use denote.Ref.{now}
 use lib.Dec.{leb}
 use Rattle.samples.specs.Asked.{SamplesFoundAs}
 use Rattle.samples.specs.declared.SamplesFound.the-variants as SamplesFound
 use Rattle.runs.specs.Runs.{serves}
-use Rattle.runs.proofs.Asked.{run-refused, run-unserved, run-outside, run-short, run-found}
+use Rattle.runs.proofs.Asked.{run-refused, run-unserved, run-outside, run-short, run-within, run-found}
 use Rattle.runs.proofs.run_asked.Statement.{statement}
 use Rattle.runs.proofs.run_asked.Tie as tie
 
@@ -31,9 +31,9 @@ served : (c : tie.Else1) → serves (start (back c) .args .b) (back c .found .gi
 served c = sym (c .before .format-served .ensures) ∙ not-false (c .before .format-served .result) (c .if1 .left)
 
 inside : (c : tie.Else2) →
-    let x = back (c .before .before) in
-    leb (start x .args .first + start x .args .number) (x .found .given .0 .1 .0 .count) ≡ true
-inside c = sym (c .before .run-inside .ensures) ∙ not-false (c .before .run-inside .result) (c .if2 .left)
+    let x = back (c .before .before .before) in
+    leb (start x .args .first + start x .args .number) (x .found .given .0 .1 .0 .place .count) ≡ true
+inside c = sym (c .before .fits2 .ensures) ∙ not-false (c .before .fits2 .result) (c .if2 .left)
 
 returns : tie.Need-returns
 returns c =
@@ -49,24 +49,27 @@ returns-2 c =
 
 returns-3 : tie.Need-returns-3
 returns-3 c =
-    let x = back (c .before .before) in
-    let a = start x .args in
-    run-outside (known x .1) (a .b) (a .first) (a .number) (a .room) (served (c .before .before)) (sym (c .before .run-inside .ensures) ∙ not-true (c .before .run-inside .result) (c .if2 .taken))
+    let e = c .before .before .before in
+    let a = start (back e) .args in
+    run-outside (known (back e) .1) (a .b) (a .first) (a .number) (a .room) (served e) (sym (c .before .fits2 .ensures) ∙ not-true (c .before .fits2 .result) (c .if2 .taken))
 
 returns-4 : tie.Need-returns-4
 returns-4 c =
-    let e = c .before .before .before in
+    let e = c .before .before .before .before in
     let a = start (back e) .args in
     run-short (known (back e) .1) (a .b) (a .first) (a .number) (a .room) (served e) (inside (c .before)) (c .if3 .taken)
 
-part-of-requires : tie.Need-part-of-requires
-part-of-requires c κs = record { file = known (back (c .before .before .before)) .1 .inside; inside = leb-true _ _ (inside (c .before)) }
+place-from-requires : tie.Need-place-from-requires
+place-from-requires c κs =
+    let e = c .before .before .before .before in
+    let a = start (back e) .args in
+    run-within (known (back e) .1) (a .b) (a .first) (a .number) (a .room) (served e) (inside (c .before))
 
 returns-5 : tie.Need-returns-5
 returns-5 c =
-    let e = c .before .before .before .before in
+    let e = c .before .before .before .before .before in
     let a = start (back e) .args in
-    run-found (known (back e) .1) (a .b) (a .first) (a .number) (a .room) (served e) (inside (c .before .before)) (c .before .if3 .left) _ (c .part-of .ensures)
+    run-found (known (back e) .1) (a .b) (a .first) (a .number) (a .room) (served e) (inside (c .before .before)) (c .before .if3 .left) _ (c .place-from .ensures)
 
 pub run-asked-spec : {M : Type 1} → statement M
 run-asked-spec =
@@ -82,5 +85,5 @@ run-asked-spec =
     (λ c κs. search needs)
     returns-3
     returns-4
-    part-of-requires
+    place-from-requires
     returns-5)

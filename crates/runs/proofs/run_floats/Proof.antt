@@ -21,7 +21,7 @@ start x = x .before .before .before .before .before
 -- the run found
 known : (x : tie.After-found) →
     let a = start x .args in
-    RunFoundAs Sibling.Floats (now (a .file)) (a .recording) (a .frame) (a .channel) (a .first) (a .number) (length (now (a .out))) (RunFound.At (x .found .given .0 .0) (x .found .given .0 .1 .0))
+    RunFoundAs Sibling.Floats (now (a .file)) (a .recording) (a .frame) (a .channel) (a .first) (a .number) (length (now (a .out))) (RunFound.At (x .found .given .0 .0) (x .found .given .0 .1 .0) (x .found .given .0 .1 .1 .0))
 known x = rw (x .found .given .1) at (x .before .before .run-asked .ensures)
 
 returns : tie.Need-returns
@@ -29,15 +29,6 @@ returns c =
     let a = c .before .before .before .before .before .before .args in
     let e = c .before .enum-told .given .1 in
     rw (c .of-run-found .ensures, e) (runs-refused Sibling.Floats (now (a .file)) (a .recording) (a .frame) (a .channel) (a .first) (a .number) (now (a .out)) (rw e at (c .before .before .before .run-asked .ensures)))
-
-sub-patterns : tie.Need-sub-patterns
-sub-patterns c = omega (arith, known (c .before) .part .long)
-
-part-patterns-start : tie.Need-part-patterns-start
-part-patterns-start c = omega (arith, known (c .before) .part .long)
-
-part-patterns-end : tie.Need-part-patterns-end
-part-patterns-end c = omega (arith, known (c .before) .part .within)
 
 slice-relend-prefix-patterns : tie.Need-slice-relend-prefix-patterns
 slice-relend-prefix-patterns c = omega (arith, known (c .before .before) .room)
@@ -49,13 +40,14 @@ patterns-requires : tie.Need-patterns-requires
 patterns-requires c κs =
     let x = c .before .before .before in
     let f = known x in
-    bytes-long f (now (start x .args .out)) refl _ (floats-wide _ (f .served))
+    bytes-long f (now (start x .args .out)) refl _ (c .before .part .ensures .bytes) _ (floats-wide _ (f .served))
 
 returns-2 : tie.Need-returns-2
 returns-2 c =
-    let x = c .before .before .before .before .before .before in
+    let p = c .before .before .before .before in
+    let x = p .before .before in
     let f = known x in
-    runs-told f (now (start x .args .out)) refl _ (floats-wide _ (f .served)) (float 0) _ (c .before .before .patterns .ensures)
+    runs-told f (now (start x .args .out)) refl _ (p .part .ensures .bytes) _ (floats-wide _ (f .served)) (float 0) _ (c .before .before .patterns .ensures)
 
 pub run-floats-spec : {M : Type 1} → statement M
 run-floats-spec =
@@ -66,9 +58,7 @@ run-floats-spec =
     (λ c. search needs)
     (λ c κs. search needs)
     returns
-    sub-patterns
-    part-patterns-start
-    part-patterns-end
+    (λ c κs. search needs)
     slice-relend-prefix-patterns
     slice-aggregate-patterns
     patterns-requires

@@ -11,17 +11,17 @@ use std::fs;
 use std::io;
 use std::path::{Path, PathBuf};
 
-/// The names of a corpus' question lines; `count` and `view` may stand apart,
-/// and so may those of request 3, `header`, of request 1, `montage_count` and
-/// `montage`, of request 4, `run_int` and `run_float`, and of request 7, `index` and
-/// `event_kind`.
+/// The names of a corpus' question lines. Those of single requests may stand apart: of
+/// request 3, `header`, of request 1, `montage_count` and `montage`, of request 4,
+/// `run_int` and `run_float`, of request 7, `index` and `event_kind`, and of request 8,
+/// `place`.
 const QUESTIONS: &[&str] = &[
     "questions",
-    "questions-old",
     "questions-3",
     "questions-1",
     "questions-4",
     "questions-7",
+    "questions-8",
 ];
 
 #[derive(Clone, Debug, Default, PartialEq, Eq)]
