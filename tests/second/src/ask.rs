@@ -4,6 +4,7 @@ use crate::index::{event_kind, index};
 use crate::judge::judge;
 use crate::lines::{answer_line, indexed, joined, listed, written, Desk, Question};
 use crate::model::{Calibration, Item, Model, Sample, Span, Sub};
+use crate::overview::{overview, overview_range, Envelope, Epochs};
 use crate::place::{place, Place};
 use crate::questions;
 use crate::refusal::Refusal;
@@ -46,6 +47,16 @@ pub fn answer(file: &[u8], op: &str, args: &[u64]) -> Option<Result<String, Refu
             index(file, room).map(|entries| indexed(entries.len(), &entries.concat()))
         }
         ("event_kind", &[code]) => event_kind(code).map(str::to_string),
+        ("overview", &[r, c, epoch]) => overview(file, r, c, epoch).map(overview_values),
+        ("overview_range", &[recording, channel, first, number, room]) => {
+            let epochs = Epochs {
+                recording,
+                channel,
+                first,
+                number,
+            };
+            overview_range(file, epochs, room).map(|numbers| joined(&numbers))
+        }
         ("rewrite", &[order, room]) => rewrite(file, order, room).map(|out| written(&out)),
         ("rewrite_room", &[]) => rewrite_room(file).map(|n| n.to_string()),
         ("turn", &[room]) => turn(file, room).map(|out| written(&out)),
@@ -88,6 +99,10 @@ fn item_values(item: &Item) -> String {
 
 fn place_values(place: Place) -> String {
     joined(&[place.position, place.width, place.count])
+}
+
+fn overview_values(samples: Option<Envelope>) -> String {
+    samples.map_or("empty".to_string(), |samples| joined(&samples.numbers()))
 }
 
 fn sample_values(sample: Sample) -> String {

@@ -1,6 +1,6 @@
 //! A second, independent reader of the JSSR PSG common format, versions 000100, 000110,
 //! 000200 and 000300 (both forms, frame data, one file), written from document 01 and
-//! requests 1, 2, 3, 4, 6, 7, 8 and 12 of document 02, and used to test another implementation.
+//! requests 1, 2, 3, 4, 6, 7, 8, 12 and 14 of document 02, and used to test another implementation.
 
 pub mod ask;
 pub mod bytes;
@@ -14,6 +14,7 @@ pub mod judge;
 pub mod lines;
 pub mod listing;
 pub mod model;
+pub mod overview;
 pub mod place;
 pub mod questions;
 pub mod random;

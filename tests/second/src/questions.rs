@@ -5,7 +5,7 @@
 use crate::bytes::Order;
 use crate::header::Header;
 use crate::judge::judge;
-use crate::model::{Frame, Item, Model, Sample, Slot, Sub};
+use crate::model::{Frame, FrameBlock, Item, Model, Sample, Slot, Sub};
 use crate::record::Format;
 use crate::refusal::{self, Refusal};
 
@@ -105,10 +105,18 @@ pub fn samples_of(
     frame: u64,
     channel: u64,
 ) -> Result<(&Frame, &Slot), Refusal> {
-    let recording = nth(&model.recordings, recording)?;
-    let frame = nth(&recording.block.frames, frame)?;
-    let slot = nth(&recording.block.slots, channel)?;
-    Ok((frame, slot))
+    let (block, slot) = slot_of(model, recording, channel)?;
+    Ok((nth(&block.frames, frame)?, slot))
+}
+
+/// The frames of a recording, and where the samples of a channel stand in each of them.
+pub fn slot_of(
+    model: &Model,
+    recording: u64,
+    channel: u64,
+) -> Result<(&FrameBlock, &Slot), Refusal> {
+    let block = &nth(&model.recordings, recording)?.block;
+    Ok((block, nth(&block.slots, channel)?))
 }
 
 /// The entry asked for from 1.

@@ -4,11 +4,13 @@ mod codes;
 mod damage;
 mod draw;
 mod edges;
+mod epochs;
 mod plan;
 mod questions;
 mod sheet;
 
 pub use damage::{NO_FORMS, NO_IDENTIFIERS};
+pub use epochs::epoch_questions;
 pub use questions::{questions, Question, PLAIN};
 pub use sheet::{Field, Sheet};
 

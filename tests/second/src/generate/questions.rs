@@ -28,10 +28,10 @@ const RUNS: [(&str, bool); 2] = [("run_int", false), ("run_float", true)];
 const FIRST: usize = 3;
 
 /// The first number of a range, and how many there are.
-type Range = (u64, u64);
+pub type Range = (u64, u64);
 
 /// A range for each of a question's arguments.
-type Ranges = Vec<Range>;
+pub type Ranges = Vec<Range>;
 
 /// The question for the kind of an event's code, and the codes that have one.
 const KIND: &str = "event_kind";
@@ -40,16 +40,16 @@ const CODES: Range = (0, 1 << 16);
 const AFRESH: usize = 4;
 
 /// A number of the range, or its first where it is empty.
-fn inside(random: &mut Random, (first, count): Range) -> u64 {
+pub fn inside(random: &mut Random, (first, count): Range) -> u64 {
     first + random.word() % count.max(1)
 }
 
-fn all_inside(random: &mut Random, ranges: &[Range]) -> Vec<u64> {
+pub fn all_inside(random: &mut Random, ranges: &[Range]) -> Vec<u64> {
     ranges.iter().map(|&range| inside(random, range)).collect()
 }
 
 /// A number of any size.
-fn any(random: &mut Random) -> u64 {
+pub fn any(random: &mut Random) -> u64 {
     let size = random.below(64);
     random.word() >> size
 }
@@ -134,7 +134,7 @@ fn run_ranges(
 }
 
 /// A channel that the question is for; now and then, and where there is none, any.
-fn run_channel(slots: &[Slot], floats: bool, random: &mut Random) -> usize {
+pub fn run_channel(slots: &[Slot], floats: bool, random: &mut Random) -> usize {
     const ANY_PERCENT: usize = 10;
     let is_for = |&channel: &usize| slots[channel].format.is_float() == floats;
     let channels: Vec<usize> = (0..slots.len()).filter(is_for).collect();
@@ -162,7 +162,7 @@ fn published(random: &mut Random) -> Question {
 }
 
 /// One question with each argument in turn at its bounds, then with some inside and some of any size.
-fn about(op: &'static str, ranges: &Ranges, random: &mut Random, drawn: &mut Vec<Question>) {
+pub fn about(op: &'static str, ranges: &Ranges, random: &mut Random, drawn: &mut Vec<Question>) {
     for (place, &(first, count)) in ranges.iter().enumerate() {
         let last = (first + count).saturating_sub(1);
         for bound in [0, 1, last, last + 1, 1 << 32, 1 << 63, u64::MAX] {
