@@ -142,6 +142,22 @@ struct psg_place {
     uint64_t count;
 };
 
+/* Where the samples of a channel stand in every frame of a recording: the letter of the byte order, 'L' or 'B'; the
+   format, 1 to 4; the place of those in frame 1, as above; the bytes from one frame's samples to the next frame's; F
+   and T. */
+struct psg_track {
+    uint32_t refusal;
+    uint64_t position;
+    uint32_t order;
+    uint32_t format;
+    uint64_t start;
+    uint64_t width;
+    uint64_t count;
+    uint64_t step;
+    uint32_t frames;
+    uint32_t seconds;
+};
+
 /* A part of the file. */
 struct psg_part {
     uint64_t start;
@@ -213,6 +229,11 @@ struct psg_clock psg_clock(const uint8_t *file, size_t length, size_t recording,
 
 /* Where the samples of a channel stand in a frame, how wide they are and how many. */
 struct psg_place psg_place(const uint8_t *file, size_t length, size_t recording, size_t frame, size_t channel);
+
+/* Where the samples of a channel stand in every frame of a recording: those in frame j, of 1 to frames, begin at
+   start + step * (j - 1), and have the same width and count in each. It is what psg_place answers frame by frame, for
+   one judging; psg_part cuts each. 19 for a recording or a channel outside. */
+struct psg_track psg_track(const uint8_t *file, size_t length, size_t recording, size_t channel);
 
 /* The part of a file of length bytes that a place tells, with its start as the position: the bytes if all of them lie
    inside the file, else the empty part at the file's end. A width or a count of 0, with a position of at most length,

@@ -96,6 +96,18 @@ AT(psg_place, start, 16)
 AT(psg_place, width, 24)
 AT(psg_place, count, 32)
 
+SIZE(psg_track, 64)
+AT(psg_track, refusal, 0)
+AT(psg_track, position, 8)
+AT(psg_track, order, 16)
+AT(psg_track, format, 20)
+AT(psg_track, start, 24)
+AT(psg_track, width, 32)
+AT(psg_track, count, 40)
+AT(psg_track, step, 48)
+AT(psg_track, frames, 56)
+AT(psg_track, seconds, 60)
+
 SIZE(psg_part, 16)
 AT(psg_part, start, 0)
 AT(psg_part, length, 8)
@@ -211,6 +223,22 @@ static void places(const uint8_t *small, size_t n) {
     EXPECT(place.refusal == 0 && place.start == 544 && place.width == 2 && place.count == 0);
     part = psg_part(n, place.start, place.width, place.count);
     EXPECT(part.start == 544 && part.length == 0);
+}
+
+/* Where the one sample stands in the one frame, in both orders, and refusals, which say nothing else. */
+static void tracks(const uint8_t *file, size_t n) {
+    static uint8_t out[1024];
+    struct psg_track track = psg_track(file, n, 1, 1);
+    EXPECT(track.refusal == 0 && track.position == 0 && track.order == 'L' && track.format == 1);
+    EXPECT(track.start == 544 && track.width == 2 && track.count == 1);
+    EXPECT(track.step == 26 && track.frames == 1 && track.seconds == 1);
+    EXPECT(psg_turn(file, n, out, sizeof out).refusal == 0 && psg_track(out, n, 1, 1).order == 'B');
+    track = psg_track(file, n, 1, 2);
+    EXPECT(track.refusal == 19 && track.position == 0 && track.order == 0 && track.format == 0 && track.start == 0);
+    EXPECT(track.width == 0 && track.count == 0 && track.step == 0 && track.frames == 0 && track.seconds == 0);
+    EXPECT(psg_track(file, n, 0, 1).refusal == 19 && psg_track(file, n, SIZE_MAX, 1).refusal == 19);
+    track = psg_track(file, n - 1, 1, 2);
+    EXPECT(track.refusal == 10 && track.position == 32 && track.order == 0);
 }
 
 /* Length, position, width and count, and the part: the bytes, all of them or none; no bytes at the position, or behind
@@ -390,6 +418,7 @@ int main(void) {
     writing(file, n);
     questions(file, n);
     places(file, n);
+    tracks(file, n);
     parts();
     runs(file, n);
     floats(file, n);

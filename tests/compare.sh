@@ -24,7 +24,7 @@ compare_corpus() {
     folder=$(mktemp -d -p "$files")
     tar xzf "$1" -C "$folder"
     "$built/second" corpus "$folder/corpus"
-    for name in questions questions-3 questions-1 questions-4 questions-7 questions-8; do
+    for name in questions questions-3 questions-1 questions-4 questions-7 questions-8 questions-14; do
         asked=$folder/corpus/$name.ask
         [ -e "$asked" ] || continue
         "$built/ask" "$folder/corpus" <"$asked" | diff - "${asked%.ask}.ans"

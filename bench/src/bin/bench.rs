@@ -1,7 +1,7 @@
 //! `bench [MINUTES]`: the proved library against plain Rust, the fastest safe Rust and memcpy, on one recording of a
 //! night (of so many minutes; eight hours if not said), a table of ratios with the goals beside them; then runs of
-//! samples, and the index of events, each against plain Rust, with what judging takes of a call beside the ratio without
-//! it. Median of several rounds, in each of which every call is made once, in turn, so that a busy machine slows them
+//! samples, the index of events and the overview, each against plain Rust, with what judging takes of a call beside the
+//! ratio without it. Median of several rounds, in each of which every call is made once, in turn, so that a busy machine slows them
 //! alike.
 //!
 //!     cargo run --release --offline
@@ -9,7 +9,7 @@
 //! A ratio is the library's speed as a share of the other's: above 1 the library is the faster one.
 
 use nights::night::{Night, EIGHT_HOURS};
-use nights::{fastest, index, runs, timing};
+use nights::{epochs, fastest, index, runs, timing};
 use second::bytes::Order;
 use second::record::Format;
 use std::hint::black_box;
@@ -67,6 +67,8 @@ fn main() -> ExitCode {
     runs::measure(frames);
     println!();
     index::measure(frames);
+    println!();
+    epochs::measure(frames);
     ExitCode::SUCCESS
 }
 
@@ -108,8 +110,8 @@ fn turn(bits: usize) -> Race {
     }
 }
 
-/// Judging, the table, and two questions.
-fn of_records() -> [Race; 4] {
+/// Judging, the table, two questions, and the overview of an epoch beside judging alone.
+fn of_records() -> [Race; 5] {
     [
         Race {
             name: "judge".to_string(),
@@ -161,6 +163,19 @@ fn of_records() -> [Race; 4] {
                     let channel = CHANNELS as u64;
                     black_box(second::questions::sample(file, 1, 1, channel, 99))
                         .expect("a sample is there");
+                },
+                None,
+            )],
+        },
+        Race {
+            name: "overview, one epoch".to_string(),
+            library: |file, _| {
+                black_box(overview::overview(file, 1, 1, 1)).expect("an epoch is there");
+            },
+            others: vec![(
+                "judge",
+                |file, _| {
+                    black_box(psg::judge(file)).expect("a night is judged");
                 },
                 None,
             )],

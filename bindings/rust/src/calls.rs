@@ -56,6 +56,9 @@ answers! {
     Clock { hour: u32, minute: u32, second: u32 }
     Sample { is_float: u32, value: i32, bits: u32 }
     Place { start: u64, width: u64, count: u64 }
+    Track {
+        order: u32, format: u32, start: u64, width: u64, count: u64, step: u64, frames: u32, seconds: u32
+    }
     Kind { kind: u32 }
 }
 
@@ -113,6 +116,9 @@ layouts! {
     Clock, 32 { refusal 0, position 8, hour 16, minute 20, second 24 }
     Sample, 32 { refusal 0, position 8, is_float 16, value 20, bits 24 }
     Place, 40 { refusal 0, position 8, start 16, width 24, count 32 }
+    Track, 64 {
+        refusal 0, position 8, order 16, format 20, start 24, width 32, count 40, step 48, frames 56, seconds 60
+    }
     Part, 16 { start 0, length 8 }
     Kind, 24 { refusal 0, position 8, kind 16 }
 }
@@ -187,6 +193,7 @@ questions! {
     psg_event_item, event_item(recording, item) -> Item;
     psg_clock, clock(recording, frame) -> Clock;
     psg_place, place(recording, frame, channel) -> Place;
+    psg_track, track(recording, channel) -> Track;
     psg_sample, sample(recording, frame, channel, sample) -> Sample;
 }
 

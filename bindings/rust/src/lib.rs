@@ -195,6 +195,34 @@ pub struct Place {
     pub count: usize,
 }
 
+/// Where the samples of a channel stand in every frame of a recording.
+#[derive(Clone, Copy, Debug, PartialEq, Eq)]
+pub struct Track {
+    /// The byte order of the file.
+    pub order: Order,
+    /// A sample is a signed number of 16, 24 or 32 bits (1, 2 and 3), or a float (4).
+    pub format: u32,
+    /// Where they stand in frame 1.
+    pub first: Place,
+    /// How many bytes it is from one frame's samples to the next frame's.
+    pub step: usize,
+    /// F, the frames.
+    pub frames: u32,
+    /// T, the seconds of a frame.
+    pub seconds: u32,
+}
+
+impl Track {
+    /// Where they stand in a frame, asked for from 1, as [`place`] answers it; nothing where there is no such frame.
+    pub fn place(&self, frame: usize) -> Option<Place> {
+        let before = frame.checked_sub(1)?;
+        (before < self.frames as usize).then(|| Place {
+            position: self.first.position + self.step * before,
+            ..self.first
+        })
+    }
+}
+
 /// A sample.
 #[derive(Clone, Copy, Debug, PartialEq, Eq)]
 pub enum Sample {
@@ -405,10 +433,38 @@ pub fn place(
     channel: usize,
 ) -> Result<Place, Refusal> {
     let place = calls::place(file, recording, frame, channel).answer()?;
-    Ok(Place {
-        position: place.start as usize,
-        width: place.width as usize,
-        count: place.count as usize,
+    Ok(placed(place.start, place.width, place.count))
+}
+
+fn placed(start: u64, width: u64, count: u64) -> Place {
+    Place {
+        position: start as usize,
+        width: width as usize,
+        count: count as usize,
+    }
+}
+
+/// Where the samples of a channel stand in every frame of a recording: one judging for all its frames.
+///
+/// ```
+/// let file = std::fs::read("../../crates/listing/stdin").unwrap();
+/// let track = psg::track(&file, 1, 1)?;
+/// assert_eq!((track.order, track.format), (psg::Order::Little, 1));
+/// assert_eq!((track.frames, track.seconds), (1, 1));
+/// for frame in 1..=track.frames as usize {
+///     assert_eq!(track.place(frame), psg::place(&file, 1, frame, 1).ok());
+/// }
+/// # Ok::<(), psg::Refusal>(())
+/// ```
+pub fn track(file: &[u8], recording: usize, channel: usize) -> Result<Track, Refusal> {
+    let track = calls::track(file, recording, channel).answer()?;
+    Ok(Track {
+        order: order_of(track.order),
+        format: track.format,
+        first: placed(track.start, track.width, track.count),
+        step: track.step as usize,
+        frames: track.frames,
+        seconds: track.seconds,
     })
 }
 

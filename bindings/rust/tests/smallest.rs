@@ -2,6 +2,7 @@
 
 use psg::{
     Calibration, FloatBits, Header, Heading, Montage, Order, Place, Refusal, Sample, Spelling,
+    Track,
 };
 
 fn smallest() -> Vec<u8> {
@@ -153,6 +154,87 @@ fn a_place_is_refused_as_the_file_is_or_with_19() {
         assert_eq!(place, refused(19, 0));
     }
     assert_eq!(psg::place(&file[..561], 1, 2, 1), refused(10, 32));
+}
+
+/// What the one channel's track says, and that it has the place of the one frame and of no other.
+fn track_holds(file: &[u8], format: u32, width: usize, count: usize) {
+    let expected = Track {
+        order: psg::order(file).unwrap(),
+        format,
+        first: Place {
+            position: 544,
+            width,
+            count,
+        },
+        step: 24 + width * count,
+        frames: 1,
+        seconds: 1,
+    };
+    assert_eq!(psg::track(file, 1, 1), Ok(expected));
+    assert_eq!(expected.place(1), psg::place(file, 1, 1, 1).ok());
+    for frame in [0, 2, usize::MAX] {
+        assert_eq!(expected.place(frame), None);
+    }
+}
+
+#[test]
+fn a_track_has_the_samples_of_every_format_or_none() {
+    for file in both_orders(sampled(1, &[[7; 2]; 5])) {
+        track_holds(&file, 1, 2, 5);
+    }
+    for file in both_orders(sampled(2, &[[7; 3]; 5])) {
+        track_holds(&file, 2, 3, 5);
+    }
+    for format in [3, 4] {
+        for file in both_orders(sampled(format, &[[7; 4]; 5])) {
+            track_holds(&file, format, 4, 5);
+        }
+    }
+    // OFF, and so without samples.
+    for (format, width) in [(1, 2), (2, 3), (3, 4), (4, 4)] {
+        let mut file = sampled::<0>(format, &[]);
+        put(&mut file, &[(232, 0)]);
+        for file in both_orders(file) {
+            track_holds(&file, format, width, 0);
+        }
+    }
+}
+
+/// The smallest file with three frames of two seconds, each of them with padding of eight bytes: the same two samples.
+fn three_frames() -> Vec<u8> {
+    let mut file = smallest();
+    let frame = [&file[520..546], &file[544..546], &[0; 8]].concat();
+    file.splice(520..546, frame.repeat(3));
+    // The sizes of the 10 and the 140; F of the 100; T, the frame length and F of the 140.
+    put(&mut file, &[(32, 612), (488, 140), (72, 3)]);
+    put(&mut file, &[(504, 2), (508, 36), (512, 3)]);
+    for (serial, at) in (1..).zip([520, 556, 592]) {
+        put(&mut file, &[(at, 3), (at + 8, serial), (at + 12, 12)]);
+    }
+    file
+}
+
+#[test]
+fn a_track_goes_from_frame_to_frame() {
+    for file in both_orders(three_frames()) {
+        let track = psg::track(&file, 1, 1).unwrap();
+        assert_eq!((track.step, track.frames, track.seconds), (36, 3, 2));
+        for frame in 0..=4 {
+            let place = psg::place(&file, 1, frame, 1).ok();
+            assert_eq!(track.place(frame), place);
+            assert_eq!(place.is_some(), (1..=3).contains(&frame));
+        }
+    }
+}
+
+#[test]
+fn a_track_is_refused_as_the_file_is_or_with_19() {
+    let file = smallest();
+    let refused = |number, position| Err(Refusal { number, position });
+    for (recording, channel) in [(0, 1), (2, 1), (1, 0), (1, 2), (usize::MAX, usize::MAX)] {
+        assert_eq!(psg::track(&file, recording, channel), refused(19, 0));
+    }
+    assert_eq!(psg::track(&file[..561], 2, 1), refused(10, 32));
 }
 
 #[test]

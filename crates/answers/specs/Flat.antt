@@ -22,6 +22,7 @@ use Rattle.samples.specs.declared.Number.the-variants as Number
 use Rattle.samples.specs.declared.Cut.{Cut}
 use Rattle.samples.specs.declared.Place as Found
 use Rattle.samples.specs.declared.Time.{Time}
+use Rattle.samples.specs.declared.Track as Tracked
 use Rattle.questions.specs.Values.{wordsOf}
 use Rattle.questions.specs.declared.channels.Calibration.{Calibration}
 use Rattle.questions.specs.declared.channels.Calibration.the-variants as Calibration
@@ -43,6 +44,7 @@ use Rattle.answers.specs.declared.Patterns.{Patterns}
 use Rattle.answers.specs.declared.Part.{Part}
 use Rattle.answers.specs.declared.Place.{Place}
 use Rattle.answers.specs.declared.Sample.{Sample}
+use Rattle.answers.specs.declared.Track.{Track}
 
 -- a call that writes: the answer a is x, and its buffer holds xs afterwards
 pub record Leaves {A : Type 0} (x : Counted) (xs : List A) (a : Counted) (out : List A) : Type 0 where
@@ -182,6 +184,21 @@ flatCount (refusal n p) = stopped n p
 abbrev pub flatPlace : Answer Found.Place → Place
 flatPlace (value p) = record { refusal = 0; position = 0; start = p .position; width = p .width; count = p .count }
 flatPlace (refusal n p) = record { refusal = n; position = p; start = 0; width = 0; count = 0 }
+
+abbrev pub flatTrack : Answer Tracked.Track → Track
+flatTrack (value x) = record {
+  refusal = 0;
+  position = 0;
+  order = letterOf (x .order);
+  format = x .format;
+  start = x .first .position;
+  width = x .first .width;
+  count = x .first .count;
+  step = x .step;
+  frames = x .frames;
+  seconds = x .seconds;
+}
+flatTrack (refusal n p) = record { refusal = n; position = p; order = 0; format = 0; start = 0; width = 0; count = 0; step = 0; frames = 0; seconds = 0 }
 
 abbrev pub flatPart : Cut → Part
 flatPart p = record { start = p .start; length = p .length }

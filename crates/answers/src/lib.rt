@@ -6,12 +6,12 @@ ghost use Rattle.words.specs.Values.{unsigned};
 ghost use Rattle.permit.specs.Permit.{meaning};
 ghost use Rattle.recordings.specs.Answers.{value, refusal};
 ghost use Rattle.codes.specs.Codes as Codes;
-ghost use Rattle.questions.specs.Meanings.{meaningH, meaningF, meaningD, meaningN, meaningM, meaningI, meaningT, meaningP, meaningS};
+ghost use Rattle.questions.specs.Meanings.{meaningH, meaningF, meaningD, meaningN, meaningM, meaningI, meaningT, meaningP, meaningK, meaningS};
 ghost use Rattle.index.specs.Index as Index;
 ghost use Rattle.runs.specs.Runs as Runs;
 ghost use Rattle.answers.specs.Flat.{counted, stopped, countedBytes, headed, unheaded};
 ghost use Rattle.answers.specs.Flat.{spellingNumber, flatHeading, flatFacts, patternsOf, flatChannel, flatMontage};
-ghost use Rattle.answers.specs.Flat.{flatItem, flatClock, flatCount, flatPlace, flatPart, flatSample};
+ghost use Rattle.answers.specs.Flat.{flatItem, flatClock, flatCount, flatPlace, flatTrack, flatPart, flatSample};
 ghost use Rattle.answers.specs.Flat.{kindNumber, flatKind};
 use codes::EventKind;
 use codes::KindTold;
@@ -36,6 +36,8 @@ use samples::Cut;
 use samples::Number;
 use samples::PlaceTold;
 use samples::SampleTold;
+use samples::Track as TrackValues;
+use samples::TrackTold;
 use words::Order;
 
 // How many rows, bytes, samples or channels.
@@ -158,6 +160,22 @@ pub struct Place {
     pub start: u64,
     pub width: u64,
     pub count: u64,
+}
+
+// Where a channel's samples stand in every frame of a recording: the letter of the byte order and the channel's format, the place in the first frame, the
+// bytes from there to the same place in the next one, F and T.
+#[repr(C)]
+pub struct Track {
+    pub refusal: u32,
+    pub position: u64,
+    pub order: u32,
+    pub format: u32,
+    pub start: u64,
+    pub width: u64,
+    pub count: u64,
+    pub step: u64,
+    pub frames: u32,
+    pub seconds: u32,
 }
 
 // A part of a file: its first byte and its length. It is never refused.
@@ -516,6 +534,44 @@ pub fn place_of(a: PlaceTold) -> Place
             start: 0,
             width: 0,
             count: 0,
+        },
+    }
+}
+
+fn track_told(x: TrackValues) -> Track
+    ensures { λ r. ⌜ r ≡ flatTrack (value x) ⌝ }
+{
+    let order = x.order;
+    Track {
+        refusal: 0,
+        position: 0,
+        order: letter(order),
+        format: x.format,
+        start: x.first.position as u64,
+        width: x.first.width as u64,
+        count: x.first.count as u64,
+        step: x.step as u64,
+        frames: x.frames,
+        seconds: x.seconds,
+    }
+}
+
+pub fn track_of(a: TrackTold) -> Track
+    ensures { λ r. ⌜ r ≡ flatTrack (meaningK a) ⌝ }
+{
+    match a {
+        TrackTold::At(x) => track_told(x),
+        TrackTold::Refused(r) => Track {
+            refusal: r.0,
+            position: r.1 as u64,
+            order: 0,
+            format: 0,
+            start: 0,
+            width: 0,
+            count: 0,
+            step: 0,
+            frames: 0,
+            seconds: 0,
         },
     }
 }

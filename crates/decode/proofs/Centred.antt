@@ -2,17 +2,24 @@
 -- Assumes nothing.
 use mathlib.Core.Path.{_≡_, refl, sym, ap, _∙_}
 use mathlib.Core.Bool.{Bool, true, false, cond}
+use mathlib.Core.List.{List}
 use Prim.Native.Nat.{ℕ, zero, suc, _+_, _-_, _%_, _^_, _≤_, _<_}
 use native.Mathlib.Nat.{mod-eq-of-lt, add-mod-right}
 use native.Mathlib.Omega.{arith}
-use borrow.Author.Tests.{lt-ltb, le-ltb, ltb-true, ltb-false}
-use lib.Dec.{ltb}
+use borrow.Author.Tests.{lt-ltb, le-ltb, ltb-true, ltb-false, eqb-true, eqb-false}
+use lib.Dec.{ltb, eqb}
 use lib.IntN.{ℤ, pos, negsuc, _-ℤ_}
-use mir.Facts.{toZ-pos}
-use mir.Syntax.{w64}
-use mir.Val.{SFits, toZ}
-use Rattle.words.specs.Values.{wordCount, signed, WordOf}
+use lib.ListN.{length, getD}
+use lib.Signed.{mag}
+use mir.Facts.{toZ-pos, toZ-ofZ}
+use mir.Syntax.{Width, w64}
+use mir.Val.{SFits, toZ, ofZ}
+use Rattle.words.specs.Numbers.{numberAt}
+use Rattle.words.specs.Values.{wordCount, half, signed, WordOf}
+use Rattle.words.specs.declared.Order.{Order}
 use Rattle.words.proofs.Values.{signed-pos, signed-neg}
+use Rattle.words.proofs.Words.{bytes, number-lt}
+use Rattle.decode.specs.Wide.{Wide}
 
 -- a word, moved
 abbrev moved : ℕ → ℕ → ℕ
@@ -58,3 +65,33 @@ centred k n h w e = go (ltb n (suc k)) refl
         let y = moved-down h x in
         let z : suc k - suc (moved (suc k) n) ≡ wordCount w - 1 - n = omega (arith, h .word) in
         rw (lt-ltb (moved (suc k) n) (suc k) (omega (arith, h .word))) (ap negsuc z ∙ sym (signed-neg w n (omega arith)))
+
+-- and lies below half of the words, up or down
+pub signed-mag : (w n : ℕ) → wordCount w ≡ half w + half w → n < wordCount w → mag (signed w n) < half w
+signed-mag w n e l = go (ltb n (half w)) refl
+  where
+    go : (c : Bool) → ltb n (half w) ≡ c → mag (signed w n) < half w
+    go true t = rw (signed-pos w n (ltb-true n (half w) t)) (ltb-true n (half w) t)
+    go false t = let x : half w ≤ n = ltb-false n (half w) t in rw (signed-neg w n x) (omega (arith, e))
+
+-- so of the number that stands in bytes
+module _ (o : Order) (s : List ℕ) (at : ℕ) (b : (i : ℕ) → getD s i 0 < 256) where
+  pub number-mag : (w : ℕ) → wordCount w ≡ half w + half w → at + w ≤ length s → mag (signed w (numberAt o w s at)) < half w
+  number-mag w e l = signed-mag w (numberAt o w s at) e (number-lt o w s at (bytes s b) l)
+
+  -- of the widths that whole numbers have, none needs more than 32 bits
+  pub wide-mag : (w : ℕ) → Wide w → at + w ≤ length s → mag (signed w (numberAt o w s at)) < 2 ^ 31
+  wide-mag w k l = go (eqb w 2) (eqb w 3) refl refl
+    where
+      go : (x y : Bool) → eqb w 2 ≡ x → eqb w 3 ≡ y → mag (signed w (numberAt o w s at)) < 2 ^ 31
+      go true y e f = let d = eqb-true w 2 e in rw d (omega (arith, number-mag 2 refl (rw d at l)))
+      go false true e f = let d = eqb-true w 3 f in rw d (omega (arith, number-mag 3 refl (rw d at l)))
+      go false false e f = let d : w ≡ 4 = omega (arith, eqb-false w 2 e, eqb-false w 3 f, k .least, k .most) in rw d (number-mag 4 refl (rw d at l))
+
+-- a number of 64 bits that fits fewer is the same there
+module _ {w : Width} {z : ℤ} (h : SFits w64 z) (k : SFits w z) where
+  pub refit : SFits w (toZ w64 (ofZ w64 z))
+  refit = rw (toZ-ofZ h) k
+
+  pub recast : toZ w (ofZ w (toZ w64 (ofZ w64 z))) ≡ z
+  recast = ap (λ (x : ℤ). toZ w (ofZ w x)) (toZ-ofZ h) ∙ toZ-ofZ k

@@ -151,6 +151,22 @@ fn whole(big: bool, width: usize, s: &[u8], at: usize) -> i64
     triple(word3(big, s, at))
 }
 
+// The signed number of two bytes, in 16 bits.
+pub fn short_at(big: bool, s: &[u8], at: usize) -> i16
+    requires { ⌜ at + 2 ≤ length (now s) ⌝ }
+    ensures { λ r. ⌜ r ≡ signed 2 (numberAt (orderFor big) 2 (now (s .entry)) at) ⌝ }
+{
+    whole(big, 2, s, at) as i16
+}
+
+// The signed number of so many bytes, in 32 bits.
+pub fn long_at(big: bool, width: usize, s: &[u8], at: usize) -> i32
+    requires { ⌜ NumberAt width (now s) at ⌝ }
+    ensures { λ r. ⌜ r ≡ signed width (numberAt (orderFor big) width (now (s .entry)) at) ⌝ }
+{
+    whole(big, width, s, at) as i32
+}
+
 // Signed numbers of so many bytes.
 fn wholes(big: bool, width: usize, s: &[u8], d: &mut [i64])
     requires { ⌜ Numbers width (now s) (now d) ⌝ }

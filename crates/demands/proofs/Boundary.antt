@@ -35,7 +35,7 @@ use Rattle.recordings.specs.Answers.{Answer, value, refusal}
 use Rattle.recordings.specs.declared.Counts.{Counts}
 use Rattle.recordings.specs.declared.FactsTold.{FactsTold}
 use Rattle.recordings.specs.declared.FactsTold.the-variants as FactsTold
-use Rattle.samples.specs.Placed.{placeOf}
+use Rattle.samples.specs.Placed.{placeOf, trackOf}
 use Rattle.samples.specs.declared.ClockTold.{ClockTold}
 use Rattle.samples.specs.declared.ClockTold.the-variants as ClockTold
 use Rattle.samples.specs.declared.Number.{Number}
@@ -46,7 +46,10 @@ use Rattle.samples.specs.declared.PlaceTold.the-variants as PlaceTold
 use Rattle.samples.specs.declared.SampleTold.{SampleTold}
 use Rattle.samples.specs.declared.SampleTold.the-variants as SampleTold
 use Rattle.samples.specs.declared.Time.{Time}
-use Rattle.questions.specs.Meanings.{meaningH, meaningF, meaningD, meaningI, meaningT, meaningP, meaningS, meaningN, meaningM}
+use Rattle.samples.specs.declared.Track.{Track}
+use Rattle.samples.specs.declared.TrackTold.{TrackTold}
+use Rattle.samples.specs.declared.TrackTold.the-variants as TrackTold
+use Rattle.questions.specs.Meanings.{meaningH, meaningF, meaningD, meaningI, meaningT, meaningP, meaningK, meaningS, meaningN, meaningM}
 use Rattle.questions.specs.Questions.{headerOf, factsOf, channelOf, patientItemOf, eventItemOf, clockOf, sampleOf, montageCountOf, montageOf}
 use Rattle.questions.specs.declared.channels.ChannelTold.{ChannelTold}
 use Rattle.questions.specs.declared.channels.ChannelTold.the-variants as ChannelTold
@@ -80,6 +83,7 @@ use Rattle.rewrite.specs.Rewrite as Rewrite
 use Rattle.rewrite.specs.Rewrite.{rewrittenIn, Rewrites}
 use Rattle.room.specs.Room.{roomOf}
 use Rattle.answers.specs.Flat.{countedRows, countedBytes, flatHeading, flatFacts, flatChannel, flatItem, flatClock, flatCount, flatPlace, flatSample, flatMontage}
+use Rattle.answers.specs.Flat.{flatTrack}
 use Rattle.answers.specs.declared.Channel.{Channel}
 use Rattle.answers.specs.declared.Clock.{Clock}
 use Rattle.answers.specs.declared.Counted.{Counted}
@@ -90,9 +94,11 @@ use Rattle.answers.specs.declared.Item.{Item}
 use Rattle.answers.specs.declared.Montage.{Montage}
 use Rattle.answers.specs.declared.Place as PlaceC
 use Rattle.answers.specs.declared.Sample.{Sample}
+use Rattle.answers.specs.declared.Track as TrackC
 use Rattle.psg.specs.Calls.{JudgeAnswers, TableAnswers, TurnAnswers, RewriteAnswers, RoomAnswers, RunAnswers, IndexAnswers}
 use Rattle.demands.specs.Demands.{ofFile, ofTable, ofTurn, ofRewrite, ofQuestion, ofRun, refusalOf, Refuses, Answered, KeepsRest, listedRows, wroteC, stoppedC, headerC, refusedC, flatJudged, TakenApart, Boundary, Accepted, headerJudged, JudgesByRules}
 use Rattle.demands.proofs.Refusing.{of-file, header-refused, room-refused, table-refuses, table-keeps, turn-refuses, turn-keeps, rewrite-refuses, rewrite-keeps, index-refuses, index-keeps, Proper, proper-facts, proper-channel, proper-item, proper-clock, proper-place, proper-sample, proper-montage-count, proper-montage}
+use Rattle.demands.proofs.Refusing.{proper-track}
 use Rattle.demands.proofs.Running.{run-refuses, run-keeps}
 use Rattle.demands.proofs.Coding.{kind-apart}
 use Rattle.demands.proofs.Cutting.{part-told}
@@ -218,6 +224,19 @@ clock = record { meaning = meaningT; tell = ClockTold.At; refuse = ClockTold.Ref
 
 abbrev pub place : Meant {X = Place} value refusal PlaceTold PlaceC.Place
 place = record { meaning = meaningP; tell = PlaceTold.At; refuse = PlaceTold.Refused; flat = flatPlace; says = λ a. refusalOf (a .refusal) (a .position); tells = λ v. refl; refuses = λ r. refl; zero = λ v. refl; named = λ n p. refl }
+
+abbrev pub track : Meant {X = Track} value refusal TrackTold TrackC.Track
+track = record {
+  meaning = meaningK;
+  tell = TrackTold.At;
+  refuse = TrackTold.Refused;
+  flat = flatTrack;
+  says = λ a. refusalOf (a .refusal) (a .position);
+  tells = λ v. refl;
+  refuses = λ r. refl;
+  zero = λ v. refl;
+  named = λ n p. refl;
+}
 
 abbrev pub sample : Meant {X = Number} value refusal SampleTold Sample
 sample = record { meaning = meaningS; tell = SampleTold.Value; refuse = SampleTold.Refused; flat = flatSample; says = λ a. refusalOf (a .refusal) (a .position); tells = λ v. refl; refuses = λ r. refl; zero = sample-zero; named = λ n p. refl }
@@ -370,6 +389,7 @@ module _ (s : List ℕ) (b : Bytes s) where
     event-item = λ i j a x. by-meaning item s (either (eventItemOf s i j)) (λ c e. e) x (λ n p h. rw h) (asked (proper-item s Holder.Event i j));
     clock = λ i j a x. by-meaning clock s (either (clockOf s i j)) (λ c e. e) x (λ n p h. rw h) (asked (proper-clock s i j));
     place = λ i j k a x. by-meaning place s (either (placeOf s i j k)) (λ c e. e) x (λ n p h. rw h) (asked (proper-place s i j k));
+    track = λ i k a x. by-meaning track s (either (trackOf s i k)) (λ c e. e) x (λ n p h. rw h) (asked (proper-track s i k));
     part = λ file e p a x. part-told file p a (rw e x);
     sample = λ i j k n a x. by-meaning sample s (either (sampleOf s i j k n)) (λ c e. e) x (λ n p h. rw h) (asked (proper-sample s i j k n));
     run = run-apart;

@@ -25,6 +25,7 @@ use Rattle.questions.specs.declared.channels.Descriptor.{Descriptor}
 use Rattle.questions.proofs.Readings.{alike-value, facts-read, numbers-read, montage-count-read, clock-read}
 use Rattle.questions.proofs.Texts.{channel-texts, montage-wired, item-text}
 use Rattle.questions.proofs.Showing.{place-samples}
+use Rattle.questions.proofs.Tracks.{track-read}
 use Rattle.runs.specs.Runs as Runs
 use Rattle.answers.specs.Flat.{spellingNumber, flatHeading, flatChannel, flatMontage, flatCount, flatPlace, flatPart}
 use Rattle.answers.specs.declared.Heading.{Heading}
@@ -32,11 +33,12 @@ use Rattle.answers.specs.declared.Part.{Part}
 use Rattle.answers.specs.declared.Place as PlaceC
 use Rattle.psg.specs.Calls.{PlaceAnswers, PartAnswers}
 use Rattle.demands.specs.Bits.{CalibrationIs, ChannelIs, MontageIs, SampleIs, SamplesAt}
-use Rattle.demands.specs.Demands.{Accepted, headerRead, HeadingIs, channelCode, TellsC, countsC, entryC, placeC, timeC, BoundaryTells}
-use Rattle.demands.proofs.Boundary.{Meant, facts, channel, montage-count, montage, item, clock, place, sample}
+use Rattle.demands.specs.Demands.{Accepted, headerRead, HeadingIs, channelCode, TellsC, countsC, entryC, placeC, timeC, TrackToldC, BoundaryTells}
+use Rattle.demands.proofs.Boundary.{Meant, facts, channel, montage-count, montage, item, clock, place, track, sample}
 use Rattle.demands.proofs.Floats.{calibration-bits, montage-bits, sample-bits}
 use Rattle.demands.proofs.Running.{run-read}
 use Rattle.demands.proofs.Telling.{header-told}
+use Rattle.demands.proofs.Tracking.{track-told}
 
 -- Answers that are alike: in two ways, behind a value of the reading, and with the first taken apart
 
@@ -126,6 +128,7 @@ module _ (s : List ℕ) (b : Bytes s) {v : R.File} {t : List Event} (h : Accepte
     clock = λ i j a x. tells clock (λ c. ClockIs (timeC c)) x (clock-read s b h i j) (λ y u k. k);
     place = λ i j k a x. tells place (λ c. PlaceIs s (reading v) i k (placeC c)) x (place-samples s b h i j k) (λ y u w. w);
     part = samples-at;
+    track = λ i k a x. tells track (TrackToldC s (reading v) i k) x (track-read s b h i k) (track-told s (reading v) i k);
     sample = λ i j k n a x. tells sample (SampleIs s (reading v) i j k n) x (sample-bits s b h i j k n) (λ y u w. w);
     run = λ c i j k first n out out′ a x. record {
       answer = x .answers ∙ ap (λ (y : Answer (List Value)). flatCount (Runs.counted n (length out) y)) (run-read s b h c i j k first n);

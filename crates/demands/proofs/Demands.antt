@@ -31,7 +31,7 @@ use Rattle.table.specs.Table.{Lists}
 use Rattle.table.specs.declared.Listed.{Listed}
 use Rattle.table.specs.declared.Listed.the-variants as Listed
 use Rattle.table.proofs.Answers.{lists-refused, table-unique}
-use Rattle.recordings.specs.Answers.{Answer, value, numbered}
+use Rattle.recordings.specs.Answers.{Answer, value, _>>=_, numbered}
 use Rattle.recordings.specs.declared.FactsTold.the-variants as FactsTold
 use Rattle.recordings.proofs.Chosen.{answered}
 use Rattle.samples.specs.Placed.{placeOf, PartAnswer}
@@ -39,17 +39,21 @@ use Rattle.samples.specs.declared.ClockTold.the-variants as ClockTold
 use Rattle.samples.specs.declared.Place.{Place}
 use Rattle.samples.specs.declared.PlaceTold.the-variants as PlaceTold
 use Rattle.samples.specs.declared.SampleTold.the-variants as SampleTold
+use Rattle.samples.specs.declared.Track.{Track}
+use Rattle.samples.specs.declared.TrackTold.the-variants as TrackTold
 use Rattle.samples.proofs.Placing.{part-inside, placed-from}
 use Rattle.records.specs.declared.items.Holder.the-variants as Holder
 use Rattle.questions.specs.Tied.{recordingRead, channelRead}
-use Rattle.questions.specs.Meanings.{meaningH, meaningF, meaningD, meaningN, meaningM, meaningI, meaningT, meaningP, meaningS}
+use Rattle.questions.specs.Meanings.{meaningH, meaningF, meaningD, meaningN, meaningM, meaningI, meaningT, meaningP, meaningK, meaningS}
 use Rattle.questions.specs.declared.channels.ChannelTold.the-variants as ChannelTold
 use Rattle.questions.specs.declared.channels.MontageCountTold.the-variants as MontageCountTold
 use Rattle.questions.specs.declared.channels.MontageTold.the-variants as MontageTold
 use Rattle.questions.specs.declared.items.ItemTold.the-variants as ItemTold
 use Rattle.questions.proofs.Texts.{channel-texts, montage-wired, item-text}
 use Rattle.questions.proofs.Showing.{place-samples}
+use Rattle.questions.proofs.Tracks.{track-read}
 use Rattle.questions.proofs.Unique.{header-unique, facts-unique, channel-unique, montage-count-unique, montage-unique, patient-item-unique, event-item-unique, clock-unique, place-unique, sample-unique}
+use Rattle.questions.proofs.Unique.{track-unique}
 use Rattle.runs.specs.Runs as Runs
 use Rattle.runs.specs.declared.Sibling.{Sibling}
 use Rattle.runs.proofs.Asked.{as-before}
@@ -78,13 +82,16 @@ use Rattle.answers.specs.Flat.{countedRows, countedBytes, flatHeading, flatCoun
 use Rattle.answers.specs.declared.Counted.{Counted}
 use Rattle.psg.specs.Calls.{TableAnswers}
 use Rattle.demands.specs.Demands.{ofFile, refusalOf, Demand-1, Accepted, HandsUp, TableHolds, IndexHolds, Tells, WrittenAnew, SufficesC, Reserved, Demand-2, headerRead, inOther, SameEnd, SameNumbers, BoundarySame, Same, Demand-3}
+use Rattle.demands.specs.Demands.{trackInOther}
 use Rattle.demands.proofs.Agreeing.{agree-first, numbered-image}
 use Rattle.demands.proofs.Refusing.{of-file, header-refused, room-refused, table-refuses, table-keeps, turn-refuses, turn-keeps, rewrite-refuses, rewrite-keeps, index-refuses, index-keeps, question, proper-facts, proper-channel, proper-item, proper-clock, proper-place, proper-sample, proper-montage-count, proper-montage}
+use Rattle.demands.proofs.Refusing.{proper-track}
 use Rattle.demands.proofs.Running.{run-refuses, run-keeps, run-read, run-number, run-entry}
 use Rattle.demands.proofs.Coding.{kind-answered, kinds, boundary-kinds}
 use Rattle.demands.proofs.Samples.{recording-picked, place-words}
 use Rattle.demands.proofs.Telling.{channel-words, header-told, facts-told, channel-agrees, clock-told, sample-told, montage-count-told, montage-agrees}
 use Rattle.demands.proofs.Cutting.{shown, part-is}
+use Rattle.demands.proofs.Tracking.{track-same, boundary-track-same}
 use Rattle.demands.proofs.Boundary.{boundary, boundary-accepted, boundary-judges, table-apart, turn-apart, rewrite-apart, index-apart}
 use Rattle.demands.proofs.BoundaryTold.{boundary-tells}
 
@@ -107,6 +114,7 @@ demand-1 s b = record {
   event-item = λ i j a x. question s meaningI ItemTold.Refused (λ r. refl) (proper-item s Holder.Event i j) a x;
   clock = λ i j a x. question s meaningT ClockTold.Refused (λ r. refl) (proper-clock s i j) a x;
   place = λ i j k a x. question s meaningP PlaceTold.Refused (λ r. refl) (proper-place s i j k) a x;
+  track = λ i k a x. question s meaningK TrackTold.Refused (λ r. refl) (proper-track s i k) a x;
   part = λ file e p r x. shown file p r x;
   sample = λ i j k n a x. question s meaningS SampleTold.Refused (λ r. refl) (proper-sample s i j k n) a x;
   run = λ c i j k first n out out′ a x r e. run-refuses s c i j k first n (length out) r (sym (ap Runs.meaning e) ∙ x .answer);
@@ -134,6 +142,7 @@ hands-up s n p h = record {
   event-item = λ i j a x. event-item-unique s i j a _ x (rw h);
   clock = λ i j a x. clock-unique s i j a _ x (rw h);
   place = λ i j k a x. place-unique s i j k a _ x (rw h);
+  track = λ i k a x. track-unique s i k a _ x (rw h);
   sample = λ i j k m a x. sample-unique s i j k m a _ x (rw h);
   run = λ c i j k first m out out′ a x. run-unique c s i j k first m out out′ out a _ x (runs-refused c s i j k first m out {m = n} {p = p} (rw h)) .0;
   index = λ out out′ a x. index-unique s out out′ out a _ x (indexes-refused s out h) .0;
@@ -166,6 +175,7 @@ tells s b {v} {t} h = record {
   clock = λ i j a x. x ∙ clock-told s b h i j;
   place = λ i j k a x. rw x (place-samples s b h i j k);
   part = λ file e i j k p x r y. part-is file p r y (rw e b) {v = v} {t = t} (rw e h) i j k (rw e x);
+  track = λ i k a x. rw x (track-read s b h i k);
   sample = λ i j k n a x. rw x (sample-told s b h i j k n);
   run = λ c i j k first n out out′ a x. record {
     answer = x .answer ∙ ap (Runs.counted n (length out)) (run-read s b h c i j k first n);
@@ -353,6 +363,7 @@ module _ (s : List ℕ) (b : Bytes s) {v : R.File} {t : List Event} (h : Accepte
         event-item = λ i j a c x y. x ∙ (rw e) ∙ sym y;
         clock = λ i j a c x y. x ∙ (rw e) ∙ sym y;
         place = λ i j k a c x y. x ∙ (rw e) ∙ sym y;
+        track = λ i k a c x y. rw (x, y) (boundary-track-same s s′ e (z .2) i k);
         sample = λ i j k n a c x y. x ∙ (rw e) ∙ sym y;
         run = λ d i j k first n out out₁ out₂ a c x y.
             let w = run-same s s′ e b turned-bytes d i j k first n in
@@ -402,6 +413,7 @@ module _ (s : List ℕ) (b : Bytes s) {v : R.File} {t : List Event} (h : Accepte
         clock = λ i j a c x y. clock-unique s i j a c x (rw e at y);
         place = λ i j k a c x y. place-unique s i j k a c x (rw e at y);
         part = λ i j k p u file r file′ r′ f f′ x x′. same-numbers i j k p file r file′ r′ (rw f b) (rw f′ turned-bytes) {v = v} {t = t} (rw f h) (rw f′ (y .0)) (rw f u) (rw (f′, e) u) x x′;
+        track = λ i k a c x z. z ∙ (track-same s s′ e (y .2) i k ∙ ap (λ (m : Answer Track). m >>= λ x. value (trackInOther x)) (sym x));
         sample = λ i j k n a c x y. sample-unique s i j k n a c x (rw e at y);
         run = λ d i j k first n out out₁ out₂ a c x z.
             let q = run-same s s′ e b turned-bytes d i j k first n in

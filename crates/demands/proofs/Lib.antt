@@ -5,6 +5,7 @@ pub mod Samples
 pub mod Telling
 pub mod Floats
 pub mod Cutting
+pub mod Tracking
 pub mod Running
 pub mod Coding
 pub mod Boundary

@@ -37,7 +37,7 @@ use Rattle.recordings.specs.Answers.{Answer, value, refusal, _>>=_, indexed, nu
 use Rattle.recordings.specs.Recordings.{judged, recordingOf}
 use Rattle.recordings.proofs.Chosen.{in-between, refusal-value}
 use Rattle.samples.specs.Frames.{frameOf, formatOf, samplesOf}
-use Rattle.samples.specs.Placed.{placeOf}
+use Rattle.samples.specs.Placed.{placeOf, trackOf}
 use Rattle.records.specs.declared.items.Holder.{Holder}
 use Rattle.questions.specs.Questions.{headerOf, headerTold, factsOf, channelOf, itemOf, itemIn, itemsOf, clockOf, sampleOf, montageCountOf, montageOf}
 use Rattle.bodies.specs.Orders.{sameOrder}
@@ -222,6 +222,9 @@ module _ (s : List ℕ) where
 
   pub proper-place : (i j k : ℕ) → Proper (placeOf s i j k)
   proper-place i j k = proper-then (samplesOf s i j k) _ (proper-samples i j k) (λ _. tt)
+
+  pub proper-track : (i k : ℕ) → Proper (trackOf s i k)
+  proper-track i k = proper-then (samplesOf s i 1 k) _ (proper-samples i 1 k) (λ x. proper-then (frameOf s i 1) _ (proper-frame i 1) (λ _. tt))
 
   pub proper-format : (i k : ℕ) → Proper (formatOf s i k)
   proper-format i k = proper-then (recordingOf s i) _ (proper-recording i) (λ r. proper-then (numbered (r .this .recording .channels) k) _ (proper-numbered (r .this .recording .channels) k) (λ _. tt))

@@ -58,11 +58,16 @@ use Rattle.samples.specs.declared.PlaceTold.the-variants as PlaceTold
 use Rattle.samples.specs.declared.SampleTold.{SampleTold}
 use Rattle.samples.specs.declared.SampleTold.the-variants as SampleTold
 use Rattle.samples.specs.declared.Time.{Time}
+use Rattle.samples.specs.declared.Track.{Track}
+use Rattle.samples.specs.declared.TrackTold.{TrackTold}
+use Rattle.samples.specs.declared.TrackTold.the-variants as TrackTold
 use Rattle.questions.specs.Contracts.{HeaderAnswer, FactsAnswer, ChannelAnswer, MontageCountAnswer, MontageAnswer, PatientItemAnswer, EventItemAnswer, ClockAnswer, PlaceAnswer, SampleAnswer}
+use Rattle.questions.specs.Contracts.{TrackAnswer}
 use Rattle.questions.specs.Tied.{recordingRead, channelRead, montageRead, itemRead, frameRead, samplesRead, sampleRead, Alike, FactsAre, TextsAre, WiredIs, ItemIs, ClockIs, formatIn, PlaceIs}
+use Rattle.questions.specs.Tied.{TrackIs}
 use Rattle.questions.specs.Values.{textAt}
 use Rattle.questions.specs.Questions.{headerIn}
-use Rattle.questions.specs.Meanings.{meaningH, meaningF, meaningD, meaningN, meaningM, meaningI, meaningT, meaningP, meaningS}
+use Rattle.questions.specs.Meanings.{meaningH, meaningF, meaningD, meaningN, meaningM, meaningI, meaningT, meaningP, meaningK, meaningS}
 use Rattle.questions.specs.declared.channels.Calibration.{Calibration}
 use Rattle.questions.specs.declared.channels.Calibration.the-variants as Calibration
 use Rattle.questions.specs.declared.channels.ChannelTold.{ChannelTold}
@@ -97,7 +102,7 @@ use Rattle.turn.specs.Turn.{Turns}
 use Rattle.rewrite.specs.Rewrite.{barrier, rewrittenIn, Rewrites}
 use Rattle.room.specs.Room.{RoomAnswer, ShortAnew}
 use Rattle.answers.specs.Flat.{countedRows, countedBytes, flatHeading, flatFacts, flatChannel, flatMontage, flatItem, flatClock, flatCount, flatPlace, flatSample}
-use Rattle.answers.specs.Flat.{kindNumber, flatKind}
+use Rattle.answers.specs.Flat.{flatTrack, kindNumber, flatKind}
 use Rattle.answers.specs.declared.Channel.{Channel}
 use Rattle.answers.specs.declared.Clock.{Clock}
 use Rattle.answers.specs.declared.Counted.{Counted}
@@ -110,8 +115,9 @@ use Rattle.answers.specs.declared.Montage.{Montage}
 use Rattle.answers.specs.declared.Part as PartC
 use Rattle.answers.specs.declared.Place as PlaceC
 use Rattle.answers.specs.declared.Sample.{Sample}
+use Rattle.answers.specs.declared.Track as TrackC
 use Rattle.psg.specs.Calls.{JudgeAnswers, TableAnswers, TurnAnswers, RewriteAnswers, RoomAnswers, HeaderAnswers, FactsAnswers, ChannelAnswers, MontageCountAnswers, MontageAnswers, PatientItemAnswers, EventItemAnswers, ClockAnswers, PlaceAnswers, PartAnswers, SampleAnswers, RunAnswers, IndexAnswers}
-use Rattle.psg.specs.Calls.{KindAnswers}
+use Rattle.psg.specs.Calls.{TrackAnswers, KindAnswers}
 use Rattle.demands.specs.Bits.{ChannelIs, MontageIs, SampleIs, SamplesAt}
 
 -- Demand 1: every call answers, with a value or with a refusal that document 01 gives for it; and a buffer keeps what the answer does not state
@@ -268,6 +274,8 @@ pub record Boundary (s : List ℕ) : Type 0 where
   pub clock : (i j : ℕ) (a : Clock) → ClockAnswers s i j a → TakenApart s (ClockAnswer s i j) ClockTold.Refused (λ b. flatClock (meaningT b)) ofQuestion 0 (a .refusal) (a .position) a
   pub place : (i j k : ℕ) (a : PlaceC.Place) → PlaceAnswers s i j k a →
       TakenApart s (PlaceAnswer s i j k) PlaceTold.Refused (λ b. flatPlace (meaningP b)) ofQuestion 0 (a .refusal) (a .position) a
+  pub track : (i k : ℕ) (a : TrackC.Track) → TrackAnswers s i k a →
+      TakenApart s (TrackAnswer s i k) TrackTold.Refused (λ b. flatTrack (meaningK b)) ofQuestion 0 (a .refusal) (a .position) a
   pub part : (file : RefT (List ℕ)) → file .now ≡ s → (p : Place) (a : PartC.Part) → PartAnswers (length s) (p .position) (p .width) (p .count) a → PartTold file p a
   pub sample : (i j k n : ℕ) (a : Sample) → SampleAnswers s i j k n a → TakenApart s (SampleAnswer s i j k n) SampleTold.Refused (λ b. flatSample (meaningS b)) ofQuestion 0 (a .refusal) (a .position) a
   pub run : (b : Sibling) (i j k first n : ℕ) (out out′ : List (Element b)) (a : Counted) → RunAnswers b s i j k first n out out′ a →
@@ -304,6 +312,7 @@ pub record Demand-1 (s : List ℕ) : Type 0 where
   pub event-item : (i j : ℕ) (a : ItemTold) → EventItemAnswer s i j a → Answered ItemTold.Refused ofQuestion (length s) 0 a
   pub clock : (i j : ℕ) (a : ClockTold) → ClockAnswer s i j a → Answered ClockTold.Refused ofQuestion (length s) 0 a
   pub place : (i j k : ℕ) (a : PlaceTold) → PlaceAnswer s i j k a → Answered PlaceTold.Refused ofQuestion (length s) 0 a
+  pub track : (i k : ℕ) (a : TrackTold) → TrackAnswer s i k a → Answered TrackTold.Refused ofQuestion (length s) 0 a
   pub sample : (i j k n : ℕ) (a : SampleTold) → SampleAnswer s i j k n a → Answered SampleTold.Refused ofQuestion (length s) 0 a
   -- the part of the file that a place names, whatever its three numbers are
   pub part : (file : RefT (List ℕ)) → file .now ≡ s → (p : Place) (r : RefT (List ℕ)) → PartAnswer file p r → Shown file p r
@@ -356,6 +365,7 @@ pub record HandsUp (s : List ℕ) (n p : ℕ) : Type 0 where
   pub event-item : (i j : ℕ) (a : ItemTold) → EventItemAnswer s i j a → a ≡ ItemTold.Refused (refusalOf n p)
   pub clock : (i j : ℕ) (a : ClockTold) → ClockAnswer s i j a → a ≡ ClockTold.Refused (refusalOf n p)
   pub place : (i j k : ℕ) (a : PlaceTold) → PlaceAnswer s i j k a → a ≡ PlaceTold.Refused (refusalOf n p)
+  pub track : (i k : ℕ) (a : TrackTold) → TrackAnswer s i k a → a ≡ TrackTold.Refused (refusalOf n p)
   pub sample : (i j k m : ℕ) (a : SampleTold) → SampleAnswer s i j k m a → a ≡ SampleTold.Refused (refusalOf n p)
   pub run : (b : Sibling) (i j k first m : ℕ) (out out′ : List (Element b)) (a : Ran) → RunAnswer b s i j k first m out out′ a → a ≡ Ran.Refused (refusalOf n p)
   pub index : (out out′ : List ℤ) (a : Indexed) → Indexes s out out′ a → a ≡ Indexed.Refused (refusalOf n p)
@@ -469,6 +479,8 @@ pub record Tells (s : List ℕ) (g : Reading) : Type 0 where
   -- and so are those of the part that is cut there
   pub part : (file : RefT (List ℕ)) → file .now ≡ s → (i j k : ℕ) (p : Place) → PlaceAnswer s i j k (PlaceTold.At p) →
       (r : RefT (List ℕ)) → PartAnswer file p r → PartIs g i j k file p r
+  -- the track of a channel: its format, F and T as the reading has them, and the place of its samples in each frame
+  pub track : (i k : ℕ) (a : TrackTold) → TrackAnswer s i k a → Alike (TrackIs s g i k) (meaningK a) (channelRead g i k)
   pub sample : (i j k n : ℕ) (a : SampleTold) → SampleAnswer s i j k n a → (meaningS a >>= λ x. value (valueTold x)) ≡ sampleRead g i j k n
   pub run : (b : Sibling) (i j k first n : ℕ) (out out′ : List (Element b)) (a : Ran) → RunAnswer b s i j k first n out out′ a →
       RunTells b n (runRead b g i j k first n) out out′ (λ x. Runs.meaning a ≡ x)
@@ -496,6 +508,17 @@ placeC a = record { position = a .start; width = a .width; count = a .count }
 abbrev pub timeC : Clock → Time
 timeC a = record { hour = a .hour; minute = a .minute; second = a .second }
 
+-- of a file in this order, which C is told by its letter
+abbrev pub trackC : Order → TrackC.Track → Track
+trackC o a = record {
+  order = o;
+  format = a .format;
+  first = record { position = a .start; width = a .width; count = a .count };
+  step = a .step;
+  frames = a .frames;
+  seconds = a .seconds;
+}
+
 -- what C is answered of the header of a file in this order: the spelling 0 is JSSR-SPG, 1 JSSR-PSG; the form 0 is 00, 1 is 01
 pub record HeadingIs (o : Order) (g : Reading) (a : Heading) : Type 0 where
   pub accepted : a .refusal ≡ 0
@@ -510,6 +533,11 @@ pub record HeadingIs (o : Order) (g : Reading) (a : Heading) : Type 0 where
   pub order : a .order ≡ letterOf o
   pub script : a .script ≡ g .heading .script
   pub recordings : a .recordings ≡ length (g .recordings)
+
+-- what C is answered of the track of channel k of recording i, which the reading has as c: the letter of the file's order, and the track
+pub record TrackToldC (s : List ℕ) (g : Reading) (i k : ℕ) (a : TrackC.Track) (c : ChannelReading) : Type 0 where
+  pub letter : a .order ≡ letterOf (R.orderOf s)
+  pub is : TrackIs s g i k (trackC (R.orderOf s) a) c
 
 -- the code of a channel's sub, 125 or 325
 abbrev pub channelCode : Reading → ℕ
@@ -530,6 +558,7 @@ pub record BoundaryTells (s : List ℕ) (g : Reading) : Type 0 where
   -- what is seen in the part that is cut at the place that C is told
   pub part : (i j k : ℕ) (a : PlaceC.Place) → PlaceAnswers s i j k a → (b : PartC.Part) → PartAnswers (length s) (a .start) (a .width) (a .count) b →
       (vs : List Value) → samplesRead g i j k ≡ value vs → SamplesAt s g i k b vs
+  pub track : (i k : ℕ) (a : TrackC.Track) → TrackAnswers s i k a → TellsC (TrackToldC s g i k a) (a .refusal) (a .position) (channelRead g i k)
   pub sample : (i j k n : ℕ) (a : Sample) → SampleAnswers s i j k n a → TellsC (SampleIs s g i j k n a) (a .refusal) (a .position) (sampleRead g i j k n)
   pub run : (b : Sibling) (i j k first n : ℕ) (out out′ : List (Element b)) (a : Counted) → RunAnswers b s i j k first n out out′ a →
       RunTells b n (runRead b g i j k first n) out out′ (λ x. a ≡ flatCount x)
@@ -636,6 +665,10 @@ pub record SameFront {E : Type 0} (n : ℕ) (a b : E) (out₁ out₂ : List ℕ)
 abbrev pub inOther : Asked.Header → Asked.Header
 inOther h = record { spelling = h .spelling; version = h .version; form = h .form; order = other (h .order); script = h .script; recordings = h .recordings }
 
+-- a track but for the order
+abbrev pub trackInOther : Track → Track
+trackInOther x = record { order = other (x .order); format = x .format; first = x .first; step = x .step; frames = x .frames; seconds = x .seconds }
+
 -- bytes of two files are the same words of so many bytes, each file's in its own order
 pub record SameWords (w : ℕ) (o o′ : Order) (xs xs′ : List ℕ) : Type 0 where
   pub words : List ℕ
@@ -665,6 +698,22 @@ pub record SameButOrder (o : Order) (a b : Heading) : Type 0 where
   pub script : a .script ≡ b .script
   pub recordings : a .recordings ≡ b .recordings
 
+-- two answers for C about a track that differ in the order's letter alone
+pub record SameTrackButOrder (o : Order) (a b : TrackC.Track) : Type 0 where
+  -- of a track a's is that of o, b's that of the other; a refusal has none, and both are the same
+  pub first : a .refusal ≡ 0 → a .order ≡ letterOf o
+  pub second : a .refusal ≡ 0 → b .order ≡ letterOf (other o)
+  pub refused : 1 ≤ a .refusal → a ≡ b
+  pub refusal : a .refusal ≡ b .refusal
+  pub position : a .position ≡ b .position
+  pub format : a .format ≡ b .format
+  pub start : a .start ≡ b .start
+  pub width : a .width ≡ b .width
+  pub count : a .count ≡ b .count
+  pub step : a .step ≡ b .step
+  pub frames : a .frames ≡ b .frames
+  pub seconds : a .seconds ≡ b .seconds
+
 -- what C is answered of the file s and of the file s′ that `turn` wrote of it
 pub record BoundarySame (s s′ : List ℕ) : Type 0 where
   pub table : (out out₁ out₂ : List ℤ) (a b : Counted) → TableAnswers s out out₁ a → TableAnswers s′ out out₂ b → SameEnd a b out₁ out₂
@@ -678,6 +727,7 @@ pub record BoundarySame (s s′ : List ℕ) : Type 0 where
   pub event-item : (i j : ℕ) (a b : Item) → EventItemAnswers s i j a → EventItemAnswers s′ i j b → a ≡ b
   pub clock : (i j : ℕ) (a b : Clock) → ClockAnswers s i j a → ClockAnswers s′ i j b → a ≡ b
   pub place : (i j k : ℕ) (a b : PlaceC.Place) → PlaceAnswers s i j k a → PlaceAnswers s′ i j k b → a ≡ b
+  pub track : (i k : ℕ) (a b : TrackC.Track) → TrackAnswers s i k a → TrackAnswers s′ i k b → SameTrackButOrder (R.orderOf s) a b
   pub sample : (i j k n : ℕ) (a b : Sample) → SampleAnswers s i j k n a → SampleAnswers s′ i j k n b → a ≡ b
   pub run : (c : Sibling) (i j k first n : ℕ) (out out₁ out₂ : List (Element c)) (a b : Counted) →
       RunAnswers c s i j k first n out out₁ a → RunAnswers c s′ i j k first n out out₂ b → SameEnd a b out₁ out₂
@@ -701,7 +751,7 @@ pub record Same (s : List ℕ) (g : Reading) (s′ : List ℕ) : Type 0 where
   pub table : (out out₁ out₂ : List ℤ) (a b : Listed) → Lists s out out₁ a → Lists s′ out out₂ b → SameEnd a b out₁ out₂
   -- the same room for a rewrite
   pub room : (a b : Written) → RoomAnswer s a → RoomAnswer s′ b → a ≡ b
-  -- the same answer to each question; to the one about the header but for the order
+  -- the same answer to each question; to those about the header and a track but for the order
   pub header : (a b : HeaderTold) → HeaderAnswer s a → HeaderAnswer s′ b → (h : Asked.Header) × (a ≡ HeaderTold.Header h) × (b ≡ HeaderTold.Header (inOther h))
   pub facts : (i : ℕ) (a b : FactsTold) → FactsAnswer s i a → FactsAnswer s′ i b → a ≡ b
   pub channel : (i j : ℕ) (a b : ChannelTold) → ChannelAnswer s i j a → ChannelAnswer s′ i j b → a ≡ b
@@ -713,6 +763,7 @@ pub record Same (s : List ℕ) (g : Reading) (s′ : List ℕ) : Type 0 where
   pub place : (i j k : ℕ) (a b : PlaceTold) → PlaceAnswer s i j k a → PlaceAnswer s′ i j k b → a ≡ b
   pub part : (i j k : ℕ) (p : Place) → PlaceAnswer s i j k (PlaceTold.At p) → (file r file′ r′ : RefT (List ℕ)) → file .now ≡ s → file′ .now ≡ s′ →
       PartAnswer file p r → PartAnswer file′ p r′ → SameNumbers g i k file r file′ r′
+  pub track : (i k : ℕ) (a b : TrackTold) → TrackAnswer s i k a → TrackAnswer s′ i k b → meaningK b ≡ (meaningK a >>= λ x. value (trackInOther x))
   pub sample : (i j k n : ℕ) (a b : SampleTold) → SampleAnswer s i j k n a → SampleAnswer s′ i j k n b → a ≡ b
   -- the same run of samples: the answer, and the numbers in the buffer
   pub run : (c : Sibling) (i j k first n : ℕ) (out out₁ out₂ : List (Element c)) (a b : Ran) →

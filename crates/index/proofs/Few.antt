@@ -7,7 +7,6 @@ use mathlib.Core.Option.{none}
 use Prim.Native.Nat.{ℕ, zero, suc, _-_, _*_, _≤_}
 use native.Mathlib.Nat.{mul-one, mul-add, mul-le-mul-left}
 use native.Mathlib.Omega.{arith}
-use lib.Dec.{eqb}
 use lib.ListN.{length, take, length-append}
 use lib.Seq.{take-length}
 use Rattle.words.specs.Numbers.{Bytes}
@@ -25,20 +24,11 @@ use Rattle.recordings.specs.Recordings.{Chosen, recordingOf}
 use Rattle.recordings.proofs.Chosen.{chosen-in}
 use Rattle.recordings.proofs.Reach.{one-ok}
 use Rattle.samples.specs.Frames.{ChosenFrame, frameOf}
+use Rattle.samples.proofs.Stretch.{width-least}
 use Rattle.index.specs.Events.{ofEvents, lastOf, codesOf, sampleEntries, eachOf, channelEntries, frameEntries, recordingEntries}
 use Rattle.index.proofs.Channels.{Each, each-zero, each-first, each-others, each-few}
 use Rattle.index.proofs.Sampling.{entries-few}
 use Rattle.index.proofs.Standing.{recording-there, frame-there, codes-many}
-
--- a sample has a byte
-pub width-least : (format : ℕ) → 1 ≤ width format
-unfolding width
-width-least format = go (eqb format 1) (eqb format 2)
-  where
-    go : (a b : Bool) → 1 ≤ pick a 2 (pick b 3 4)
-    go true b = omega arith
-    go false true = omega arith
-    go false false = omega arith
 
 module _ (s : List ℕ) (i j t : ℕ) where
   -- a channel of a frame

@@ -22,7 +22,7 @@ use Rattle.recordings.specs.Answers.{value, indexed}
 use Rattle.recordings.specs.Recordings.{Chosen, recordingOf}
 use Rattle.samples.specs.Placed.{bytesOf}
 use Rattle.samples.proofs.Framing.{frame-of}
-use Rattle.samples.proofs.Stretch.{kept-take, kept-indexed, bytes-before}
+use Rattle.samples.proofs.Stretch.{width-least, kept-take, kept-indexed, bytes-before}
 use Rattle.index.specs.Events.{ofEvents, lastOf, codesOf, sampleEntries, eachOf, channelEntries}
 use Rattle.index.specs.Index.{numbers}
 use Rattle.index.specs.Listing.{wordsAt, Quiet, ofFrame, frameFrom, ChannelAhead, ChannelListed, FrameAhead}
@@ -30,7 +30,7 @@ use Rattle.index.specs.declared.Passed.{Passed}
 use Rattle.index.specs.declared.Spot.{Spot}
 use Rattle.index.specs.declared.Stretch.{Stretch}
 use Rattle.index.proofs.Channels.{some-one, each-more, each-quiet, channel-none, bytes-more, bytes-some}
-use Rattle.index.proofs.Few.{width-least, frame-few}
+use Rattle.index.proofs.Few.{frame-few}
 use Rattle.index.proofs.Standing.{events-kept, events-width, seconds-same, codes-many, codes-made}
 
 -- One channel

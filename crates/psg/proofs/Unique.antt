@@ -10,7 +10,7 @@ use Rattle.runs.specs.declared.Sibling.{Sibling}
 use Rattle.answers.specs.Flat.{Leaves}
 use Rattle.psg.specs.Calls.{JudgeAnswers, TableAnswers, TurnAnswers, RewriteAnswers, RoomAnswers}
 use Rattle.psg.specs.Calls.{HeaderAnswers, FactsAnswers, ChannelAnswers, MontageCountAnswers, MontageAnswers, PatientItemAnswers, EventItemAnswers}
-use Rattle.psg.specs.Calls.{ClockAnswers, PlaceAnswers, PartAnswers, SampleAnswers, RunAnswers, IndexAnswers}
+use Rattle.psg.specs.Calls.{ClockAnswers, PlaceAnswers, TrackAnswers, PartAnswers, SampleAnswers, RunAnswers, IndexAnswers}
 use Rattle.psg.specs.Calls.{KindAnswers}
 use Rattle.answers.specs.declared.Channel.{Channel}
 use Rattle.answers.specs.declared.Clock.{Clock}
@@ -24,6 +24,7 @@ use Rattle.answers.specs.declared.Montage.{Montage}
 use Rattle.answers.specs.declared.Part.{Part}
 use Rattle.answers.specs.declared.Place.{Place}
 use Rattle.answers.specs.declared.Sample.{Sample}
+use Rattle.answers.specs.declared.Track.{Track}
 
 -- what is one thing is one
 only : {A : Type 0} {x a b : A} → a ≡ x → b ≡ x → a ≡ b
@@ -76,6 +77,9 @@ module _ (s : List ℕ) where
 
   pub psg-place-unique : (i j k : ℕ) (a b : Place) → PlaceAnswers s i j k a → PlaceAnswers s i j k b → a ≡ b
   psg-place-unique i j k a b = only
+
+  pub psg-track-unique : (i k : ℕ) (a b : Track) → TrackAnswers s i k a → TrackAnswers s i k b → a ≡ b
+  psg-track-unique i k a b = only
 
   pub psg-sample-unique : (i j k n : ℕ) (a b : Sample) → SampleAnswers s i j k n a → SampleAnswers s i j k n b → a ≡ b
   psg-sample-unique i j k n a b = only

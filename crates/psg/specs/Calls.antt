@@ -13,12 +13,12 @@ use Rattle.rewrite.specs.Rewrite as Rewrite
 use Rattle.room.specs.Room.{roomOf}
 use Rattle.codes.specs.Codes.{kindTold}
 use Rattle.questions.specs.Questions.{headerOf, factsOf, channelOf, montageCountOf, montageOf, patientItemOf, eventItemOf, clockOf, sampleOf}
-use Rattle.samples.specs.Placed.{placeOf, partIn}
+use Rattle.samples.specs.Placed.{placeOf, trackOf, partIn}
 use Rattle.index.specs.Index as Index
 use Rattle.runs.specs.Runs as Runs
 use Rattle.runs.specs.declared.Sibling.{Sibling}
 use Rattle.answers.specs.Flat.{Leaves, countedRows, countedBytes, flatHeader, flatHeading, flatFacts, flatChannel, flatMontage, flatItem, flatClock, flatCount, flatPlace, flatPart, flatSample}
-use Rattle.answers.specs.Flat.{flatKind}
+use Rattle.answers.specs.Flat.{flatTrack, flatKind}
 use Rattle.answers.specs.declared.Channel.{Channel}
 use Rattle.answers.specs.declared.Clock.{Clock}
 use Rattle.answers.specs.declared.Counted.{Counted}
@@ -31,6 +31,7 @@ use Rattle.answers.specs.declared.Montage.{Montage}
 use Rattle.answers.specs.declared.Part.{Part}
 use Rattle.answers.specs.declared.Place.{Place}
 use Rattle.answers.specs.declared.Sample.{Sample}
+use Rattle.answers.specs.declared.Track.{Track}
 
 abbrev pub JudgeAnswers : List ℕ → Header → Type 0
 JudgeAnswers s a = a ≡ flatHeader s (R.judge s)
@@ -77,6 +78,9 @@ ClockAnswers s i j a = a ≡ flatClock (clockOf s i j)
 
 abbrev pub PlaceAnswers : List ℕ → ℕ → ℕ → ℕ → Place → Type 0
 PlaceAnswers s i j k a = a ≡ flatPlace (placeOf s i j k)
+
+abbrev pub TrackAnswers : List ℕ → ℕ → ℕ → Track → Type 0
+TrackAnswers s i k a = a ≡ flatTrack (trackOf s i k)
 
 -- the place of three numbers, in any file of n bytes
 abbrev pub PartAnswers : (n position width count : ℕ) → Part → Type 0

@@ -2,7 +2,7 @@
 ghost use Rattle.psg.specs.Calls.{JudgeAnswers, TableAnswers, TurnAnswers, RewriteAnswers, RoomAnswers};
 ghost use Rattle.psg.specs.Calls.{HeaderAnswers, FactsAnswers, ChannelAnswers, MontageCountAnswers, MontageAnswers};
 ghost use Rattle.psg.specs.Calls.{PatientItemAnswers, EventItemAnswers, ClockAnswers};
-ghost use Rattle.psg.specs.Calls.{PlaceAnswers, PartAnswers, SampleAnswers, RunAnswers, IndexAnswers};
+ghost use Rattle.psg.specs.Calls.{PlaceAnswers, TrackAnswers, PartAnswers, SampleAnswers, RunAnswers, IndexAnswers};
 ghost use Rattle.psg.specs.Calls.{KindAnswers};
 ghost use Rattle.runs.specs.declared.Sibling.the-variants as Sibling;
 use answers::Channel;
@@ -17,6 +17,7 @@ use answers::Montage;
 use answers::Part;
 use answers::Place;
 use answers::Sample;
+use answers::Track;
 use judge::Judged;
 use rules::FileHeader;
 use table::Listed;
@@ -132,6 +133,13 @@ pub extern "C" fn psg_place(file: &[u8], recording: usize, frame: usize, channel
     ensures { λ a. ⌜ PlaceAnswers (now (file .entry)) recording frame channel a ⌝ }
 {
     answers::place_of(questions::place(file, recording, frame, channel))
+}
+
+#[no_mangle]
+pub extern "C" fn psg_track(file: &[u8], recording: usize, channel: usize) -> Track
+    ensures { λ a. ⌜ TrackAnswers (now (file .entry)) recording channel a ⌝ }
+{
+    answers::track_of(questions::track(file, recording, channel))
 }
 
 // The part of a file of so many bytes that `samples::part` cuts by a place. It needs no file.

@@ -8,3 +8,4 @@ pub mod Readings
 pub mod Texts
 pub mod Showing
 pub mod Unique
+pub mod Tracks

@@ -87,8 +87,11 @@ module _ (s : List ℕ) (b : Bytes s) {v : R.File} {t : List Event} (h : R.judge
       rw (h, map-map recordingReading (λ (p : R.Placed). p .recording) (v .recordings))
       (alike-then (λ x. record { all = v .recordings; index = i - 1; this = x }) (alike-numbered (λ (p : R.Placed). recordingReading (p .recording)) (v .recordings) i) (λ x y _ e. e))
 
+  pub recording-known : {r : Chosen} → recordingOf s i ≡ value r → recordingRead (reading v) i ≡ value (recordingReading (r .this .recording))
+  recording-known is = known (λ r. recordingReading (r .this .recording)) recording-alike is
+
   -- a channel of one of its lists: what is asked of it and of its reading
-  sub-alike : {A : Type 0} {K : A → ChannelReading → Type 0} (list : Chosen → List R.Channel) (read : RecordingReading → List ChannelReading) → ((r : Chosen) → read (recordingReading (r .this .recording)) ≡ map channelReading (list r)) →
+  pub sub-alike : {A : Type 0} {K : A → ChannelReading → Type 0} (list : Chosen → List R.Channel) (read : RecordingReading → List ChannelReading) → ((r : Chosen) → read (recordingReading (r .this .recording)) ≡ map channelReading (list r)) →
       (told : Chosen → R.Channel → A) (j : ℕ) → ((r : Chosen) (c : R.Channel) → recordingOf s i ≡ value r → numbered (list r) j ≡ value c → K (told r c) (channelReading c)) →
       Alike K (recordingOf s i >>= λ r. numbered (list r) j >>= λ c. value (told r c)) (recordingRead (reading v) i >>= λ r. numbered (read r) j)
   sub-alike list read same told j f =
@@ -110,7 +113,7 @@ module _ (s : List ℕ) (b : Bytes s) {v : R.File} {t : List Event} (h : R.judge
   montage-count-read = alike-then _ recording-alike (λ r x is e. rw e (sym (length-map (r .this .recording .montage) channelReading)))
 
   pub channel-known : (r : Chosen) (j : ℕ) {c : R.Channel} → recordingOf s i ≡ value r → numbered (r .this .recording .channels) j ≡ value c → channelRead (reading v) i j ≡ value (channelReading c)
-  channel-known r j is nth = rw (known (λ r. recordingReading (r .this .recording)) recording-alike is) (known channelReading (alike-numbered channelReading (r .this .recording .channels) j) nth)
+  channel-known r j is nth = rw (recording-known is) (known channelReading (alike-numbered channelReading (r .this .recording .channels) j) nth)
 
   -- an item
   items-read : (k : Holder) (r : Chosen) → itemsRead k (recordingReading (r .this .recording)) ≡ map itemReading (itemsOf k r)
@@ -170,7 +173,7 @@ module _ (s : List ℕ) (b : Bytes s) {v : R.File} {t : List Event} (h : R.judge
   samples-alike j k = alike-bind (of-channel k) (λ y. numbered (y .channels) k) (frame-alike j) (λ f y is e. rw e (in-frame j k f is))
 
   -- M, F and T
-  seconds-small : (r : Chosen) → recordingOf s i ≡ value r → r .this .recording .seconds ≤ 3600
+  pub seconds-small : (r : Chosen) → recordingOf s i ≡ value r → r .this .recording .seconds ≤ 3600
   seconds-small r is = between-in 1 3600 _ (recording-well s b h i r is .1 .frames .seconds) .1
 
   pub facts-read : Alike FactsAre (factsOf s i) (recordingRead (reading v) i)

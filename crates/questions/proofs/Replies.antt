@@ -144,7 +144,7 @@ sample-refused s i j k m h = rw h
 abbrev said : Answer Value → Answer Number
 said a = a >>= λ v. value (numberIn v)
 
-module _ {s : List ℕ} {i j k : ℕ} {o : Order} {run : Run} {x : Samples} (h : RunIn s i j k o run x) (m : ℕ) where
+module _ {s : List ℕ} {i j k : ℕ} {o : Order} {q : Places} {run : Run} {x : Samples} (h : RunIn s i j k o q run x) (m : ℕ) where
   many : length (x .values) ≡ run .place .count
   many = sym (ap (λ (r : Run). r .place .count) (h .same))
 

@@ -14,8 +14,10 @@ use Rattle.samples.specs.declared.SampleTold.{SampleTold}
 use Rattle.samples.specs.declared.SampleTold.the-variants as SampleTold
 use Rattle.samples.specs.declared.ClockTold.{ClockTold}
 use Rattle.samples.specs.declared.ClockTold.the-variants as ClockTold
-use Rattle.questions.specs.Contracts.{HeaderAnswer, FactsAnswer, ChannelAnswer, MontageCountAnswer, MontageAnswer, PatientItemAnswer, EventItemAnswer, ClockAnswer, PlaceAnswer, SampleAnswer}
-use Rattle.questions.specs.Meanings.{meaningH, meaningF, meaningD, meaningN, meaningM, meaningI, meaningT, meaningP, meaningS}
+use Rattle.samples.specs.declared.TrackTold.{TrackTold}
+use Rattle.samples.specs.declared.TrackTold.the-variants as TrackTold
+use Rattle.questions.specs.Contracts.{HeaderAnswer, FactsAnswer, ChannelAnswer, MontageCountAnswer, MontageAnswer, PatientItemAnswer, EventItemAnswer, ClockAnswer, PlaceAnswer, TrackAnswer, SampleAnswer}
+use Rattle.questions.specs.Meanings.{meaningH, meaningF, meaningD, meaningN, meaningM, meaningI, meaningT, meaningP, meaningK, meaningS}
 use Rattle.questions.specs.declared.channels.ChannelTold.{ChannelTold}
 use Rattle.questions.specs.declared.channels.ChannelTold.the-variants as ChannelTold
 use Rattle.questions.specs.declared.channels.MontageCountTold.{MontageCountTold}
@@ -64,6 +66,10 @@ place-back : (a : PlaceTold) → answer PlaceTold.At PlaceTold.Refused (meaningP
 place-back (PlaceTold.At x) = refl
 place-back (PlaceTold.Refused r) = refl
 
+track-back : (a : TrackTold) → answer TrackTold.At TrackTold.Refused (meaningK a) ≡ a
+track-back (TrackTold.At x) = refl
+track-back (TrackTold.Refused r) = refl
+
 sample-back : (a : SampleTold) → answer SampleTold.Value SampleTold.Refused (meaningS a) ≡ a
 sample-back (SampleTold.Value x) = refl
 sample-back (SampleTold.Refused r) = refl
@@ -97,6 +103,9 @@ module _ (s : List ℕ) (i : ℕ) where
 
   pub place-unique : (j k : ℕ) (a b : PlaceTold) → PlaceAnswer s i j k a → PlaceAnswer s i j k b → a ≡ b
   place-unique j k a b = one meaningP (answer PlaceTold.At PlaceTold.Refused) place-back
+
+  pub track-unique : (k : ℕ) (a b : TrackTold) → TrackAnswer s i k a → TrackAnswer s i k b → a ≡ b
+  track-unique k a b = one meaningK (answer TrackTold.At TrackTold.Refused) track-back
 
   pub sample-unique : (j k n : ℕ) (a b : SampleTold) → SampleAnswer s i j k n a → SampleAnswer s i j k n b → a ≡ b
   sample-unique j k n a b = one meaningS (answer SampleTold.Value SampleTold.Refused) sample-back

@@ -4,11 +4,12 @@ use mathlib.Core.Path.{_≡_}
 use mathlib.Core.List.{List}
 use Prim.Native.Nat.{ℕ}
 use Rattle.recordings.specs.declared.FactsTold.{FactsTold}
-use Rattle.samples.specs.Placed.{placeOf}
+use Rattle.samples.specs.Placed.{placeOf, trackOf}
 use Rattle.samples.specs.declared.ClockTold.{ClockTold}
 use Rattle.samples.specs.declared.PlaceTold.{PlaceTold}
 use Rattle.samples.specs.declared.SampleTold.{SampleTold}
-use Rattle.questions.specs.Meanings.{meaningH, meaningF, meaningD, meaningN, meaningM, meaningI, meaningT, meaningP, meaningS}
+use Rattle.samples.specs.declared.TrackTold.{TrackTold}
+use Rattle.questions.specs.Meanings.{meaningH, meaningF, meaningD, meaningN, meaningM, meaningI, meaningT, meaningP, meaningK, meaningS}
 use Rattle.questions.specs.Questions.{headerOf, factsOf, channelOf, montageCountOf, montageOf, patientItemOf, eventItemOf, clockOf, sampleOf}
 use Rattle.questions.specs.declared.channels.ChannelTold.{ChannelTold}
 use Rattle.questions.specs.declared.channels.MontageCountTold.{MontageCountTold}
@@ -20,7 +21,7 @@ use Rattle.questions.specs.declared.items.ItemTold.{ItemTold}
 abbrev pub HeaderAnswer : List ℕ → HeaderTold → Type 0
 HeaderAnswer s a = meaningH a ≡ headerOf s
 
--- of the file s: recording i, and in it channel, item or frame j; of a frame channel k, and its sample n
+-- of the file s: recording i, and in it channel, item or frame j; of a frame channel k, and its sample n; and channel k in all frames
 module _ (s : List ℕ) (i : ℕ) where
   abbrev pub FactsAnswer : FactsTold → Type 0
   FactsAnswer a = meaningF a ≡ factsOf s i
@@ -45,6 +46,9 @@ module _ (s : List ℕ) (i : ℕ) where
 
   abbrev pub PlaceAnswer : ℕ → ℕ → PlaceTold → Type 0
   PlaceAnswer j k a = meaningP a ≡ placeOf s i j k
+
+  abbrev pub TrackAnswer : ℕ → TrackTold → Type 0
+  TrackAnswer k a = meaningK a ≡ trackOf s i k
 
   abbrev pub SampleAnswer : ℕ → ℕ → ℕ → SampleTold → Type 0
   SampleAnswer j k n a = meaningS a ≡ sampleOf s i j k n

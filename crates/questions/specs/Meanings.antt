@@ -14,6 +14,9 @@ use Rattle.samples.specs.declared.SampleTold.the-variants as SampleTold
 use Rattle.samples.specs.declared.Time.{Time}
 use Rattle.samples.specs.declared.ClockTold.{ClockTold}
 use Rattle.samples.specs.declared.ClockTold.the-variants as ClockTold
+use Rattle.samples.specs.declared.Track.{Track}
+use Rattle.samples.specs.declared.TrackTold.{TrackTold}
+use Rattle.samples.specs.declared.TrackTold.the-variants as TrackTold
 use Rattle.questions.specs.declared.channels.ChannelTold.{ChannelTold}
 use Rattle.questions.specs.declared.channels.ChannelTold.the-variants as ChannelTold
 use Rattle.questions.specs.declared.channels.Descriptor.{Descriptor}
@@ -60,6 +63,10 @@ meaningT (ClockTold.Refused r) = refusal (r .0) (r .1)
 abbrev pub meaningP : PlaceTold → Answer Place
 meaningP (PlaceTold.At x) = value x
 meaningP (PlaceTold.Refused r) = refusal (r .0) (r .1)
+
+abbrev pub meaningK : TrackTold → Answer Track
+meaningK (TrackTold.At x) = value x
+meaningK (TrackTold.Refused r) = refusal (r .0) (r .1)
 
 abbrev pub meaningS : SampleTold → Answer Number
 meaningS (SampleTold.Value x) = value x

@@ -3,20 +3,21 @@
 -- Assumes nothing.
 use mathlib.Core.Path.{_≡_}
 use mathlib.Core.List.{List, []}
-use Prim.Native.Nat.{ℕ, _+_, _*_, _≤_}
+use Prim.Native.Nat.{ℕ, _+_, _*_, _≤_, _<_}
 use lib.IntN.{pos, natAbs}
 use lib.ListN.{length}
 use Rattle.words.specs.Numbers.{bytesAt}
 use Rattle.walk.specs.Walk.{pick}
-use Rattle.rules.specs.Rules.{width}
+use Rattle.rules.specs.Rules.{orderOf, width}
 use Rattle.rules.specs.Reading.{Value, ChannelReading, ItemReading, FrameReading, RecordingReading, Reading}
 use Rattle.records.specs.declared.items.Holder.{Holder}
 use Rattle.records.specs.declared.items.Holder.the-variants as Holder
 use Rattle.recordings.specs.Answers.{Answer, value, refusal, _>>=_, indexed, numbered}
 use Rattle.recordings.specs.declared.Counts.{Counts}
-use Rattle.samples.specs.Placed.{valuesOf}
+use Rattle.samples.specs.Placed.{placeOf, placeOn, valuesOf}
 use Rattle.samples.specs.declared.Place.{Place}
 use Rattle.samples.specs.declared.Time.{Time}
+use Rattle.samples.specs.declared.Track.{Track}
 use Rattle.questions.specs.declared.channels.Descriptor.{Descriptor}
 use Rattle.questions.specs.declared.channels.Text.{Text}
 use Rattle.questions.specs.declared.channels.Wired.{Wired}
@@ -126,3 +127,20 @@ pub record PlaceIs (s : List ℕ) (v : Reading) (i k : ℕ) (p : Place) (vs : Li
   pub inside : p .position + p .width * p .count ≤ length s
   -- the bytes that `part` cuts there, read in the file's order, are the samples
   pub shows : valuesOf s (formatIn channel) p ≡ vs
+
+-- the track t of channel k of recording i, which the reading v has as c
+pub record TrackIs (s : List ℕ) (v : Reading) (i k : ℕ) (t : Track) (c : ChannelReading) : Type 0 where
+  -- the file's byte order, the channel's format, and the bytes of one sample
+  pub order : t .order ≡ orderOf s
+  pub format : t .format ≡ formatIn c
+  pub wide : t .first .width ≡ width (t .format)
+  -- F and T of the recording; T is not 0
+  pub recording : RecordingReading
+  pub held : recordingRead v i ≡ value recording
+  pub frames : t .frames ≡ length (recording .frames)
+  pub seconds : pos (t .seconds) ≡ recording .seconds
+  pub some : 1 ≤ t .seconds
+  -- a frame has fewer samples than its length can count
+  pub few : t .first .count < 2147483648
+  -- in each frame they stand at the place that `place` answers
+  pub places : (j : ℕ) → 1 ≤ j → j ≤ t .frames → placeOf s i j k ≡ value (placeOn t j)

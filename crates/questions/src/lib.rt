@@ -7,7 +7,7 @@ pub mod items;
 ghost use mathlib.Core.Path.{_≡_};
 ghost use Rattle.questions.specs.Contracts.{HeaderAnswer, FactsAnswer, ChannelAnswer, MontageCountAnswer, MontageAnswer};
 ghost use Rattle.questions.specs.Contracts.{PatientItemAnswer, EventItemAnswer};
-ghost use Rattle.questions.specs.Contracts.{ClockAnswer, PlaceAnswer, SampleAnswer};
+ghost use Rattle.questions.specs.Contracts.{ClockAnswer, PlaceAnswer, TrackAnswer, SampleAnswer};
 ghost use Rattle.questions.specs.Questions.{versionNumber, formNumber};
 use crate::channels::ChannelTold;
 use crate::channels::MontageCountTold;
@@ -31,6 +31,7 @@ use samples::FrameFound;
 use samples::PlaceTold;
 use samples::SampleTold;
 use samples::SamplesFound;
+use samples::TrackTold;
 
 // The number of the form's digits.
 fn form_number(label: Label) -> u32
@@ -161,11 +162,22 @@ pub fn place(file: &[u8], recording: usize, frame: usize, channel: usize) -> Pla
     ensures { λ a. ⌜ PlaceAnswer (now (file .entry)) recording frame channel a ⌝ }
 {
     let ran = samples::samples_asked(file, recording, frame, channel);
-    let SamplesFound::At(_, run) = ran else {
+    let SamplesFound::At(_, _, run) = ran else {
         return PlaceTold::Refused(samples::of_samples_found(ran));
     };
     let place = run.place;
     PlaceTold::At(place)
+}
+
+// Where the samples of a channel stand in every frame of a recording.
+pub fn track(file: &[u8], recording: usize, channel: usize) -> TrackTold
+    ensures { λ a. ⌜ TrackAnswer (now (file .entry)) recording channel a ⌝ }
+{
+    let ran = samples::samples_asked(file, recording, 1, channel);
+    let SamplesFound::At(order, q, run) = ran else {
+        return TrackTold::Refused(samples::of_samples_found(ran));
+    };
+    TrackTold::At(samples::track_of(order, q, run))
 }
 
 // One sample of a channel in a frame.
@@ -179,7 +191,7 @@ pub fn sample(
     ensures { λ a. ⌜ SampleAnswer (now (file .entry)) recording frame channel sample a ⌝ }
 {
     let ran = samples::samples_asked(file, recording, frame, channel);
-    let SamplesFound::At(order, run) = ran else {
+    let SamplesFound::At(order, _, run) = ran else {
         return SampleTold::Refused(samples::of_samples_found(ran));
     };
     let place = run.place;

@@ -13,6 +13,7 @@ use Rattle.words.specs.declared.Order.{Order}
 use Rattle.walk.specs.Walk.{pick}
 use Rattle.walk.proofs.Seen.{and-right}
 use Rattle.recordings.specs.Answers.{Answer, value, refusal, _>>=_, outside}
+use Rattle.descriptions.specs.declared.Places.{Places}
 use Rattle.samples.specs.Asked.{RunIn}
 use Rattle.samples.specs.Frames.{formatOf, Samples, samplesOf}
 use Rattle.samples.specs.Placed.{placeIn, placeOf, valuesOf}
@@ -28,7 +29,7 @@ use Rattle.runs.specs.declared.Sibling.{Sibling}
 pub run-refused : (b : Sibling) (s : List ℕ) (i j k first n space : ℕ) {m p : ℕ} → samplesOf s i j k ≡ refusal m p → answerOf b s i j k first n space ≡ refusal m p
 run-refused b s i j k first n space h = rw h
 
-module _ {s : List ℕ} {i j k : ℕ} {o : Order} {run : Run} {x : Samples} (h : RunIn s i j k o run x) where
+module _ {s : List ℕ} {i j k : ℕ} {o : Order} {q : Places} {run : Run} {x : Samples} (h : RunIn s i j k o q run x) where
   module _ (b : Sibling) (first n : ℕ) where
     -- by the tests of the code
     run-by : runOf b s i j k first n ≡ runAt b s first n (run .format) (run .place)

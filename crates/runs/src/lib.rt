@@ -74,7 +74,7 @@ fn run_asked(
     ensures { λ a. ⌜ RunFoundAs b (now (file .entry)) recording frame channel first number room a ⌝ }
 {
     let found = samples::samples_asked(file, recording, frame, channel);
-    let SamplesFound::At(order, run) = found else {
+    let SamplesFound::At(order, _, run) = found else {
         return RunFound::Refused(samples::of_samples_found(found));
     };
     if !format_served(b, run.format) {

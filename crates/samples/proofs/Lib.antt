@@ -5,3 +5,4 @@ pub mod Stretch
 pub mod Readings
 pub mod Sampling
 pub mod Placing
+pub mod Tracking

@@ -17,6 +17,7 @@ use Rattle.words.specs.declared.Order.{Order}
 use Rattle.walk.proofs.Seen.{part-number}
 use Rattle.rules.specs.Rules.{orderOf, width}
 use Rattle.rules.specs.Reading.{Value, valueOf}
+use Rattle.descriptions.specs.declared.Places.{Places}
 use Rattle.recordings.specs.Answers.{Answer, value, indexed}
 use Rattle.recordings.proofs.Chosen.{answered}
 use Rattle.samples.specs.Asked.{RunIn}
@@ -94,7 +95,7 @@ part-unique file p r u x y = (x .bytes ∙ sym (y .bytes), λ n. ((x .block ∙ 
 
 -- The place that the code found
 
-module _ {s : List ℕ} {i j k : ℕ} {o : Order} {run : Run} {x : Samples} (h : RunIn s i j k o run x) where
+module _ {s : List ℕ} {i j k : ℕ} {o : Order} {q : Places} {run : Run} {x : Samples} (h : RunIn s i j k o q run x) where
   pub placed : placeOf s i j k ≡ value (run .place)
   placed = rw (h .is) (ap (λ (r : Run). value (r .place)) (sym (h .same)))
 

@@ -52,7 +52,7 @@ module _ (s : List ℕ) (b : Bytes s) (i : ℕ) (r : Chosen) (x : ChosenIn s i r
       number-seen (R.orderOf s) s _ (width (y .format)) (found-seen s b (x .judged) (rw (e, o .is f, p .is y, frame-place s b i r x n) at g))
 
 -- the samples of channel k of a frame, from 1
-abbrev samplesAre : ChosenFrame → ℕ → R.Channel → Samples
+abbrev pub samplesAre : ChosenFrame → ℕ → R.Channel → Samples
 samplesAre f k y = record {
   at = f .at + (24 + sampleBytes (f .of .this .recording .seconds) (take (k - 1) (f .of .this .recording .channels)));
   format = y .format;
@@ -86,10 +86,10 @@ module _ (s : List ℕ) (b : Bytes s) (i j : ℕ) (f : ChosenFrame) (is : frameO
   reads : Reads t cs (f .frame .channels) (k - 1) k y
   reads = reads-numbered t cs (f .frame .channels) (frame-samples s b i (f .of) (found .chosen) j (f .frame) (found .one)) k nth
 
-  samples-are : samplesOf s i j k ≡ value (samplesAre f k y)
+  pub samples-are : samplesOf s i j k ≡ value (samplesAre f k y)
   samples-are = rw (is, nth, reads .values)
 
-  many : length (samplesAre f k y .values) ≡ samplesIn t y
+  pub many : length (samplesAre f k y .values) ≡ samplesIn t y
   many = rw length-map (reads .count)
 
   samples-in : SamplesIn s (samplesAre f k y)
@@ -138,7 +138,7 @@ module _ {s : List ℕ} {i j : ℕ} {o : Order} {q : Places} {at : ℕ} {f : Cho
 
   -- its channel y has this number
   module _ (y : R.Channel) (is : numbered (f .of .this .recording .channels) k ≡ value y) where
-    run-is : (run : Run) → RunInside (length s) run → run ≡ runOf (q .seconds) (take (k - 1) (f .of .this .recording .channels)) y at → RunIn s i j k o run (samplesAre f k y)
+    run-is : (run : Run) → RunInside (length s) run → run ≡ runOf (q .seconds) (take (k - 1) (f .of .this .recording .channels)) y at → RunIn s i j k o q run (samplesAre f k y)
     run-is run l g =
         let e₁ : q .seconds ≡ f .of .this .recording .seconds = ap (λ (p : Places). p .seconds) (h .found .same) in
         let e₂ : at + (24 + sampleBytes (q .seconds) (take (k - 1) (f .of .this .recording .channels))) ≡ f .at + (24 + sampleBytes (f .of .this .recording .seconds) (take (k - 1) (f .of .this .recording .channels))) = rw (h .place, e₁) in
@@ -146,6 +146,9 @@ module _ {s : List ℕ} {i j : ℕ} {o : Order} {q : Places} {at : ℕ} {f : Cho
         let e : run ≡ record { format = y .format; place = placeIn (samplesAre f k y) } = g ∙ (λ n. record { format = y .format; place = record { position = e₂ n; width = width (y .format); count = e₃ n } }) in
         record {
           is = samples-are s (h .found .bytes) i j f (h .is) k y is;
+          frame = f;
+          at = at;
+          stands = h;
           order = h .found .order;
           same = e;
           described = rw (h .found .is, is) (ap (λ (x : Run). value (x .format)) (sym e));
@@ -155,7 +158,7 @@ module _ {s : List ℕ} {i j : ℕ} {o : Order} {q : Places} {at : ℕ} {f : Cho
               (samples-in s (h .found .bytes) i j f (h .is) k y is .each m (omega (arith, v, ap (λ (x : Run). x .place .count) e)));
         }
 
-  pub samples-found-at : R.between 1 (q .count) k ≡ true → (run : Run) → RunAt o s (q .channels + 32) (k - 1) (q .seconds) at run → SamplesFoundAs s i j k (SamplesFound.At o run)
+  pub samples-found-at : R.between 1 (q .count) k ≡ true → (run : Run) → RunAt o s (q .channels + 32) (k - 1) (q .seconds) at run → SamplesFoundAs s i j k (SamplesFound.At o q run)
   samples-found-at t run g =
       let cs : List R.Channel = f .of .this .recording .channels in
       let y = numbered-some cs k (rw (h .found .owned .stand .count) t) in

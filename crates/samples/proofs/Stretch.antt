@@ -1,16 +1,19 @@
 -- The samples of one channel in a frame: what each means, by the width of its format, and where they stand: behind those of the channels before it, and among the frame's.
 -- Assumes nothing.
 use mathlib.Core.Path.{_≡_, sym, subst}
+use mathlib.Core.Bool.{Bool, true, false}
 use mathlib.Core.List.{List, [], _∷_}
 use Prim.Native.Nat.{ℕ, zero, suc, _+_, _*_, _≤_, _<_}
 use native.Mathlib.Nat.{add-zero, mul-comm}
 use native.Mathlib.Omega.{arith}
 use borrow.Author.Tests.{ne-eqb}
+use lib.Dec.{eqb}
 use lib.ListN.{length, take}
 use lib.Seq.{length-take-le}
 use Rattle.words.specs.declared.Order.{Order}
 use Rattle.words.specs.Numbers.{numberAt}
 use Rattle.words.specs.Values.{signed}
+use Rattle.walk.specs.Walk.{pick}
 use Rattle.rules.specs.Rules as R
 use Rattle.rules.specs.Reading.{valueOf}
 use Rattle.rules.specs.Rules.{sampleBytes, samplesIn, samplesOf, width}
@@ -35,6 +38,16 @@ width-3 format e = rw e
 pub width-4 : (format : ℕ) → (format ≡ 1 → ⊥) → (format ≡ 2 → ⊥) → width format ≡ 4
 unfolding width
 width-4 format h k = rw (ne-eqb format 1 h, ne-eqb format 2 k)
+
+-- a sample has a byte
+pub width-least : (format : ℕ) → 1 ≤ width format
+unfolding width
+width-least format = go (eqb format 1) (eqb format 2)
+  where
+    go : (a b : Bool) → 1 ≤ pick a 2 (pick b 3 4)
+    go true b = omega arith
+    go false true = omega arith
+    go false false = omega arith
 
 module _ (o : Order) (s : List ℕ) (p format : ℕ) where
   abbrev sampleAt : Number

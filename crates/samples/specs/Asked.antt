@@ -23,13 +23,14 @@ use Rattle.samples.specs.declared.SamplesFound.{SamplesFound}
 use Rattle.samples.specs.declared.SamplesFound.the-variants as SamplesFound
 use Rattle.samples.specs.declared.Run.{Run}
 use Rattle.samples.specs.declared.Time.{Time}
+use Rattle.samples.specs.declared.Track.{Track}
 
 abbrev pub refusalFrame : FrameFound → Refusal
 refusalFrame (FrameFound.At o q at) = record { 0 = 0; 1 = 0 }
 refusalFrame (FrameFound.Refused r) = r
 
 abbrev pub refusalSamples : SamplesFound → Refusal
-refusalSamples (SamplesFound.At o run) = record { 0 = 0; 1 = 0 }
+refusalSamples (SamplesFound.At o q run) = record { 0 = 0; 1 = 0 }
 refusalSamples (SamplesFound.Refused r) = r
 
 -- A frame: it stands at `at`, where the walk of a frame gives it
@@ -89,10 +90,18 @@ pub record RunAt (o : Order) (s : List ℕ) (subs c t at : ℕ) (r : Run) : Type
   pub same : (cs : List R.Channel) (x : R.Channel) → Kept o s subs cs → indexed cs c ≡ value x →
       RunInside (length s) (runOf t (take c cs) x at) → r ≡ runOf t (take c cs) x at
 
--- they are those asked for, and each is what the bytes at its place mean
-pub record RunIn (s : List ℕ) (i j k : ℕ) (o : Order) (run : Run) (x : Samples) : Type 0 where
+-- the track of a channel, by the places of its recording and its samples in the first frame
+abbrev pub trackAt : Order → Places → Run → Track
+trackAt o q run = record { order = o; format = run .format; first = run .place; step = q .frame; frames = q .total; seconds = q .seconds }
+
+-- they are those asked for, in the recording at q, and each is what the bytes at its place mean
+pub record RunIn (s : List ℕ) (i j k : ℕ) (o : Order) (q : Places) (run : Run) (x : Samples) : Type 0 where
   -- the samples asked for
   pub is : samplesOf s i j k ≡ value x
+  -- in which frame, and where that stands
+  pub frame : ChosenFrame
+  pub at : ℕ
+  pub stands : FrameStands s i j o q at frame
   -- the file's byte order
   pub order : o ≡ R.orderOf s
   -- their format, and their place
@@ -106,5 +115,5 @@ pub record RunIn (s : List ℕ) (i j k : ℕ) (o : Order) (run : Run) (x : Sampl
       value (valueOf (run .format) (R.width (run .format)) (numberAt o (R.width (run .format)) s (run .place .position + R.width (run .format) * n)))
 
 abbrev pub SamplesFoundAs : List ℕ → ℕ → ℕ → ℕ → SamplesFound → Type 0
-SamplesFoundAs s i j k (SamplesFound.At o run) = (x : Samples) × RunIn s i j k o run x
+SamplesFoundAs s i j k (SamplesFound.At o q run) = (x : Samples) × RunIn s i j k o q run x
 SamplesFoundAs s i j k (SamplesFound.Refused r) = samplesOf s i j k ≡ refusal (r .0) (r .1)

@@ -1,8 +1,8 @@
--- Where the samples of a channel in a frame stand, and the part of a file that a place names.
+-- Where the samples of a channel stand, in a frame and in every frame of a recording, and the part of a file that a place names.
 -- Assumes nothing.
 use mathlib.Core.Path.{_≡_}
 use mathlib.Core.List.{List, [], _∷_}
-use Prim.Native.Nat.{ℕ, zero, suc, _+_, _*_}
+use Prim.Native.Nat.{ℕ, zero, suc, _+_, _-_, _*_}
 use denote.Ref.{RefT}
 use lib.Dec.{leb}
 use lib.ListN.{length}
@@ -12,9 +12,10 @@ use Rattle.walk.specs.Walk.{pick}
 use Rattle.rules.specs.Reading.{Value, valueOf}
 use Rattle.rules.specs.Rules.{orderOf, width}
 use Rattle.recordings.specs.Answers.{Answer, value, _>>=_}
-use Rattle.samples.specs.Frames.{Samples, samplesOf}
+use Rattle.samples.specs.Frames.{Samples, frameOf, samplesOf}
 use Rattle.samples.specs.declared.Cut.{Cut}
 use Rattle.samples.specs.declared.Place.{Place}
+use Rattle.samples.specs.declared.Track.{Track}
 
 -- the place of samples; where there are none, the one that they would take
 abbrev pub placeIn : Samples → Place
@@ -22,6 +23,23 @@ placeIn x = record { position = x .at; width = width (x .format); count = length
 
 abbrev pub placeOf : List ℕ → ℕ → ℕ → ℕ → Answer Place
 placeOf s i j k = samplesOf s i j k >>= λ x. value (placeIn x)
+
+-- the track of channel k of recording i: its place in the first frame, and how far the frames are apart; and its place in frame j
+abbrev pub trackOf : List ℕ → ℕ → ℕ → Answer Track
+trackOf s i k = do
+  x ← samplesOf s i 1 k
+  f ← frameOf s i 1
+  value (record {
+    order = orderOf s;
+    format = x .format;
+    first = placeIn x;
+    step = f .of .this .layout .frame;
+    frames = length (f .of .this .recording .frames);
+    seconds = f .of .this .recording .seconds;
+  })
+
+abbrev pub placeOn : Track → ℕ → Place
+placeOn t j = record { position = t .first .position + t .step * (j - 1); width = t .first .width; count = t .first .count }
 
 -- the part of a file of n bytes: those of the place, if all of them lie inside, else the empty part at the file's end
 unfoldable pub partIn : ℕ → Place → Cut

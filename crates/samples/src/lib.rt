@@ -8,7 +8,7 @@ ghost use Rattle.rules.specs.Rules as R;
 ghost use Rattle.rules.specs.Reading.{valueOf};
 ghost use Rattle.samples.specs.Frames.{floatIn, numberIn};
 ghost use Rattle.samples.specs.Placed.{partIn, PartAnswer};
-ghost use Rattle.samples.specs.Asked.{refusalFrame, refusalSamples, FrameFoundAs, SamplesFoundAs, ClockAt, Reachable, RunAt};
+ghost use Rattle.samples.specs.Asked.{refusalFrame, refusalSamples, FrameFoundAs, SamplesFoundAs, trackAt, ClockAt, Reachable, RunAt};
 use descriptions::Places;
 use recordings::RecordingFound;
 use rules::Channel;
@@ -47,6 +47,22 @@ pub enum PlaceTold {
     Refused(Refusal),
 }
 
+// Where a channel's samples stand in every frame of a recording: by the file's byte order and the channel's format, the place in the first frame, the bytes
+// from there to the same place in the next one, how many frames there are, and the seconds of each.
+pub struct Track {
+    pub order: Order,
+    pub format: u32,
+    pub first: Place,
+    pub step: usize,
+    pub frames: u32,
+    pub seconds: u32,
+}
+
+pub enum TrackTold {
+    At(Track),
+    Refused(Refusal),
+}
+
 // A part of a file: its first byte, and its length.
 pub struct Cut {
     pub start: usize,
@@ -77,8 +93,9 @@ pub struct Run {
     pub place: Place,
 }
 
+// The file's byte order, where the recording stands, and the samples asked for; or the refusal.
 pub enum SamplesFound {
-    At(Order, Run),
+    At(Order, Places, Run),
     Refused(Refusal),
 }
 
@@ -95,7 +112,7 @@ pub fn of_samples_found(a: SamplesFound) -> Refusal
     ensures { λ r. ⌜ r ≡ refusalSamples a ⌝ }
 {
     match a {
-        SamplesFound::At(_, _) => Refusal(0, 0),
+        SamplesFound::At(_, _, _) => Refusal(0, 0),
         SamplesFound::Refused(r) => r,
     }
 }
@@ -223,7 +240,22 @@ pub fn samples_asked(file: &[u8], recording: usize, frame: usize, channel: usize
     }
     let subs = q.channels + Channels::SUBS;
     let c = (channel - 1) as u32;
-    SamplesFound::At(order, run_at(order, file, subs, c, q.seconds, at))
+    SamplesFound::At(order, q, run_at(order, file, subs, c, q.seconds, at))
+}
+
+// The track of a channel, by its samples in the first frame.
+pub fn track_of(order: Order, q: Places, run: Run) -> Track
+    ensures { λ r. ⌜ r ≡ trackAt order q run ⌝ }
+{
+    let first = run.place;
+    Track {
+        order,
+        format: run.format,
+        first,
+        step: q.frame,
+        frames: q.total,
+        seconds: q.seconds,
+    }
 }
 
 // The sample of 32 bits, in a channel of floats.

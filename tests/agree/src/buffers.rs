@@ -63,7 +63,7 @@ fn rewrite_differs(file: &[u8]) -> Option<String> {
 
 /// A call's first difference: with room to spare, just enough, one too little and none. A refused one gets room as
 /// well.
-fn call_differs<T: Copy + Debug + From<u8> + PartialEq>(
+pub fn call_differs<T: Copy + Debug + From<u8> + PartialEq>(
     call: &str,
     file: &[u8],
     library: impl Fn(&mut [T]) -> Result<usize, psg::Refusal>,

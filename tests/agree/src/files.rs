@@ -1,6 +1,7 @@
 //! Files made afresh, valid and damaged, through the library and the second program.
 
 use crate::buffers::written_differs;
+use crate::epochs::epochs_differ;
 use crate::events::times_differ;
 use crate::parts::{part_differs, parts_differ};
 use ask::{refused, Answer};
@@ -81,7 +82,7 @@ fn share(seed: u64, indices: impl Iterator<Item = u64>, until: Until) -> Compare
 }
 
 /// Where the library differs from the second program, whose verdict this is: the verdict, what is written, the times of
-/// events, parts cut by any numbers, and the answers to questions.
+/// events, parts cut by any numbers, tracks and overviews, and the answers to questions.
 pub fn differences(
     file: &[u8],
     verdict: &Result<Model, Refusal>,
@@ -92,6 +93,7 @@ pub fn differences(
         .chain(written_differs(file))
         .chain(times_differ(file, verdict))
         .chain(parts_differ(file))
+        .chain(epochs_differ(file, verdict))
         .chain(asked.iter().filter_map(|one| answer_differs(file, one)))
         .collect()
 }

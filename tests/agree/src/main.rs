@@ -1,8 +1,9 @@
 //! `agree SEED COUNT|SECONDSs`: what the proved library answers, and leaves in a buffer lent to it, is compared with
 //! what the second program says of files made afresh, valid and damaged: the verdict with the header's values, the
 //! table, every question, the parts that places and numbers of any size cut, runs of samples beside the single ones,
-//! the index of events and their times, turning there and back, and rewriting. So many files, or as many as the time
-//! allows (`600s`). Status 1 means a difference.
+//! the index of events and their times, tracks beside the places of frames, overviews of every channel beside the
+//! single epochs and those of the turned file, turning there and back, and rewriting. So many files, or as many as the
+//! time allows (`600s`). Status 1 means a difference.
 
 use agree::files::{self, Until};
 use std::process::ExitCode;

@@ -1,6 +1,7 @@
 //! A respiratory recorder at 256 Hz, which writes its period as 3906 microseconds: an hour of it with its events,
 //! through the library as a whole, and through the second program.
 
+use ::overview::{epochs, Envelope};
 use agree::files::differences;
 use psg::{Clock, Entry, EventKind, Facts, Place, Refusal, Sample};
 use second::bytes::Order;
@@ -240,6 +241,34 @@ fn its_runs_are_what_was_recorded() {
             }
             let floats = psg::run_floats(&file, 1, 1, channel, 0, 0, &mut []);
             assert_eq!(floats, refused(19, 0));
+        }
+    }
+}
+
+/// Each of its frames is an epoch.
+#[test]
+fn its_overview_has_the_extremes_of_what_was_recorded() {
+    for (_, file) in hours() {
+        for (channel, count) in (1..).zip(COUNTS) {
+            let frame = |frame| {
+                let samples = (0..count).map(|sample| recorded(frame, channel, sample).into());
+                let samples: Vec<i64> = samples.collect();
+                let smallest = *samples.iter().min()?;
+                let largest = *samples.iter().max()?;
+                Some(Envelope {
+                    smallest,
+                    largest,
+                    count,
+                })
+            };
+            let expected: Vec<_> = (1..=FRAMES).map(frame).collect();
+            assert_eq!(epochs(&file, 1, channel), Ok(expected));
+            let track = psg::track(&file, 1, channel).expect("a channel");
+            assert_eq!(track.step, FRAME_LENGTH);
+            for frame in [1, 2, 77, FRAMES] {
+                let placed = track.place(frame).map(|place| place.position);
+                assert_eq!(placed, Some(place(frame, channel)));
+            }
         }
     }
 }

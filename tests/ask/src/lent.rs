@@ -3,8 +3,9 @@
 use crate::refused;
 use second::header::MOST_RECORDINGS;
 use second::index::ENTRY_NUMBERS;
-use second::lines::{indexed, joined, listed, written};
-use second::record::MOST_MULTIPLIER;
+use second::lines::{counted, joined, listed, written};
+use second::overview::{EPOCH_NUMBERS, EPOCH_SECONDS};
+use second::record::{frame, frames, MOST_MULTIPLIER};
 use second::refusal::Refusal;
 use second::table::ROW_NUMBERS;
 use std::fmt::Display;
@@ -40,6 +41,13 @@ pub fn by_bits<R>(bits: &mut [u32], call: impl FnOnce(&mut [f32]) -> R) -> R {
 /// Room that no answer takes: padding may make each recording's canonical form longer, twice by less than a multiplier.
 const SPARE: usize = 2 * MOST_RECORDINGS * MOST_MULTIPLIER as usize;
 
+/// The most numbers that an overview has for each byte of a file, which has a head at least for each of its frames.
+const NUMBERS_A_BYTE: usize =
+    EPOCH_NUMBERS * (frames::MOST_SECONDS as usize / EPOCH_SECONDS as usize) / frame::SAMPLES;
+
+/// Room beyond the numbers of an overview.
+const BEYOND: usize = 9;
+
 pub struct Lent<T> {
     pub buffer: Vec<T>,
 }
@@ -58,6 +66,12 @@ impl<T: From<u8> + PartialEq> Lent<T> {
     /// The same for the index: it has fewer entries than the file has bytes.
     pub fn for_index(file: &[u8], room: u64) -> Lent<T> {
         Lent::up_to(ENTRY_NUMBERS * file.len(), room)
+    }
+
+    /// The same for an overview of so many epochs: no more than they need and than the file can have, and some.
+    pub fn for_epochs(file: &[u8], number: usize, room: u64) -> Lent<T> {
+        let most = number.saturating_mul(EPOCH_NUMBERS);
+        Lent::up_to(most.min(NUMBERS_A_BYTE * file.len()) + BEYOND, room)
     }
 
     fn up_to(most: usize, room: u64) -> Lent<T> {
@@ -98,8 +112,18 @@ impl Lent<i64> {
 
     /// What `index` came to.
     pub fn indexed(&self, entries: Result<usize, psg::Refusal>) -> Answer {
-        self.answer(entries.map(|entries| ENTRY_NUMBERS * entries), |numbers| {
-            indexed(numbers.len() / ENTRY_NUMBERS, numbers)
+        self.counted(entries, ENTRY_NUMBERS)
+    }
+
+    /// What `overview_range` came to.
+    pub fn overviewed(&self, epochs: Result<usize, psg::Refusal>) -> Answer {
+        self.counted(epochs, EPOCH_NUMBERS)
+    }
+
+    /// What a call came to that writes so many numbers for each that it counts.
+    fn counted(&self, count: Result<usize, psg::Refusal>, each: usize) -> Answer {
+        self.answer(count.map(|count| each * count), |numbers| {
+            counted(numbers.len() / each, numbers)
         })
     }
 }

@@ -1,12 +1,13 @@
-//! The questions of a corpus put to the proved library, and its answers in the corpus' form. A call that writes is lent
-//! a buffer with marks, so that a write beyond its answer shows.
+//! The questions of a corpus put to the proved libraries, `psg` and above it `overview`, and their answers in the
+//! corpus' form. A call that writes is lent a buffer with marks, so that a write beyond its answer shows.
 
 mod lent;
 
 use lent::by_bits;
 pub use lent::{marked, Answer, Lent};
 
-use psg::{Calibration, Channel, EventKind, FloatBits, Heading, Item, Montage, Place, Text};
+use overview::Envelope;
+use psg::{Calibration, Channel, EventKind, FloatBits, Heading, Item, Montage, Place, Text, Track};
 use second::lines::joined;
 use second::refusal::Refusal;
 use std::fmt::Display;
@@ -21,6 +22,10 @@ pub fn answer(file: &[u8], op: &str, args: &[u64]) -> Option<Answer> {
             let letter = u8::try_from(letter).ok()?;
             let rewrite = |out: &mut [u8]| psg::rewrite_by_letter(file, letter, out);
             return Some(bytes(file, room, rewrite));
+        }
+        ("overview_range", &[recording, channel, first, number, room]) => {
+            let asked = [recording, channel, first, number].map(|arg| arg as usize);
+            return Some(epochs(file, asked, room));
         }
         ("run_int", args) => {
             return run(file, args, |[r, f, c, first, number], out| {
@@ -60,6 +65,13 @@ fn index(file: &[u8], room: u64) -> Answer {
     lent.indexed(entries)
 }
 
+fn epochs(file: &[u8], [recording, channel, first, number]: [usize; 4], room: u64) -> Answer {
+    let mut lent = Lent::for_epochs(file, number, room);
+    let out = &mut lent.buffer;
+    let count = overview::overview_range(file, recording, channel, first, number, out);
+    lent.overviewed(count)
+}
+
 fn bytes(
     file: &[u8],
     room: u64,
@@ -97,6 +109,8 @@ fn question(file: &[u8], op: &str, args: &[u64]) -> Option<Result<String, psg::R
         ("event_item", &[r, i]) => psg::event_item(file, r, i).map(item),
         ("clock", &[r, f]) => psg::clock(file, r, f).map(|c| joined(&[c.hour, c.minute, c.second])),
         ("place", &[r, f, c]) => psg::place(file, r, f, c).map(place),
+        ("track", &[r, c]) => psg::track(file, r, c).map(track),
+        ("overview", &[r, c, e]) => overview::overview(file, r, c, e).map(envelope),
         ("sample", &[r, f, c, s]) => psg::sample(file, r, f, c, s).map(sample),
         ("event_kind", &[code]) => psg::event_kind(code as u64).map(|k| kind(k).to_string()),
         _ => return None,
@@ -124,6 +138,21 @@ fn item(item: Item) -> String {
 
 fn place(place: Place) -> String {
     joined(&[place.position, place.width, place.count])
+}
+
+/// The order as its letter.
+fn track(track: Track) -> String {
+    let order: usize = track.order.letter().into();
+    let before = joined(&[order, track.format as usize]);
+    let behind = joined(&[track.step, track.frames as usize, track.seconds as usize]);
+    format!("{before} {} {behind}", place(track.first))
+}
+
+fn envelope(samples: Option<Envelope>) -> String {
+    match samples {
+        Some(s) => format!("{} {} {}", s.smallest, s.largest, s.count),
+        None => "empty".to_string(),
+    }
 }
 
 fn sample(sample: psg::Sample) -> String {

@@ -1,4 +1,4 @@
-//! `ask FOLDER < QUESTIONS`: the proved library's answer to each question line about the files of a corpus, a line
+//! `ask FOLDER < QUESTIONS`: the proved libraries' answer to each question line about the files of a corpus, a line
 //! each, in the corpus' form. Status 1, and a line on standard error, where a call wrote into its lent buffer what its
 //! answer does not say; status 2 where a line is no question.
 //!

@@ -57,6 +57,7 @@ fn listed(file: &[u8]) -> Result<(), Failed> {
 /// The samples of the first frame and of the last, which stands beyond 2 GiB.
 fn placed(file: &[u8]) -> Result<(), Failed> {
     let frames = file::frames();
+    let track = psg::track(file, 1, 1).map_err(|refusal| refusal.to_string())?;
     for (frame, start) in [(1, frames[0]), (frames.len(), frames[frames.len() - 1])] {
         let place = psg::place(file, 1, frame, 1).map_err(|refusal| refusal.to_string())?;
         let expected = Place {
@@ -65,6 +66,7 @@ fn placed(file: &[u8]) -> Result<(), Failed> {
             count: file::SAMPLES,
         };
         same("a place", place, expected)?;
+        same("a place of the track", track.place(frame), Some(expected))?;
         let bytes = &file[expected.position..][..file::WIDTH * file::SAMPLES];
         let part = psg::part(file, place);
         same("a part", part.as_ptr_range(), bytes.as_ptr_range())?;

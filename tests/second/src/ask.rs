@@ -2,15 +2,16 @@
 
 use crate::index::{event_kind, index};
 use crate::judge::judge;
-use crate::lines::{answer_line, indexed, joined, listed, written, Desk, Question};
+use crate::lines::{answer_line, counted, joined, listed, written, Desk, Question};
 use crate::model::{Calibration, Item, Model, Sample, Span, Sub};
-use crate::overview::{overview, overview_range, Envelope, Epochs};
+use crate::overview::{overview, overview_range, Envelope, Epochs, EPOCH_NUMBERS};
 use crate::place::{place, Place};
 use crate::questions;
 use crate::refusal::Refusal;
 use crate::rewrite::{rewrite, rewrite_room};
 use crate::run::{run_float, run_int, Run};
 use crate::table::table;
+use crate::track::track;
 use crate::turn::turn;
 
 /// The answer line to a question line, or why the line is no question.
@@ -36,6 +37,7 @@ pub fn answer(file: &[u8], op: &str, args: &[u64]) -> Option<Result<String, Refu
         ("event_item", &[r, i]) => questions::event_item(file, r, i).map(|i| item_values(&i)),
         ("clock", &[r, f]) => questions::clock(file, r, f).map(|clock| joined(&clock)),
         ("place", &[r, f, c]) => place(file, r, f, c).map(place_values),
+        ("track", &[r, c]) => track(file, r, c).map(|track| joined(&track.numbers())),
         ("sample", &[r, f, c, s]) => questions::sample(file, r, f, c, s).map(sample_values),
         ("run_int", &[ref run @ .., room]) => {
             run_int(file, run_of(run)?, room).map(|samples| joined(&samples))
@@ -44,7 +46,7 @@ pub fn answer(file: &[u8], op: &str, args: &[u64]) -> Option<Result<String, Refu
             run_float(file, run_of(run)?, room).map(|samples| joined(&samples))
         }
         ("index", &[room]) => {
-            index(file, room).map(|entries| indexed(entries.len(), &entries.concat()))
+            index(file, room).map(|entries| counted(entries.len(), &entries.concat()))
         }
         ("event_kind", &[code]) => event_kind(code).map(str::to_string),
         ("overview", &[r, c, epoch]) => overview(file, r, c, epoch).map(overview_values),
@@ -55,7 +57,8 @@ pub fn answer(file: &[u8], op: &str, args: &[u64]) -> Option<Result<String, Refu
                 first,
                 number,
             };
-            overview_range(file, epochs, room).map(|numbers| joined(&numbers))
+            overview_range(file, epochs, room)
+                .map(|numbers| counted(numbers.len() / EPOCH_NUMBERS, &numbers))
         }
         ("rewrite", &[order, room]) => rewrite(file, order, room).map(|out| written(&out)),
         ("rewrite_room", &[]) => rewrite_room(file).map(|n| n.to_string()),

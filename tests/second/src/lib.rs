@@ -23,6 +23,7 @@ pub mod refusal;
 pub mod rewrite;
 pub mod run;
 pub mod table;
+pub mod track;
 pub mod turn;
 
 /// Positions and lengths are `usize`; a recording may exceed 32 bits.

@@ -74,8 +74,8 @@ pub fn written(bytes: &[u8]) -> String {
     format!("{} {:016x}", bytes.len(), fnv1a(bytes))
 }
 
-/// The values for the numbers of the index, of so many entries.
-pub fn indexed(entries: usize, numbers: &[i64]) -> String {
+/// The values for numbers that a call wrote, of so many entries or epochs.
+pub fn counted(entries: usize, numbers: &[i64]) -> String {
     joined(&[&[entries as i64], numbers].concat())
 }
 

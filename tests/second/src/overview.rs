@@ -72,6 +72,16 @@ pub fn overview_range(file: &[u8], epochs: Epochs, room: u64) -> Result<Vec<i64>
     Ok(numbers.collect())
 }
 
+/// The seconds of all frames of a recording.
+pub fn end_of(block: &FrameBlock) -> u64 {
+    block.frames.len() as u64 * block.seconds as u64
+}
+
+/// How many epochs start before its end.
+pub fn epochs_of(block: &FrameBlock) -> u64 {
+    end_of(block).div_ceil(EPOCH_SECONDS)
+}
+
 /// The second at which an epoch starts.
 fn start(epoch: u128) -> u128 {
     u128::from(EPOCH_SECONDS) * epoch
@@ -109,9 +119,8 @@ impl<'a> Whole<'a> {
         self.block.seconds as u128
     }
 
-    /// The seconds of all frames.
     fn end(&self) -> u128 {
-        self.block.frames.len() as u128 * self.seconds()
+        end_of(self.block).into()
     }
 
     fn envelope(&self, epoch: u128) -> Option<Envelope> {

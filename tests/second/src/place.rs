@@ -2,7 +2,7 @@
 //! document 02).
 
 use crate::judge::judge;
-use crate::model::Span;
+use crate::model::{Frame, Slot, Span};
 use crate::questions::samples_of;
 use crate::refusal::Refusal;
 
@@ -17,11 +17,15 @@ pub struct Place {
 pub fn place(file: &[u8], recording: u64, frame: u64, channel: u64) -> Result<Place, Refusal> {
     let model = judge(file)?;
     let (frame, slot) = samples_of(&model, recording, frame, channel)?;
-    Ok(Place {
+    Ok(place_in(frame, slot))
+}
+
+pub fn place_in(frame: &Frame, slot: &Slot) -> Place {
+    Place {
         position: frame.samples(slot).at as u64,
         width: slot.format.width() as u64,
         count: slot.count,
-    })
+    }
 }
 
 /// What is cut by a place from a file of so many bytes, be it another than was asked: the place's bytes if all of them

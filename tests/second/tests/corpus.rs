@@ -75,9 +75,23 @@ fn every_question_is_answered_and_refused() {
             (_, value) => {
                 let file = fs::read(folder.join(file)).unwrap();
                 found.insert(format!("{op} ok"));
-                if let ("place", Some(width), Some(count)) = (op, words.next(), words.next()) {
-                    let samples = if count == "0" { "no" } else { "some" };
-                    found.insert(format!("place of {samples} samples, {width} bytes each"));
+                match (op, value, words.next(), words.next()) {
+                    ("place", _, Some(width), Some(count)) => {
+                        let samples = if count == "0" { "no" } else { "some" };
+                        found.insert(format!("place of {samples} samples, {width} bytes each"));
+                    }
+                    ("track", Some(letter), Some(format), _) => {
+                        found.insert(format!("track of format {format}, order {letter}"));
+                    }
+                    ("overview", Some(_), Some(_), Some(count)) => {
+                        let samples = if count == "1" {
+                            "one sample"
+                        } else {
+                            "samples"
+                        };
+                        found.insert(format!("overview of {samples}"));
+                    }
+                    _ => {}
                 }
                 let values = value.map_or("empty", |_| "with values");
                 found.insert(format!("{op} ok {values}"));
@@ -87,8 +101,8 @@ fn every_question_is_answered_and_refused() {
             }
         }
     }
-    let ops = "table header facts channel montage_count patient_item event_item clock place sample run_int run_float \
-        index event_kind rewrite rewrite_room turn";
+    let ops = "table header facts channel montage_count patient_item event_item clock place track sample run_int \
+        run_float index event_kind overview overview_range rewrite rewrite_room turn";
     for op in ops.split(' ') {
         assert!(found.contains(&format!("{op} refused")), "{op} refused");
         let spellings = Spelling::ALL.map(|spelling| format!("{op} ok {:?}", Some(spelling)));
@@ -103,6 +117,19 @@ fn every_question_is_answered_and_refused() {
             let shown = format!("place of {samples} samples, {width} bytes each");
             assert!(found.contains(&shown), "{shown}");
         }
+    }
+    for format in 1..=4 {
+        for letter in [Order::Little, Order::Big].map(Order::letter) {
+            let shown = format!("track of format {format}, order {letter}");
+            assert!(found.contains(&shown), "{shown}");
+        }
+    }
+    let overviews =
+        "overview ok empty, overview of one sample, overview of samples, overview refused 19, \
+        overview_range ok 0, overview_range ok 1, overview_range ok 2, overview_range refused 17, \
+        overview_range refused 19";
+    for shown in overviews.split(", ") {
+        assert!(found.contains(shown), "{shown}");
     }
     for op in ["run_int", "run_float"] {
         for shown in "ok empty, ok with values, refused 17, refused 19".split(", ") {
@@ -150,7 +177,12 @@ fn every_refusal_and_every_form_is_there() {
         events in two channels, events of Signed24, events of Signed32, events of Float32, 16 bits without events, \
         a channel of events without one, event user, event 4096, event 65535, event reserved, event lights_out, \
         an event at once, an event that goes on into the next frame, an event again behind 0, \
-        an event again behind another, an event that stays, an event that the recording before ended with";
+        an event again behind another, an event that stays, an event that the recording before ended with, \
+        epochs of Signed16, epochs of Signed24, epochs of Signed32, epochs of Channels, epochs of Electrodes, \
+        several frames in an epoch, epochs of whole frames, a frame that goes on into the next epoch, \
+        an empty epoch before another, an empty epoch behind the start of a short frame, \
+        an empty epoch behind the start of a long frame, an end where an epoch would start, an end within an epoch, \
+        empty epochs without samples, floats without samples";
     wanted.extend(named.split(", ").map(str::to_string));
     wanted.retain(|form| !shown.contains(form));
     assert_eq!(wanted, Vec::<String>::new());

@@ -21,7 +21,7 @@ start x = x .before .before .before .before
 
 -- the samples found
 known : (x : tie.After-ran) →
-    SamplesFoundAs (now (start x .args .file)) (start x .args .recording) (start x .args .frame) (start x .args .channel) (SamplesFound.At (x .ran .given .0 .0) (x .ran .given .0 .1 .0))
+    SamplesFoundAs (now (start x .args .file)) (start x .args .recording) (start x .args .frame) (start x .args .channel) (SamplesFound.At (x .ran .given .0 .0) (x .ran .given .0 .1 .0) (x .ran .given .0 .1 .1 .0))
 known x = rw (x .ran .given .1) at (x .before .before .samples-asked .ensures)
 
 returns : tie.Need-returns
@@ -39,7 +39,7 @@ returns-2 c =
 placed : (c : tie.After-struct-known2) →
     let x = back c in
     let z = start x in
-    let p = x .ran .given .0 .1 .0 .place in
+    let p = x .ran .given .0 .1 .1 .0 .place in
     p .position + p .width * z .args .sample + p .width ≤ length (now (z .args .file))
 placed c = let y = known (back c) in among (y .1) _ (c .before .if1 .left)
 

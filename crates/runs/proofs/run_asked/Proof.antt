@@ -23,16 +23,16 @@ back c = c .before .before .before
 
 -- the samples found
 known : (x : tie.After-found) →
-    SamplesFoundAs (now (start x .args .file)) (start x .args .recording) (start x .args .frame) (start x .args .channel) (SamplesFound.At (x .found .given .0 .0) (x .found .given .0 .1 .0))
+    SamplesFoundAs (now (start x .args .file)) (start x .args .recording) (start x .args .frame) (start x .args .channel) (SamplesFound.At (x .found .given .0 .0) (x .found .given .0 .1 .0) (x .found .given .0 .1 .1 .0))
 known x = rw (x .found .given .1) at (x .before .before .samples-asked .ensures)
 
 -- the two tests passed
-served : (c : tie.Else1) → serves (start (back c) .args .b) (back c .found .given .0 .1 .0 .format) ≡ true
+served : (c : tie.Else1) → serves (start (back c) .args .b) (back c .found .given .0 .1 .1 .0 .format) ≡ true
 served c = sym (c .before .format-served .ensures) ∙ not-false (c .before .format-served .result) (c .if1 .left)
 
 inside : (c : tie.Else2) →
     let x = back (c .before .before .before) in
-    leb (start x .args .first + start x .args .number) (x .found .given .0 .1 .0 .place .count) ≡ true
+    leb (start x .args .first + start x .args .number) (x .found .given .0 .1 .1 .0 .place .count) ≡ true
 inside c = sym (c .before .fits2 .ensures) ∙ not-false (c .before .fits2 .result) (c .if2 .left)
 
 returns : tie.Need-returns

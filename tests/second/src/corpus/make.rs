@@ -8,6 +8,8 @@ use crate::generate::{self, questions, Question, PLAIN};
 use crate::judge::judge;
 use crate::lines::answer_line;
 use crate::listing::{self, listing};
+use crate::model::{FrameBlock, Slot};
+use crate::overview::epochs_of;
 use crate::random::Random;
 use crate::refusal;
 use std::collections::{BTreeMap, BTreeSet};
@@ -112,6 +114,7 @@ fn writing(file: &[u8]) -> Vec<Question> {
         rewrite(NO_ORDER),
         ("run_int", whole_run(file, false)),
         ("run_float", whole_run(file, true)),
+        ("overview_range", whole_overview(file)),
     ];
     let mut all = Vec::new();
     for (op, before) in calls {
@@ -134,10 +137,26 @@ fn writing(file: &[u8]) -> Vec<Question> {
 /// is asked for one.
 fn whole_run(file: &[u8], floats: bool) -> Vec<u64> {
     let found = judge(file).ok().and_then(|model| {
-        let mut slots = (1..).zip(&model.recordings[0].block.slots);
-        let (channel, slot) = slots.find(|(_, slot)| slot.format.is_float() == floats)?;
+        let (channel, slot) = first_of(&model.recordings[0].block, floats)?;
         Some((channel, slot.count))
     });
     let (channel, count) = found.unwrap_or((1, 1));
     vec![1, 1, channel, 0, count]
+}
+
+/// All epochs of the first channel of whole numbers in the last recording. Where there is none, channel 1 is asked for
+/// one.
+fn whole_overview(file: &[u8]) -> Vec<u64> {
+    let found = judge(file).ok().and_then(|model| {
+        let block = &model.recordings.last()?.block;
+        let (channel, _) = first_of(block, false)?;
+        Some([model.recordings.len() as u64, channel, 0, epochs_of(block)])
+    });
+    found.unwrap_or([1, 1, 0, 1]).to_vec()
+}
+
+/// The first channel of whole numbers, or of floats, with its number.
+fn first_of(block: &FrameBlock, floats: bool) -> Option<(u64, &Slot)> {
+    let mut slots = (1..).zip(&block.slots);
+    slots.find(|(_, slot)| slot.format.is_float() == floats)
 }

@@ -1,5 +1,6 @@
 //! The comparison with a corpus: every NAME.out, and every question line. `make` makes one.
 
+mod epochs;
 mod events;
 pub mod make;
 pub mod shown;

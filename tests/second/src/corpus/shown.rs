@@ -1,7 +1,7 @@
-//! What a file of a corpus shows, in words: its verdict with the place, or the records, rates, paddings and events that
-//! it has.
+//! What a file of a corpus shows, in words: its verdict with the place, or the records, rates, paddings, events and
+//! epochs that it has.
 
-use super::events;
+use super::{epochs, events};
 use crate::bytes::Order;
 use crate::generate::{NO_FORMS, NO_IDENTIFIERS};
 use crate::header::{self, Form, Version, RECORDINGS_AT};
@@ -45,6 +45,7 @@ fn forms(file: &[u8], model: &Model) -> BTreeSet<String> {
         shown.extend(recording.montage.iter().flat_map(wired));
     }
     shown.extend(events::shown(file, model));
+    shown.extend(epochs::shown(file, model));
     shown
 }
 

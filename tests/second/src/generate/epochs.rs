@@ -1,10 +1,8 @@
-//! Questions drawn for the overview of a file. They stand apart from the others: those are asked of the library too,
-//! which does not answer these yet.
+//! Questions drawn for the overview of a file, of one of its recordings most of all.
 
 use super::questions::{about, all_inside, any, inside, run_channel, Question, Range};
-use crate::judge::judge;
-use crate::model::{FrameBlock, Model};
-use crate::overview::{EPOCH_NUMBERS, EPOCH_SECONDS};
+use crate::model::Model;
+use crate::overview::{end_of, epochs_of, EPOCH_NUMBERS, EPOCH_SECONDS};
 use crate::random::Random;
 
 const SINGLE: &str = "overview";
@@ -20,25 +18,19 @@ const FAR: [u64; 3] = [
     u64::MAX / EPOCH_SECONDS + 1,
 ];
 
-/// What is asked about the epochs of a file, of one of its recordings most of all.
-pub fn epoch_questions(file: &[u8], random: &mut Random) -> Vec<Question> {
-    match judge(file) {
-        // No argument matters.
-        Err(_) => [(SINGLE, 3), (RANGE, 5)]
-            .map(|(op, count)| {
-                let args = (0..count).map(|_| any(random)).collect();
-                Question { op, args }
-            })
-            .to_vec(),
-        Ok(model) => of_accepted(&model, random),
-    }
+/// What is asked of a refused file, where no argument matters.
+pub fn of_refused(random: &mut Random) -> [Question; 2] {
+    [(SINGLE, 3), (RANGE, 5)].map(|(op, count)| {
+        let args = (0..count).map(|_| any(random)).collect();
+        Question { op, args }
+    })
 }
 
-fn of_accepted(model: &Model, random: &mut Random) -> Vec<Question> {
+pub fn of_accepted(model: &Model, random: &mut Random) -> Vec<Question> {
     let count = model.recordings.len() as u64;
     let which = inside(random, (0, count));
     let block = &model.recordings[which as usize].block;
-    let (epochs, last) = epochs_of(block);
+    let epochs = epochs_of(block);
     let channel = run_channel(&block.slots, false, random) as u64;
     let channels = block.slots.len() as u64;
     let place = [(which + 1, 1), (channel + 1, 1)];
@@ -56,17 +48,12 @@ fn of_accepted(model: &Model, random: &mut Random) -> Vec<Question> {
     let rest = [(0, epochs + 1), (0, epochs + 1), (0, numbers + 1)];
     let range = asked(place, &rest);
     about(RANGE, &range, random, &mut drawn);
+    // The last one that starts before the end, or there.
+    let last = end_of(block) / EPOCH_SECONDS;
     for from_first in together(epochs, last, random) {
         drawn.push(asked_with(RANGE, &range, &from_first, random));
     }
     drawn
-}
-
-/// How many epochs start before the recording's end, and the last one that starts before it or there.
-fn epochs_of(block: &FrameBlock) -> (u64, u64) {
-    let seconds = block.frames.len() as u64 * block.seconds as u64;
-    let epochs = seconds.div_ceil(EPOCH_SECONDS);
-    (epochs, seconds / EPOCH_SECONDS)
 }
 
 /// The question with these arguments from the first epoch on.

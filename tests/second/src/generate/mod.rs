@@ -10,7 +10,6 @@ mod questions;
 mod sheet;
 
 pub use damage::{NO_FORMS, NO_IDENTIFIERS};
-pub use epochs::epoch_questions;
 pub use questions::{questions, Question, PLAIN};
 pub use sheet::{Field, Sheet};
 

@@ -1,5 +1,6 @@
 //! Questions drawn for a file: each argument at the bounds of its range and far outside, the others inside it.
 
+use super::epochs;
 use crate::index::PUBLISHED;
 use crate::judge::judge;
 use crate::model::{Recording, Slot};
@@ -67,6 +68,7 @@ pub fn questions(file: &[u8], random: &mut Random) -> Vec<Question> {
                 drawn.push(Question { op, args });
             }
             drawn.push(published(random));
+            drawn.extend(epochs::of_refused(random));
         }
         Ok(model) => {
             let count = model.recordings.len() as u64;
@@ -84,6 +86,7 @@ pub fn questions(file: &[u8], random: &mut Random) -> Vec<Question> {
             }
             about(KIND, &vec![CODES], random, &mut drawn);
             drawn.extend((0..AFRESH).map(|_| published(random)));
+            drawn.extend(epochs::of_accepted(&model, random));
         }
     }
     drawn
@@ -113,6 +116,7 @@ fn ranges(
         ("sample", vec![recordings, frames, sampled, samples]),
         ("montage_count", vec![recordings]),
         ("montage", vec![recordings, many(|r| r.montage.len())]),
+        ("track", vec![recordings, channels]),
     ]
 }
 

@@ -1,0 +1,12 @@
+pub mod Foremost
+pub mod Seconds
+pub mod Passing
+pub mod Framed
+pub mod Epochs
+pub mod Writing
+pub mod Frames
+pub mod Read
+pub mod Told
+pub mod Unique
+pub mod Least
+pub mod Promises

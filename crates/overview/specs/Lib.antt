@@ -1,0 +1,4 @@
+pub mod Overview
+pub mod Steps
+pub mod Flat
+pub mod Promises
