@@ -11,6 +11,7 @@ use crate::refusal::Refusal;
 use crate::rewrite::{rewrite, rewrite_room};
 use crate::run::{run_float, run_int, Run};
 use crate::table::table;
+use crate::teach::teach;
 use crate::track::track;
 use crate::turn::turn;
 
@@ -62,6 +63,7 @@ pub fn answer(file: &[u8], op: &str, args: &[u64]) -> Option<Result<String, Refu
         }
         ("rewrite", &[order, room]) => rewrite(file, order, room).map(|out| written(&out)),
         ("rewrite_room", &[]) => rewrite_room(file).map(|n| n.to_string()),
+        ("teach", &[room]) => teach(file, room).map(|out| written(&out)),
         ("turn", &[room]) => turn(file, room).map(|out| written(&out)),
         _ => return None,
     })

@@ -1,6 +1,6 @@
 //! A second, independent reader of the JSSR PSG common format, versions 000100, 000110,
 //! 000200 and 000300 (both forms, frame data, one file), written from document 01 and
-//! requests 1, 2, 3, 4, 6, 7, 8, 12 and 14 of document 02, and used to test another implementation.
+//! requests 1, 2, 3, 4, 6, 7, 8, 9, 12 and 14 of document 02, and used to test another implementation.
 
 pub mod ask;
 pub mod bytes;
@@ -23,6 +23,7 @@ pub mod refusal;
 pub mod rewrite;
 pub mod run;
 pub mod table;
+pub mod teach;
 pub mod track;
 pub mod turn;
 

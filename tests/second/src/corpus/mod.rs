@@ -15,7 +15,7 @@ use std::path::{Path, PathBuf};
 /// The names of a corpus' question lines. Those of single requests may stand apart: of
 /// request 3, `header`, of request 1, `montage_count` and `montage`, of request 4,
 /// `run_int` and `run_float`, of request 7, `index` and `event_kind`, of request 8, `place`,
-/// and of request 14, `overview`.
+/// of request 14, `overview`, and of request 9, `teach`.
 const QUESTIONS: &[&str] = &[
     "questions",
     "questions-3",
@@ -24,6 +24,7 @@ const QUESTIONS: &[&str] = &[
     "questions-7",
     "questions-8",
     "questions-14",
+    "questions-9",
 ];
 
 #[derive(Clone, Debug, Default, PartialEq, Eq)]
