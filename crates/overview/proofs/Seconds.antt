@@ -12,9 +12,9 @@ use Rattle.samples.specs.declared.Track.{Track}
 use Rattle.overview.specs.Overview.{within}
 use Rattle.overview.specs.Steps.{startedBy}
 
--- F times T, of two numbers of 32 bits
-pub product-low : (a b : ℕ) → a < 2 ^ 32 → b < 2 ^ 32 → a * b ≤ 18446744065119617025
-product-low a b h l = let k : b ≤ 4294967295 = omega arith in omega (arith, mul-le-mul-left a k)
+-- F times T, the seconds of all frames: the product of two numbers of 32 bits
+pub seconds-low : (t : Track) → t .frames < 2 ^ 32 → t .seconds < 2 ^ 32 → t .frames * t .seconds ≤ 18446744065119617025
+seconds-low t f s = let k : t .seconds ≤ 4294967295 = omega (arith, s) in omega (arith, f, mul-le-mul-left (t .frames) k)
 
 thirty : 0 < 30
 thirty = omega arith

@@ -6,27 +6,20 @@ use native.Mathlib.Nat.{zero-mul, mul-zero}
 use native.Mathlib.Omega.{arith}
 use borrow.Author.Needs.{needs}
 use mir.Facts.{toZ-ofZ, sfits-widen}
-use mir.Syntax.{w32, w64}
+use mir.Syntax.{w32}
 use mir.Val.{SFits}
 use Rattle.overview.specs.Steps.{startedBy}
 use Rattle.overview.proofs.Epochs.{count-low, epoch-none, epoch-some}
 use Rattle.overview.proofs.Foremost.{recast}
-use Rattle.overview.proofs.Seconds.{product-low, started-few}
+use Rattle.overview.proofs.Seconds.{seconds-low, started-few}
 use Rattle.overview.proofs.epoch_of.Statement.{statement}
 use Rattle.overview.proofs.epoch_of.Tie as tie
 
--- the seconds of all frames are few
-low : (z : tie.Start) → z .args .t .frames * z .args .t .seconds ≤ 18446744065119617025
-low z =
-    let f : z .args .t .frames < 2 ^ 32 = search needs in
-    let s : z .args .t .seconds < 2 ^ 32 = search needs in
-    product-low (z .args .t .frames) (z .args .t .seconds) f s
-
 mul-second : tie.Need-mul-second
-mul-second c = record { fits = omega (arith, low (c .before), c .before .pre .there) }
+mul-second c = record { fits = omega (arith, seconds-low (c .before .args .t) (search needs) (search needs), c .before .pre .there) }
 
 add-started-by : tie.Need-add-started-by
-add-started-by c = record { fits = omega (arith, low (c .before .before), c .before .before .pre .there) }
+add-started-by c = record { fits = omega (arith, seconds-low (c .before .before .args .t) (search needs) (search needs), c .before .before .pre .there) }
 
 returns : tie.Need-returns
 returns c =

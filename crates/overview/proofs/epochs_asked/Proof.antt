@@ -2,7 +2,7 @@
 -- Assumes nothing.
 use mathlib.Core.Path.{_≡_, sym, _∙_}
 use mathlib.Core.Bool.{true}
-use Prim.Native.Nat.{_*_, _^_, _≤_, _<_}
+use Prim.Native.Nat.{_^_, _<_}
 use native.Mathlib.Omega.{arith}
 use borrow.Author.Needs.{needs}
 use borrow.Author.Tests.{not-true, not-false}
@@ -11,7 +11,7 @@ use Rattle.words.specs.Numbers.{Bytes}
 use Rattle.rules.specs.Rules as R
 use Rattle.questions.specs.Contracts.{TrackAnswer}
 use Rattle.samples.specs.declared.TrackTold.the-variants as TrackTold
-use Rattle.overview.proofs.Seconds.{product-low}
+use Rattle.overview.proofs.Seconds.{seconds-low}
 use Rattle.overview.proofs.Told.{bytes, range-refused, range-unserved, range-outside}
 use Rattle.overview.proofs.epochs_asked.Statement.{statement}
 use Rattle.overview.proofs.epochs_asked.Tie as tie
@@ -65,7 +65,7 @@ returns-4 c =
       answer = known x;
       whole = whole e;
       inside = sym (c .before .is-inside .ensures) ∙ not-false (c .before .is-inside .result) (c .if2 .left);
-      low = product-low (t .frames) (t .seconds) f s;
+      low = seconds-low t f s;
     }
 
 pub epochs-asked-spec : {M : Type 1} → statement M

@@ -1,10 +1,9 @@
 -- `overview::put_all` meets its contract, by the laws of a loop that writes epochs.
 -- Assumes nothing.
-use mathlib.Core.Path.{_≡_}
-use Prim.Native.Nat.{_-_, _*_, _^_, _≤_, _<_}
+use Prim.Native.Nat.{_-_}
 use native.Mathlib.Omega.{arith}
 use borrow.Author.Needs.{needs}
-use Rattle.overview.proofs.Seconds.{product-low}
+use Rattle.overview.proofs.Seconds.{seconds-low}
 use Rattle.overview.proofs.Writing.{Writing, writing-none, writing-long, writing-room, writing-more, writing-all}
 use Rattle.overview.proofs.put_all.Statement.{statement}
 use Rattle.overview.proofs.put_all.Tie as tie
@@ -15,15 +14,10 @@ Inv-loop file t first number out₀ q₀ at₀ out q at = Writing file t first n
 abbrev μ-loop : tie.MeasureT-loop
 μ-loop file t first number out₀ q₀ at₀ out q at = number - q
 
--- the seconds of all frames are few
-low : (z : tie.Start Inv-loop μ-loop) → z .args .t .frames * z .args .t .seconds ≤ 18446744065119617025
-low z =
-    let f : z .args .t .frames < 2 ^ 32 = search needs in
-    let s : z .args .t .seconds < 2 ^ 32 = search needs in
-    product-low (z .args .t .frames) (z .args .t .seconds) f s
-
 add-epoch-of : tie.Need-add-epoch-of Inv-loop μ-loop
-add-epoch-of c = let z = c .before .before .before in record { fits = omega (arith, low z, z .pre .there _ (c .loop-test .taken)) }
+add-epoch-of c =
+    let z = c .before .before .before in
+    record { fits = omega (arith, seconds-low (z .args .t) (search needs) (search needs), z .pre .there _ (c .loop-test .taken)) }
 
 epoch-of-requires : tie.Need-epoch-of-requires Inv-loop μ-loop
 epoch-of-requires c κs = let p = c .before .before .before .pre in record { tracked = p .tracked; there = p .there _ (c .loop-test .taken) }

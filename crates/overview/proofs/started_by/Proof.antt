@@ -1,19 +1,14 @@
 -- `overview::started_by` meets its contract, by its two tests.
 -- Assumes nothing.
 use mathlib.Core.Path.{refl}
-use Prim.Native.Nat.{_^_, _<_}
 use native.Mathlib.Omega.{arith}
 use borrow.Author.Needs.{needs}
-use Rattle.overview.proofs.Seconds.{product-low, started-all, started-some}
+use Rattle.overview.proofs.Seconds.{seconds-low, started-all, started-some}
 use Rattle.overview.proofs.started_by.Statement.{statement}
 use Rattle.overview.proofs.started_by.Tie as tie
 
 add-n : tie.Need-add-n
-add-n c =
-    let t = c .before .args .t in
-    let f : t .frames < 2 ^ 32 = search needs in
-    let s : t .seconds < 2 ^ 32 = search needs in
-    record { fits = omega (arith, product-low (t .frames) (t .seconds) f s, c .before .pre .low) }
+add-n c = record { fits = omega (arith, seconds-low (c .before .args .t) (search needs) (search needs), c .before .pre .low) }
 
 returns : tie.Need-returns
 returns c = started-all _ _ _ refl (c .if1 .taken)
