@@ -94,3 +94,7 @@ tested h k e = rw (toZ-ofZ h, toZ-ofZ k) at e
 -- a number of 32 bits is the same in 64
 pub recast : {z : ℤ} → SFits w32 z → toZ w64 (ofZ w64 (toZ w32 (ofZ w32 z))) ≡ z
 recast h = ap (λ (x : ℤ). toZ w64 (ofZ w64 x)) (toZ-ofZ h) ∙ toZ-ofZ (sfits-widen tt h)
+
+-- it fits where it stands
+pub refits : (w : Width) (z : ℤ) → SFits w z → SFits w (toZ w (ofZ w z))
+refits w z h = rw (toZ-ofZ h) h

@@ -56,6 +56,14 @@ bothOf x y = record { smallest = lower (x .smallest) (y .smallest); largest = hi
 abbrev pub ExtremesAre : Order → ℕ → List ℕ → Extremes → Type 0
 ExtremesAre o w s r = (n : ℕ) → length s ≡ w * suc n → r ≡ extremesOf (wholesAt o w (suc n) s 0)
 
+-- t is as many as s, and r is that of both
+pub record PairOf (w : ℕ) (s t : List ℕ) : Type 0 where
+  pub numbers : NumbersOf w s
+  pub alike : length t ≡ length s
+
+abbrev pub PairAre : Order → ℕ → (s t : List ℕ) → Extremes → Type 0
+PairAre o w s t r = (n : ℕ) → length s ≡ w * suc n → r ≡ bothOf (extremesOf (wholesAt o w (suc n) s 0)) (extremesOf (wholesAt o w (suc n) t 0))
+
 -- Numbers in frames: of the frame behind n others, and of m frames from there on
 
 abbrev pub frameNumbers : List ℕ → Track → ℕ → List ℤ

@@ -14,6 +14,7 @@ ghost use Rattle.overview.specs.Steps.{startedBy, Second, EpochThere, Ep
 ghost use Rattle.overview.specs.Flat.{flatOverview, flatCounted, OverviewAnswers, RangeAnswers};
 use crate::extremes::Extremes;
 use crate::extremes::of_both;
+use crate::extremes::of_pair;
 use crate::extremes::of_part;
 use rules::Refusal;
 use samples::Track;
@@ -118,17 +119,40 @@ fn of_frame(file: &[u8], t: Track, n: u64) -> Extremes
     of_part(order, place.width, &file[start..end])
 }
 
-// The samples of the frames from the one behind n others on, up to the one behind `end` others.
+// The samples of that frame and of the next.
+fn of_two_frames(file: &[u8], t: Track, n: u64) -> Extremes
+    requires { ⌜ FramesThere (length (now file)) t n (n + 2) ⌝ }
+    ensures { λ r. ⌜ r ≡ extremesOf (framesNumbers (now (file .entry)) t n 2) ⌝ }
+{
+    let place = t.first;
+    let start = place.position + t.step * n as usize;
+    let next = start + t.step;
+    let taken = place.width * place.count;
+    let order = t.order;
+    of_pair(
+        order,
+        place.width,
+        &file[start..start + taken],
+        &file[next..next + taken],
+    )
+}
+
+// The samples of the frames from the one behind n others on, up to the one behind `end` others: by two, since a short frame's samples are waited for longer
+// than they are gone through.
 fn of_frames(file: &[u8], t: Track, n: u64, end: u64) -> Extremes
     requires { ⌜ FramesThere (length (now file)) t n end ⌝ }
     ensures { λ r. ⌜ r ≡ extremesOf (framesNumbers (now (file .entry)) t n (end - n)) ⌝ }
 {
     let mut x = of_frame(file, t, n);
     let mut j = n + 1;
-    while j < end {
+    while j < end - 1 {
+        let y = of_two_frames(file, t, j);
+        x = of_both(x, y);
+        j += 2;
+    }
+    if j < end {
         let y = of_frame(file, t, j);
         x = of_both(x, y);
-        j += 1;
     }
     x
 }

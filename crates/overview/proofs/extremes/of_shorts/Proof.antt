@@ -7,9 +7,10 @@ use borrow.Author.Needs.{needs}
 use lib.ListN.{length}
 use mir.Facts.{toZ-ofZ, sfits-widen}
 use mir.Syntax.{w16, w32}
-use mir.Val.{SFits, toZ, ofZ}
+use mir.Val.{SFits, toZ}
 use Rattle.decode.specs.Wide.{orderFor}
 use Rattle.overview.specs.Overview.{lower, higher}
+use Rattle.overview.proofs.Foremost.{refits}
 use Rattle.overview.proofs.Passing.{Passing, first-room, passing-first, passing-room, passing-more, passing-all}
 use Rattle.overview.proofs.extremes.of_shorts.Statement.{statement}
 use Rattle.overview.proofs.extremes.of_shorts.Tie as tie
@@ -23,7 +24,7 @@ abbrev μ-loop : tie.MeasureT-loop
 loop-holds : tie.Need-loop-holds Inv-loop μ-loop
 loop-holds c =
     let k = toZ-ofZ {w = w16} {z = c .short-at .result} (record { sfits = c .short-at .ok }) in
-    let f : SFits w16 (toZ w16 (ofZ w16 (c .short-at .result))) = rw k (record { sfits = c .short-at .ok }) in
+    let f = refits w16 (c .short-at .result) (record { sfits = c .short-at .ok }) in
     (passing-first _ 2 _ (c .before .before .pre) _ (k ∙ c .short-at .ensures), f, f)
 
 add-at : tie.Need-add-at Inv-loop μ-loop
@@ -42,7 +43,7 @@ loop-again c =
     let b = c .higher-short in
     let e = toZ-ofZ {w = w16} (record { sfits = v .ok }) ∙ v .ensures in
     let p = passing-more _ _ _ (l .inv .0) _ _ (c .before .before .before .loop-test .taken) refl (toZ-ofZ (record { sfits = a .ok }) ∙ (a .ensures ∙ ap (lower (toZ w16 (l .smallest))) e)) (toZ-ofZ (record { sfits = b .ok }) ∙ (b .ensures ∙ ap (higher (toZ w16 (l .largest))) e)) in
-    (p, rw (toZ-ofZ (record { sfits = a .ok })) (record { sfits = a .ok }), rw (toZ-ofZ (record { sfits = b .ok })) (record { sfits = b .ok }))
+    (p, refits w16 (a .result) (record { sfits = a .ok }), refits w16 (b .result) (record { sfits = b .ok }))
 
 returns : tie.Need-returns Inv-loop μ-loop
 returns c =
