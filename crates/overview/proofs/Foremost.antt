@@ -98,3 +98,7 @@ recast h = ap (λ (x : ℤ). toZ w64 (ofZ w64 x)) (toZ-ofZ h) ∙ toZ-ofZ (sfits
 -- it fits where it stands
 pub refits : (w : Width) (z : ℤ) → SFits w z → SFits w (toZ w (ofZ w z))
 refits w z h = rw (toZ-ofZ h) h
+
+-- what a call made of x and n, kept in so many bits, where n is v
+pub kept-in : (w : Width) (f : ℤ → ℤ → ℤ) (x : ℤ) {r n v : ℤ} → SFits w r → r ≡ f x n → n ≡ v → toZ w (ofZ w r) ≡ f x v
+kept-in w f x h e d = toZ-ofZ h ∙ (e ∙ ap (f x) d)

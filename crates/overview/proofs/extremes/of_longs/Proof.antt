@@ -1,6 +1,6 @@
 -- `overview::extremes::of_longs` meets its contract, by the laws of a loop over the numbers of a part.
 -- Assumes nothing.
-use mathlib.Core.Path.{refl, ap, _∙_}
+use mathlib.Core.Path.{refl, _∙_}
 use Prim.Native.Nat.{_-_}
 use native.Mathlib.Omega.{arith}
 use borrow.Author.Needs.{needs}
@@ -10,6 +10,7 @@ use mir.Syntax.{w32}
 use mir.Val.{toZ}
 use Rattle.decode.specs.Wide.{orderFor}
 use Rattle.overview.specs.Overview.{lower, higher}
+use Rattle.overview.proofs.Foremost.{kept-in}
 use Rattle.overview.proofs.Passing.{Passing, first-room, passing-first, passing-room, passing-more, passing-all}
 use Rattle.overview.proofs.extremes.of_longs.Statement.{statement}
 use Rattle.overview.proofs.extremes.of_longs.Tie as tie
@@ -40,7 +41,7 @@ loop-again c =
     let a = c .before .lower-long in
     let b = c .higher-long in
     let e = toZ-ofZ {w = w32} (record { sfits = v .ok }) ∙ v .ensures in
-    let p = passing-more _ _ _ (l .inv) _ _ (c .before .before .before .loop-test .taken) refl (toZ-ofZ (record { sfits = a .ok }) ∙ (a .ensures ∙ ap (lower (toZ w32 (l .smallest))) e)) (toZ-ofZ (record { sfits = b .ok }) ∙ (b .ensures ∙ ap (higher (toZ w32 (l .largest))) e)) in
+    let p = passing-more _ _ _ (l .inv) _ _ (c .before .before .before .loop-test .taken) refl (kept-in w32 lower (toZ w32 (l .smallest)) (record { sfits = a .ok }) (a .ensures) e) (kept-in w32 higher (toZ w32 (l .largest)) (record { sfits = b .ok }) (b .ensures) e) in
     p
 
 returns : tie.Need-returns Inv-loop μ-loop

@@ -1,6 +1,6 @@
 -- `overview::extremes::of_shorts` meets its contract, by the laws of a loop over the numbers of a part.
 -- Assumes nothing.
-use mathlib.Core.Path.{refl, ap, _∙_}
+use mathlib.Core.Path.{refl, _∙_}
 use Prim.Native.Nat.{_-_}
 use native.Mathlib.Omega.{arith}
 use borrow.Author.Needs.{needs}
@@ -10,7 +10,7 @@ use mir.Syntax.{w16, w32}
 use mir.Val.{SFits, toZ}
 use Rattle.decode.specs.Wide.{orderFor}
 use Rattle.overview.specs.Overview.{lower, higher}
-use Rattle.overview.proofs.Foremost.{refits}
+use Rattle.overview.proofs.Foremost.{refits, kept-in}
 use Rattle.overview.proofs.Passing.{Passing, first-room, passing-first, passing-room, passing-more, passing-all}
 use Rattle.overview.proofs.extremes.of_shorts.Statement.{statement}
 use Rattle.overview.proofs.extremes.of_shorts.Tie as tie
@@ -42,7 +42,7 @@ loop-again c =
     let a = c .before .lower-short in
     let b = c .higher-short in
     let e = toZ-ofZ {w = w16} (record { sfits = v .ok }) ∙ v .ensures in
-    let p = passing-more _ _ _ (l .inv .0) _ _ (c .before .before .before .loop-test .taken) refl (toZ-ofZ (record { sfits = a .ok }) ∙ (a .ensures ∙ ap (lower (toZ w16 (l .smallest))) e)) (toZ-ofZ (record { sfits = b .ok }) ∙ (b .ensures ∙ ap (higher (toZ w16 (l .largest))) e)) in
+    let p = passing-more _ _ _ (l .inv .0) _ _ (c .before .before .before .loop-test .taken) refl (kept-in w16 lower (toZ w16 (l .smallest)) (record { sfits = a .ok }) (a .ensures) e) (kept-in w16 higher (toZ w16 (l .largest)) (record { sfits = b .ok }) (b .ensures) e) in
     (p, refits w16 (a .result) (record { sfits = a .ok }), refits w16 (b .result) (record { sfits = b .ok }))
 
 returns : tie.Need-returns Inv-loop μ-loop

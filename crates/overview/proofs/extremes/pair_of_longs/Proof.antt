@@ -1,6 +1,6 @@
 -- `overview::extremes::pair_of_longs` meets its contract, by the laws of a loop over the numbers of two parts.
 -- Assumes nothing.
-use mathlib.Core.Path.{ap, _∙_}
+use mathlib.Core.Path.{_∙_}
 use Prim.Native.Nat.{_-_}
 use native.Mathlib.Omega.{arith}
 use borrow.Author.Needs.{needs}
@@ -10,6 +10,7 @@ use mir.Syntax.{w32}
 use mir.Val.{toZ}
 use Rattle.decode.specs.Wide.{orderFor}
 use Rattle.overview.specs.Overview.{lower, higher}
+use Rattle.overview.proofs.Foremost.{kept-in}
 use Rattle.overview.proofs.Passing.{Pairing, first-room, other-numbers, pairing-first, pairing-room, pairing-more, pairing-all}
 use Rattle.overview.proofs.extremes.pair_of_longs.Statement.{statement}
 use Rattle.overview.proofs.extremes.pair_of_longs.Tie as tie
@@ -51,10 +52,10 @@ loop-again c =
     let u = toZ-ofZ {w = w32} (record { sfits = n .ok }) ∙ n .ensures in
     let v = toZ-ofZ {w = w32} (record { sfits = m .ok }) ∙ m .ensures in
     pairing-more _ _ _ _ (l .inv) _ _ (turn c .loop-test .taken)
-    (toZ-ofZ (record { sfits = a .ok }) ∙ (a .ensures ∙ ap (lower (toZ w32 (l .smallest))) u))
-    (toZ-ofZ (record { sfits = b .ok }) ∙ (b .ensures ∙ ap (higher (toZ w32 (l .largest))) u))
-    (toZ-ofZ (record { sfits = d .ok }) ∙ (d .ensures ∙ ap (lower (toZ w32 (l .lowest))) v))
-    (toZ-ofZ (record { sfits = e .ok }) ∙ (e .ensures ∙ ap (higher (toZ w32 (l .highest))) v))
+    (kept-in w32 lower (toZ w32 (l .smallest)) (record { sfits = a .ok }) (a .ensures) u)
+    (kept-in w32 higher (toZ w32 (l .largest)) (record { sfits = b .ok }) (b .ensures) u)
+    (kept-in w32 lower (toZ w32 (l .lowest)) (record { sfits = d .ok }) (d .ensures) v)
+    (kept-in w32 higher (toZ w32 (l .highest)) (record { sfits = e .ok }) (e .ensures) v)
 
 returns : tie.Need-returns Inv-loop μ-loop
 returns c = pairing-all _ _ _ _ (c .before .before .loop .inv) (omega (arith, c .before .loop-test .left)) _ (c .of-both .ensures)

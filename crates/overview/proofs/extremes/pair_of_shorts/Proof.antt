@@ -1,6 +1,6 @@
 -- `overview::extremes::pair_of_shorts` meets its contract, by the laws of a loop over the numbers of two parts.
 -- Assumes nothing.
-use mathlib.Core.Path.{_≡_, ap, _∙_}
+use mathlib.Core.Path.{_∙_}
 use Prim.Native.Nat.{ℕ, _-_}
 use native.Mathlib.Omega.{arith}
 use borrow.Author.Needs.{needs}
@@ -10,7 +10,7 @@ use mir.Syntax.{w16, w32}
 use mir.Val.{SFits, toZ, ofZ}
 use Rattle.decode.specs.Wide.{orderFor}
 use Rattle.overview.specs.Overview.{lower, higher}
-use Rattle.overview.proofs.Foremost.{refits}
+use Rattle.overview.proofs.Foremost.{refits, kept-in}
 use Rattle.overview.proofs.Passing.{Pairing, first-room, other-numbers, pairing-first, pairing-room, pairing-more, pairing-all}
 use Rattle.overview.proofs.extremes.pair_of_shorts.Statement.{statement}
 use Rattle.overview.proofs.extremes.pair_of_shorts.Tie as tie
@@ -55,10 +55,10 @@ loop-again c =
     let u = toZ-ofZ {w = w16} (record { sfits = n .ok }) ∙ n .ensures in
     let v = toZ-ofZ {w = w16} (record { sfits = m .ok }) ∙ m .ensures in (
       pairing-more _ _ _ _ (l .inv .0) _ _ (turn c .loop-test .taken)
-          (toZ-ofZ (record { sfits = a .ok }) ∙ (a .ensures ∙ ap (lower (toZ w16 (l .smallest))) u))
-          (toZ-ofZ (record { sfits = b .ok }) ∙ (b .ensures ∙ ap (higher (toZ w16 (l .largest))) u))
-          (toZ-ofZ (record { sfits = d .ok }) ∙ (d .ensures ∙ ap (lower (toZ w16 (l .lowest))) v))
-          (toZ-ofZ (record { sfits = e .ok }) ∙ (e .ensures ∙ ap (higher (toZ w16 (l .highest))) v)),
+          (kept-in w16 lower (toZ w16 (l .smallest)) (record { sfits = a .ok }) (a .ensures) u)
+          (kept-in w16 higher (toZ w16 (l .largest)) (record { sfits = b .ok }) (b .ensures) u)
+          (kept-in w16 lower (toZ w16 (l .lowest)) (record { sfits = d .ok }) (d .ensures) v)
+          (kept-in w16 higher (toZ w16 (l .highest)) (record { sfits = e .ok }) (e .ensures) v),
       refits w16 (a .result) (record { sfits = a .ok }),
       refits w16 (b .result) (record { sfits = b .ok }),
       refits w16 (d .result) (record { sfits = d .ok }),
