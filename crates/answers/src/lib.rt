@@ -1,4 +1,6 @@
 // Answers taken apart into numbers: first document 01's refusal and its position, or 0 and 0; then the values, which are 0 for a refusal.
+#![tactic(auto)]
+
 ghost use Rattle.std.specs.Prelude.{◌≡◌};
 ghost use Rattle.words.specs.Floats.{bits_of};
 ghost use Rattle.words.specs.Numbers.{letter_of};
@@ -30,7 +32,7 @@ use words::Order;
 
 // How many rows, bytes, samples or channels.
 #[repr(C)]
-#[derive(Drop)]
+#[derive(Clone, Copy)]
 pub struct Counted {
     pub refusal: u32,
     pub position: u64,
@@ -39,7 +41,7 @@ pub struct Counted {
 
 // What the file header says: the letters of the byte order and of the script, and K.
 #[repr(C)]
-#[derive(Drop)]
+#[derive(Clone, Copy)]
 pub struct Header {
     pub refusal: u32,
     pub position: u64,
@@ -50,7 +52,7 @@ pub struct Header {
 
 // All that the file header says: the spelling's number, the numbers of the version and the form, and as above.
 #[repr(C)]
-#[derive(Drop)]
+#[derive(Clone, Copy)]
 pub struct Heading {
     pub refusal: u32,
     pub position: u64,
@@ -64,7 +66,7 @@ pub struct Heading {
 
 // M, F and T.
 #[repr(C)]
-#[derive(Drop)]
+#[derive(Clone, Copy)]
 pub struct Facts {
     pub refusal: u32,
     pub position: u64,
@@ -75,7 +77,7 @@ pub struct Facts {
 
 // A descriptor. The four calibration numbers are 32 bits each: a float's, or a whole number's two's complement. A text is its first byte and its length.
 #[repr(C)]
-#[derive(Drop)]
+#[derive(Clone, Copy)]
 pub struct Channel {
     pub refusal: u32,
     pub position: u64,
@@ -103,7 +105,7 @@ pub struct Channel {
 
 // A montage's channel: its descriptor, with the refusal, and its two inputs.
 #[repr(C)]
-#[derive(Drop)]
+#[derive(Clone, Copy)]
 pub struct Montage {
     pub channel: Channel,
     pub g1: i32,
@@ -111,7 +113,7 @@ pub struct Montage {
 }
 
 #[repr(C)]
-#[derive(Drop)]
+#[derive(Clone, Copy)]
 pub struct Item {
     pub refusal: u32,
     pub position: u64,
@@ -121,7 +123,7 @@ pub struct Item {
 }
 
 #[repr(C)]
-#[derive(Drop)]
+#[derive(Clone, Copy)]
 pub struct Clock {
     pub refusal: u32,
     pub position: u64,
@@ -132,7 +134,7 @@ pub struct Clock {
 
 // A whole number, or a float's 32 bits; the other is 0.
 #[repr(C)]
-#[derive(Drop)]
+#[derive(Clone, Copy)]
 pub struct Sample {
     pub refusal: u32,
     pub position: u64,
@@ -143,7 +145,7 @@ pub struct Sample {
 
 // What an event's code stands for: the number of its kind, in the order of `codes::EventKind` from 0.
 #[repr(C)]
-#[derive(Drop)]
+#[derive(Clone, Copy)]
 pub struct Kind {
     pub refusal: u32,
     pub position: u64,
@@ -152,7 +154,7 @@ pub struct Kind {
 
 // Where samples stand: the first byte, the bytes of one, and how many there are.
 #[repr(C)]
-#[derive(Drop)]
+#[derive(Clone, Copy)]
 pub struct Place {
     pub refusal: u32,
     pub position: u64,
@@ -164,7 +166,7 @@ pub struct Place {
 // Where a channel's samples stand in every frame of a recording: the letter of the byte order and the channel's format, the place in the first frame, the
 // bytes from there to the same place in the next one, F and T.
 #[repr(C)]
-#[derive(Drop)]
+#[derive(Clone, Copy)]
 pub struct Track {
     pub refusal: u32,
     pub position: u64,
@@ -180,14 +182,14 @@ pub struct Track {
 
 // A part of a file: its first byte and its length. It is never refused.
 #[repr(C)]
-#[derive(Drop)]
+#[derive(Clone, Copy)]
 pub struct Part {
     pub start: u64,
     pub length: u64,
 }
 
 // Calibration numbers as 32 bits each.
-#[derive(Drop)]
+#[derive(Clone, Copy)]
 pub struct Patterns {
     pub is_float: u32,
     pub cal: u32,

@@ -1,4 +1,6 @@
 // The bodies of records, written anew into parts of the same length.
+#![tactic(auto)]
+
 pub mod runs;
 
 ghost use Rattle.std.specs.Prelude.{◌≡◌, Bool, ◌&&◌, List, ◌∷◌, ℕ, ◌+◌, ◌-◌, ◌*◌, ◌≤◌, ◌<◌, leb, length};
@@ -16,7 +18,7 @@ use rules::{Basic, Channel, Channels, Frame, Frames, Head, Item, Items, Label, S
 use words::{Order, number4};
 
 // From the file's order to another or the same, in a file with this label; `keep`: reserve areas stand as they are, else they are zero.
-#[derive(Drop)]
+#[derive(Clone, Copy)]
 pub struct Way {
     pub from: Order,
     pub label: Label,
@@ -25,7 +27,7 @@ pub struct Way {
 }
 
 // The widths of the samples of a recording's channels: one for all of them, or several.
-#[derive(Drop)]
+#[derive(Clone, Copy)]
 pub enum Widths {
     One(usize),
     Several,

@@ -1,4 +1,6 @@
 // Runs of bytes in bulk: copied, cleared, and numbers of one width turned to the other byte order.
+#![tactic(auto)]
+
 ghost use Rattle.std.specs.Prelude.{◌≡◌, ◌++◌, ◌*◌, length, drop, replicate};
 ghost use Rattle.words.specs.Numbers.{word, bytes_of};
 ghost use Rattle.words.specs.Runs.{turned};
@@ -131,7 +133,7 @@ fn woven(s: &[u8], a: u64, b: u64, c: u64) -> u64
 }
 
 // Three words of eight bytes.
-#[derive(Drop)]
+#[derive(Clone, Copy)]
 struct Words {
     a: u64,
     b: u64,

@@ -1,4 +1,6 @@
 // The records that stand one after the other: the recordings of a file, and the records directly in a recording's body.
+#![tactic(auto)]
+
 ghost use Rattle.records.specs.Asks.{PartAt};
 ghost use Rattle.children.specs.Children.{Visits};
 
@@ -7,7 +9,7 @@ use rules::{Delimiter, Head, Kind};
 use words::Order;
 
 // A record, by its head and the byte where it ends; or the delimiter, behind which none follows.
-#[derive(Drop)]
+#[derive(Clone, Copy)]
 pub enum Direct {
     Record(Head, usize),
     Last,

@@ -1,11 +1,13 @@
 // What an event's code stands for. It is asked of the code alone, and needs no file.
+#![tactic(auto)]
+
 ghost use Rattle.std.specs.Prelude.{◌≡◌};
 ghost use Rattle.codes.specs.Codes.{kind_of, KindAnswer};
 
 use rules::Refusal;
 
 // The kinds that the standard publishes, in its order; then a user's own, and reserved for all other codes.
-#[derive(Drop)]
+#[derive(Clone, Copy)]
 pub enum EventKind {
     None,
     RecordingStart,
@@ -24,14 +26,14 @@ pub enum EventKind {
     Reserved,
 }
 
-#[derive(Drop)]
+#[derive(Clone, Copy)]
 pub enum KindTold {
     Kind(EventKind),
     Refused(Refusal),
 }
 
 // A published code, and its kind.
-#[derive(Drop)]
+#[derive(Clone, Copy)]
 pub struct Published(pub u64, pub EventKind);
 
 // The largest code: it has 16 bits.

@@ -1,10 +1,12 @@
 // Whether three numbers are a date. It takes nothing but the numbers and uses no other crate's code, so that a recorder's firmware can have it as it is.
+#![tactic(auto)]
+
 ghost use Rattle.std.specs.Prelude.{◌≡◌, ◌≤◌};
 ghost use Rattle.rules.specs.Rules as R;
 ghost use Rattle.dates.specs.Dates.{date_of};
 
 // The first of the three numbers that no date has.
-#[derive(Drop)]
+#[derive(Clone, Copy)]
 pub enum DateJudged {
     Fine,
     WrongYear,

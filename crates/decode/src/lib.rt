@@ -1,5 +1,7 @@
 // The numbers of a run of bytes, decoded into a lent buffer: one loop for whole numbers and one for floats, the width and the byte order told outside it.
 // The order is a bool here and not an `Order`: a call that tells it as a constant is then made a loop of its own by the compiler.
+#![tactic(auto)]
+
 ghost use Rattle.std.specs.Prelude.{◌≡◌, ◌+◌, ◌*◌, ◌≤◌, ◌<◌, pos, ◌-ℤ◌, length};
 ghost use Rattle.words.specs.Numbers.{word, word_in, bytes_in, number_at};
 ghost use Rattle.words.specs.Values.{signed};

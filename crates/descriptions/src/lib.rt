@@ -1,4 +1,6 @@
 // The descriptions of a recording: record 100, and 120 or 320, 130, 200 and 350, each of which may be absent.
+#![tactic(auto)]
+
 ghost use Rattle.std.specs.Prelude.{◌≡◌, ◌||◌, eqb, ◌+◌, ◌<◌};
 ghost use Rattle.words.specs.Sizes.{Addressable};
 ghost use Rattle.walk.specs.Walk.{pick};
@@ -18,7 +20,7 @@ use versions::allows;
 use words::Order;
 
 // Where a recording stands, and the records that hold for it.
-#[derive(Drop)]
+#[derive(Clone, Copy)]
 pub struct Places {
     pub start: usize,
     pub end: usize,
@@ -36,35 +38,35 @@ pub struct Places {
 }
 
 // The recording before, whose 120 or 320 and 130 hold where a recording has none.
-#[derive(Drop)]
+#[derive(Clone, Copy)]
 pub enum Before {
     Nothing,
     These(Places),
 }
 
 // Where the record stands that holds in the place of one that is absent.
-#[derive(Drop)]
+#[derive(Clone, Copy)]
 pub enum Held {
     Nothing,
     At(usize),
 }
 
 // A part that may be absent: whether it is there, where the one that holds stands, and the head behind it.
-#[derive(Drop)]
+#[derive(Clone, Copy)]
 pub struct Part {
     pub own: bool,
     pub at: usize,
     pub next: Head,
 }
 
-#[derive(Drop)]
+#[derive(Clone, Copy)]
 pub enum Parted {
     On(Part),
     Stop(Refusal),
 }
 
 // The parts before the 140, and its head; `count` is how many channels hold.
-#[derive(Drop)]
+#[derive(Clone, Copy)]
 pub struct Described {
     pub basic: Basic,
     pub own: bool,
@@ -78,7 +80,7 @@ pub struct Described {
     pub next: Head,
 }
 
-#[derive(Drop)]
+#[derive(Clone, Copy)]
 pub enum DescriptionsJudged {
     On(Described),
     Stop(Refusal),

@@ -1,4 +1,6 @@
 // The file header: 32 bytes, all ASCII.
+#![tactic(auto)]
+
 ghost use Rattle.std.specs.Prelude.{◌||◌, ◌≡◌, ◌≤◌, length, drop};
 ghost use Rattle.rules.specs.Rules as R;
 ghost use Rattle.header.specs.Letters.{lettered};
@@ -9,14 +11,14 @@ use rules::{FileHeader, Form, Heading, Label, Refusal, Spelling, Version};
 use versions::allows;
 use words::{Order, byte};
 
-#[derive(Drop)]
+#[derive(Clone, Copy)]
 pub enum Opened {
     Holds(FileHeader),
     Stop(Refusal),
 }
 
 // The order that a letter names.
-#[derive(Drop)]
+#[derive(Clone, Copy)]
 pub enum Lettered {
     Names(Order),
     Nothing,

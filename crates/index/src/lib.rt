@@ -1,4 +1,6 @@
 // The index of night events: where the code changes in a channel of events, five signed numbers an entry. The same walk counts entries and writes them.
+#![tactic(auto)]
+
 ghost use Rattle.std.specs.Prelude.{◌≡◌, [], ◌∷◌, ◌+◌, ◌*◌, ◌<◌, ◌≤◌, length};
 ghost use Rattle.words.specs.Lent.{Wrote};
 ghost use Rattle.words.specs.declared.Order.TheVariants.{Little};
@@ -20,14 +22,14 @@ use samples::{Place, part};
 use words::{Order, number2, number4};
 
 // How many entries, or the refusal.
-#[derive(Drop)]
+#[derive(Clone, Copy)]
 pub enum Indexed {
     Entries(usize),
     Refused(Refusal),
 }
 
 // A channel in a frame of a recording, each from 1.
-#[derive(Drop)]
+#[derive(Clone, Copy)]
 struct Spot {
     recording: u32,
     frame: u32,
@@ -35,14 +37,14 @@ struct Spot {
 }
 
 // Where the samples of the next channel stand, and where its first entry goes.
-#[derive(Drop)]
+#[derive(Clone, Copy)]
 struct Passed {
     at: usize,
     k: usize,
 }
 
 // The channels of events lie from the first of them, from 0, up to the end; the samples of those before the first take so many bytes of a frame.
-#[derive(Drop)]
+#[derive(Clone, Copy)]
 struct Stretch {
     first: u32,
     end: u32,

@@ -1,4 +1,6 @@
 // Judges a file by document 01: accepted, or refused by a number and a position.
+#![tactic(auto)]
+
 pub mod recording;
 
 ghost use Rattle.std.specs.Prelude.{◌≡◌, ◌-◌, length};
@@ -16,7 +18,7 @@ use rules::{FileHeader, Label, Refusal};
 use words::Order;
 
 // A file that is accepted, or the refusal.
-#[derive(Drop)]
+#[derive(Clone, Copy)]
 pub enum Judged {
     Accepted(FileHeader),
     Refused(Refusal),

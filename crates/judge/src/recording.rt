@@ -13,7 +13,7 @@ use signals::{of_frames, signals};
 use words::{Order, number4};
 
 // Where a recording stands, or the refusal.
-#[derive(Drop)]
+#[derive(Clone, Copy)]
 pub enum Recorded {
     On(Places),
     Stop(Refusal),

@@ -1,4 +1,6 @@
 // Prints what the table says of a file: a record a line, or the refusal.
+#![tactic(auto)]
+
 ghost use Rattle.std.specs.Prelude.{◌<◌, ◌≡◌, nat_abs};
 
 use table::Listed;

@@ -1,4 +1,6 @@
 // Prints the listing of the file on standard input.
+#![tactic(auto)]
+
 const MOST: usize = 32768;
 
 fn main() {

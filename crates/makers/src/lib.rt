@@ -1,5 +1,7 @@
 // The first maker's record of a file, which stands in the way of turning it.
 // Every function is safe for any bytes; what it finds is said of what was accepted.
+#![tactic(auto)]
+
 ghost use Rattle.std.specs.Prelude.{◌≡◌, ◌+◌, length};
 ghost use Rattle.words.specs.Sizes.{Addressable};
 ghost use Rattle.records.specs.Asks.{PartAt};
@@ -12,14 +14,14 @@ use rules::{FileHeader, Head, Refusal};
 use words::Order;
 
 // What was found in a recording, and where it ends.
-#[derive(Drop)]
+#[derive(Clone, Copy)]
 pub struct Searched {
     pub found: MakerField,
     pub end: usize,
 }
 
 // The code field of a maker's record, or none.
-#[derive(Drop)]
+#[derive(Clone, Copy)]
 pub enum MakerField {
     At(usize),
     Nothing,

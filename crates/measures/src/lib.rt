@@ -1,4 +1,6 @@
 // How long a recording's canonical form is, and what its records 10 and 140 then say.
+#![tactic(auto)]
+
 ghost use Rattle.std.specs.Prelude.{◌≡◌, ◌≤◌};
 ghost use Rattle.measures.specs.Measures.{most_served, Large, Smallest, Serves, InOrder, measured_for, Measurable, MeasuredAs};
 
@@ -8,7 +10,7 @@ use rules::{Channels, Frame, Frames, Head, Kind, Label};
 use words::Order;
 
 // The size and the multiplier of a record, and the length that they make.
-#[derive(Drop)]
+#[derive(Clone, Copy)]
 pub struct Sized {
     pub size: u32,
     pub multiplier: u32,
@@ -55,7 +57,7 @@ fn size_for(n: usize) -> Sized
 
 // A recording's 140, which stands at byte `at` of the body and stops at byte `end`; `last` is where the delimiter behind it stops.
 // `filled` is a frame's length without padding, `signals` and `whole` the sizes of the canonical 140 and 10.
-#[derive(Drop)]
+#[derive(Clone, Copy)]
 pub struct Measure {
     pub at: usize,
     pub end: usize,
@@ -68,7 +70,7 @@ pub struct Measure {
     pub whole: Sized,
 }
 
-#[derive(Drop)]
+#[derive(Clone, Copy)]
 pub enum Measured {
     On(Measure),
     Nothing,

@@ -10,7 +10,7 @@ use decode::{long_at, short_at};
 use words::Order;
 
 // The smallest and the largest number.
-#[derive(Drop)]
+#[derive(Clone, Copy)]
 pub struct Extremes {
     pub smallest: i32,
     pub largest: i32,

@@ -1,5 +1,7 @@
 // The thirty-second overview of a channel: the smallest and the largest sample of each epoch, and how many there are. It is above the library, and goes by what
 // the library's contracts say. Epochs are asked for from 0; a frame counts whole in the epoch that it starts in.
+#![tactic(auto)]
+
 pub mod extremes;
 
 ghost use Rattle.std.specs.Prelude.{◌≡◌, ◌++◌, ◌+◌, ◌-◌, ◌*◌, ◌/◌, length, drop};
@@ -15,7 +17,7 @@ use rules::Refusal;
 use samples::{Track, TrackTold};
 
 // An epoch: its seconds, and the numbers that a range has of one.
-#[derive(Drop)]
+#[derive(Clone, Copy)]
 pub struct Epoch {}
 
 impl Epoch {
@@ -25,14 +27,14 @@ impl Epoch {
 }
 
 // The smallest and the largest sample, and how many there are.
-#[derive(Drop)]
+#[derive(Clone, Copy)]
 pub struct Envelope {
     pub smallest: i64,
     pub largest: i64,
     pub count: usize,
 }
 
-#[derive(Drop)]
+#[derive(Clone, Copy)]
 pub enum OverviewTold {
     Samples(Envelope),
     Empty,
@@ -40,7 +42,7 @@ pub enum OverviewTold {
 }
 
 // How many epochs were written, or the refusal.
-#[derive(Drop)]
+#[derive(Clone, Copy)]
 pub enum RangeTold {
     Epochs(usize),
     Refused(Refusal),
@@ -274,7 +276,7 @@ pub fn overview_range(
 
 // What C and Rust link: the refusal and its position, or 0 and 0; then the values, which are 0 for a refusal and for an empty epoch.
 #[repr(C)]
-#[derive(Drop)]
+#[derive(Clone, Copy)]
 pub struct Overviewed {
     pub refusal: u32,
     pub position: u64,
@@ -285,7 +287,7 @@ pub struct Overviewed {
 
 // How many epochs.
 #[repr(C)]
-#[derive(Drop)]
+#[derive(Clone, Copy)]
 pub struct Counted {
     pub refusal: u32,
     pub position: u64,

@@ -1,4 +1,6 @@
 // Leave to write: no maker's record stands in the way, and there is room.
+#![tactic(auto)]
+
 ghost use Rattle.std.specs.Prelude.{◌≡◌};
 ghost use Rattle.makers.specs.Search.{found};
 ghost use Rattle.permit.specs.Permit.{meaning, barring, within, earlier, permitted};
@@ -7,7 +9,7 @@ use makers::MakerField;
 use rules::Refusal;
 
 // How many bytes are written, or the refusal.
-#[derive(Drop)]
+#[derive(Clone, Copy)]
 pub enum Written {
     Bytes(usize),
     Refused(Refusal),

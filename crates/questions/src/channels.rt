@@ -8,7 +8,7 @@ use rules::{Channel, Channels, Electrode, Head, Refusal};
 use words::{Order, int4, is_nan, number4};
 
 // A text of the file: its first byte, and how many bytes it has.
-#[derive(Drop)]
+#[derive(Clone, Copy)]
 pub struct Text {
     pub at: usize,
     pub length: usize,
@@ -16,14 +16,14 @@ pub struct Text {
 
 // CAL, CAL AD, Offset AD and Offset CAL, by the channel's format. A NaN's pattern cannot become an f32: where one of four floats is one, all are answered as
 // their 32 bits.
-#[derive(Drop)]
+#[derive(Clone, Copy)]
 pub enum Calibration {
     Floats(f32, f32, f32, f32),
     Numbers(i32, i32, i32, i32),
     Patterns(u32, u32, u32, u32),
 }
 
-#[derive(Drop)]
+#[derive(Clone, Copy)]
 pub struct Descriptor {
     pub number: i32,
     pub flags: i32,
@@ -40,27 +40,27 @@ pub struct Descriptor {
     pub comment: Text,
 }
 
-#[derive(Drop)]
+#[derive(Clone, Copy)]
 pub enum ChannelTold {
     Channel(Descriptor),
     Refused(Refusal),
 }
 
 // A montage's channel, with its inputs.
-#[derive(Drop)]
+#[derive(Clone, Copy)]
 pub struct Wired {
     pub channel: Descriptor,
     pub g1: i32,
     pub g2: i32,
 }
 
-#[derive(Drop)]
+#[derive(Clone, Copy)]
 pub enum MontageTold {
     Channel(Wired),
     Refused(Refusal),
 }
 
-#[derive(Drop)]
+#[derive(Clone, Copy)]
 pub enum MontageCountTold {
     Channels(u32),
     Refused(Refusal),

@@ -3,7 +3,7 @@ use rules::{Refusal, Spelling};
 use words::Order;
 
 // The version and the form are the numbers of their digits; the script is its letter.
-#[derive(Drop)]
+#[derive(Clone, Copy)]
 pub struct Header {
     pub spelling: Spelling,
     pub version: u32,
@@ -13,7 +13,7 @@ pub struct Header {
     pub recordings: u32,
 }
 
-#[derive(Drop)]
+#[derive(Clone, Copy)]
 pub enum HeaderTold {
     Header(Header),
     Refused(Refusal),

@@ -11,13 +11,13 @@ use records::items::Holder;
 use rules::{Item, Items, Refusal};
 use words::{Order, int4, number4};
 
-#[derive(Drop)]
+#[derive(Clone, Copy)]
 pub struct Entry {
     pub code: i32,
     pub text: Text,
 }
 
-#[derive(Drop)]
+#[derive(Clone, Copy)]
 pub enum ItemTold {
     Item(Entry),
     Refused(Refusal),

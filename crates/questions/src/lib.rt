@@ -1,5 +1,7 @@
 // Questions about a file: each judges the file itself, and answers values or the refusal.
 // Recordings, channels, items and frames are asked for from 1, samples from 0.
+#![tactic(auto)]
+
 pub mod channels;
 pub mod headers;
 pub mod items;

@@ -1,4 +1,6 @@
 // The recording that a question asks about, in a file that is judged first.
+#![tactic(auto)]
+
 ghost use Rattle.std.specs.Prelude.{◌≡◌};
 ghost use Rattle.rules.specs.Rules as R;
 ghost use Rattle.recordings.specs.Found.{refusal_recording, counts_of, Walkable, ReachedAs, RecordingFoundAs};
@@ -10,21 +12,21 @@ use rules::{FileHeader, Label, Refusal};
 use words::Order;
 
 // The file's byte order and where the recording stands, or the refusal.
-#[derive(Drop)]
+#[derive(Clone, Copy)]
 pub enum RecordingFound {
     At(Order, Places),
     Refused(Refusal),
 }
 
 // M, F and T.
-#[derive(Drop)]
+#[derive(Clone, Copy)]
 pub struct Counts {
     pub channels: u32,
     pub frames: u32,
     pub seconds: u32,
 }
 
-#[derive(Drop)]
+#[derive(Clone, Copy)]
 pub enum FactsTold {
     Facts(Counts),
     Refused(Refusal),

@@ -11,7 +11,7 @@ use dates::{DateJudged, judge_date};
 use rules::{Basic, Channels, Head, Kind, Refusal};
 use words::Order;
 
-#[derive(Drop)]
+#[derive(Clone, Copy)]
 pub enum Basiced {
     Holds(Basic),
     Stop(Refusal),

@@ -12,7 +12,7 @@ use rules::{Head, Item, Items, Kind, Refusal};
 use words::{Order, number4};
 
 // The records of items: 130 and 200.
-#[derive(Drop)]
+#[derive(Clone, Copy)]
 pub enum Holder {
     Patient,
     Event,

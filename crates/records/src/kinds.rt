@@ -16,7 +16,7 @@ use versions::most_of;
 use words::Order;
 
 // The rule on a record's code.
-#[derive(Drop)]
+#[derive(Clone, Copy)]
 pub enum Code {
     Is(u32),
     Makers,
@@ -24,7 +24,7 @@ pub enum Code {
 }
 
 // The rule on a record's length; of a frame: the length, and the byte where its samples end.
-#[derive(Drop)]
+#[derive(Clone, Copy)]
 pub enum Fits {
     Exactly(usize),
     AtLeast(usize),
@@ -32,21 +32,21 @@ pub enum Fits {
 }
 
 // The rule on a record's serial.
-#[derive(Drop)]
+#[derive(Clone, Copy)]
 pub enum Serial {
     Any,
     Is(u32),
 }
 
 // A record's head and where the record stops, or the refusal.
-#[derive(Drop)]
+#[derive(Clone, Copy)]
 pub enum Opened {
     On(Head, usize),
     Stop(Refusal),
 }
 
 // What is fixed about a kind of record: the code, the largest multiplier, the length and the serial.
-#[derive(Drop)]
+#[derive(Clone, Copy)]
 pub struct Rule {
     pub code: Code,
     pub most: u32,

@@ -1,4 +1,6 @@
 // Judges each kind of record by the rules of crate `rules`. Each answer is that of the rules' walk, by the contracts.
+#![tactic(auto)]
+
 pub mod basic;
 pub mod channels;
 pub mod delimiter;
@@ -20,21 +22,21 @@ ghost use Rattle.records.specs.Says.{tested, ended, refusal_h, refusal_s, refusa
 use rules::{Head, Refusal};
 use words::{Order, first_nonzero, number2, number4};
 
-#[derive(Drop)]
+#[derive(Clone, Copy)]
 pub enum Headed {
     At(Head),
     Stop(Refusal),
 }
 
 // The position where to go on, or the refusal.
-#[derive(Drop)]
+#[derive(Clone, Copy)]
 pub enum Step {
     On(usize),
     Stop(Refusal),
 }
 
 // Tests that hold, or the refusal.
-#[derive(Drop)]
+#[derive(Clone, Copy)]
 pub enum Tested {
     Fine,
     Stop(Refusal),

@@ -1,4 +1,6 @@
 // Writes a file anew, in its one canonical form.
+#![tactic(auto)]
+
 pub mod frames;
 pub mod recordings;
 

@@ -1,4 +1,6 @@
 // How much room to reserve for a rewrite, before its length is known.
+#![tactic(auto)]
+
 ghost use Rattle.room.specs.Room.{RoomAnswer};
 
 use judge::Judged;

@@ -1,5 +1,7 @@
 // The rows of a file, counted or written: the same walk does both, so that a row is counted exactly where it is written.
 // Every function is safe for any bytes; that the rows are the file's is said of what was accepted.
+#![tactic(auto)]
+
 ghost use Rattle.std.specs.Prelude.{◌≡◌, ◌&&◌, [], ◌∷◌, ◌+◌, ◌-◌, ◌*◌, ◌<◌, leb, length};
 ghost use Rattle.judge.specs.Recorded.{HeaderIn};
 ghost use Rattle.rows.specs.Listing.{series_rows, channel_rows, frame_rows, held_rows, ChannelsFit, FramesFit, HasRoom};
@@ -12,7 +14,7 @@ use rules::{Channel, Channels, Delimiter, FileHeader, Frame, Frames, Head};
 use words::{Order, number4, signed4};
 
 // Where the next recording starts, and where its first row goes.
-#[derive(Drop)]
+#[derive(Clone, Copy)]
 pub struct Ended {
     pub at: usize,
     pub k: usize,

@@ -1,26 +1,28 @@
 // Document 01's record kinds: what the code keeps of each, its code, its length and the offsets of its fields.
+#![tactic(auto)]
+
 use words::Order;
 
 // A refusal: document 01's number, and the position in the file.
-#[derive(Drop)]
+#[derive(Clone, Copy)]
 pub struct Refusal(pub u32, pub usize);
 
 // The spelling of the format's name in the first eight bytes: the standard's, or the society's abbreviation.
-#[derive(Drop)]
+#[derive(Clone, Copy)]
 pub enum Spelling {
     Spg,
     Psg,
 }
 
 // The forms: of channels, 00, and of electrodes, 01.
-#[derive(Drop)]
+#[derive(Clone, Copy)]
 pub enum Form {
     Channels,
     Electrodes,
 }
 
 // The versions of the format: 1.00, 1.10, 2.00 and 3.00.
-#[derive(Drop)]
+#[derive(Clone, Copy)]
 pub enum Version {
     V100,
     V110,
@@ -29,14 +31,14 @@ pub enum Version {
 }
 
 // What the file header says that the rules for records go by.
-#[derive(Drop)]
+#[derive(Clone, Copy)]
 pub struct Label {
     pub version: Version,
     pub form: Form,
 }
 
 // What the file header says of the whole file, besides the order and K.
-#[derive(Drop)]
+#[derive(Clone, Copy)]
 pub struct Heading {
     pub spelling: Spelling,
     pub label: Label,
@@ -44,7 +46,7 @@ pub struct Heading {
 }
 
 // The file header, 32 bytes of ASCII.
-#[derive(Drop)]
+#[derive(Clone, Copy)]
 pub struct FileHeader {
     pub order: Order,
     pub heading: Heading,
@@ -106,7 +108,7 @@ impl FileHeader {
 }
 
 // A record's first 16 bytes, and the byte where they stand in the part of the file that holds them.
-#[derive(Drop)]
+#[derive(Clone, Copy)]
 pub struct Head {
     pub at: usize,
     pub size: u32,
@@ -137,7 +139,7 @@ impl Head {
 
 // A record's kind, with what its rule asks for: the label that says how large a multiplier may be, the code where several records are of a kind,
 // the serial, a frame's length and the byte where its samples end. `Any` is what every record meets but the delimiter.
-#[derive(Drop)]
+#[derive(Clone, Copy)]
 pub enum Kind {
     Recording(Label, u32),
     Basic,
@@ -151,7 +153,7 @@ pub enum Kind {
 }
 
 // Record 10: a recording.
-#[derive(Drop)]
+#[derive(Clone, Copy)]
 pub struct Recording;
 
 impl Recording {
@@ -163,7 +165,7 @@ impl Recording {
 }
 
 // Record 100, of which the others need the counts.
-#[derive(Drop)]
+#[derive(Clone, Copy)]
 pub struct Basic {
     pub channels: u32,
     pub frames: u32,
@@ -231,7 +233,7 @@ impl Basic {
 }
 
 // The records that hold subs: 120 and 320, in a file of this version, with as many as record 100 says, and 350 over so many electrodes.
-#[derive(Drop)]
+#[derive(Clone, Copy)]
 pub enum Group {
     Channels(Version, u32),
     Electrodes(Version, u32),
@@ -239,14 +241,14 @@ pub enum Group {
 }
 
 // Which fields a sub has: the calibration frequency and the sensitivity, and the inputs G1 and G2. Those that it has not are reserve.
-#[derive(Drop)]
+#[derive(Clone, Copy)]
 pub struct Shape {
     pub calibrated: bool,
     pub wired: bool,
 }
 
 // Record 120, 320 or 350: where its subs start in the file, and how many there are.
-#[derive(Drop)]
+#[derive(Clone, Copy)]
 pub struct Channels {
     pub subs: usize,
     pub count: u32,
@@ -278,7 +280,7 @@ impl Channels {
 }
 
 // Record 320: the electrodes.
-#[derive(Drop)]
+#[derive(Clone, Copy)]
 pub struct Electrodes;
 
 impl Electrodes {
@@ -286,7 +288,7 @@ impl Electrodes {
 }
 
 // Record 325: an electrode.
-#[derive(Drop)]
+#[derive(Clone, Copy)]
 pub struct Electrode;
 
 impl Electrode {
@@ -297,7 +299,7 @@ impl Electrode {
 }
 
 // Record 350: a montage.
-#[derive(Drop)]
+#[derive(Clone, Copy)]
 pub struct Montage;
 
 impl Montage {
@@ -305,7 +307,7 @@ impl Montage {
 }
 
 // Record 355: a montage's channel.
-#[derive(Drop)]
+#[derive(Clone, Copy)]
 pub struct MontageChannel;
 
 impl MontageChannel {
@@ -318,7 +320,7 @@ impl MontageChannel {
 }
 
 // Record 125, 325 or 355: a channel, an electrode, or a montage's channel.
-#[derive(Drop)]
+#[derive(Clone, Copy)]
 pub struct Channel;
 
 impl Channel {
@@ -406,7 +408,7 @@ impl Channel {
 }
 
 // Record 130: the patient's items.
-#[derive(Drop)]
+#[derive(Clone, Copy)]
 pub struct Patient;
 
 impl Patient {
@@ -414,7 +416,7 @@ impl Patient {
 }
 
 // Record 200: the event items.
-#[derive(Drop)]
+#[derive(Clone, Copy)]
 pub struct Events;
 
 impl Events {
@@ -422,7 +424,7 @@ impl Events {
 }
 
 // What 130 and 200 share.
-#[derive(Drop)]
+#[derive(Clone, Copy)]
 pub struct Items;
 
 impl Items {
@@ -447,7 +449,7 @@ impl Items {
 }
 
 // An item of 130 or 200.
-#[derive(Drop)]
+#[derive(Clone, Copy)]
 pub struct Item;
 
 impl Item {
@@ -464,7 +466,7 @@ impl Item {
 }
 
 // Record 140: T, the frame length, and how many bytes of padding it has.
-#[derive(Drop)]
+#[derive(Clone, Copy)]
 pub struct Frames {
     pub seconds: u32,
     pub size: usize,
@@ -501,7 +503,7 @@ impl Frames {
 }
 
 // Record 145: a frame.
-#[derive(Drop)]
+#[derive(Clone, Copy)]
 pub struct Frame;
 
 impl Frame {
@@ -533,7 +535,7 @@ impl Frame {
 }
 
 // The delimiter behind a recording's records.
-#[derive(Drop)]
+#[derive(Clone, Copy)]
 pub struct Delimiter;
 
 impl Delimiter {
@@ -543,7 +545,7 @@ impl Delimiter {
 }
 
 // A maker's own record.
-#[derive(Drop)]
+#[derive(Clone, Copy)]
 pub struct Maker;
 
 impl Maker {

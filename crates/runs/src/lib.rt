@@ -1,4 +1,6 @@
 // A run of samples in one call: so many from a first one on, of one channel in one frame, into a lent buffer.
+#![tactic(auto)]
+
 ghost use Rattle.std.specs.Prelude.{◌≡◌, length};
 ghost use Rattle.runs.specs.Found.{refusal_run, RunInside, RunFoundAs};
 ghost use Rattle.runs.specs.Runs.{serves, place_from, RunAnswer};
@@ -9,21 +11,21 @@ use samples::{Place, SamplesFound, part};
 use words::Order;
 
 // The two calls: signed numbers of formats 1 to 3, and the 32 bits of floats, format 4.
-#[derive(Drop)]
+#[derive(Clone, Copy)]
 pub enum Sibling {
     Whole,
     Floats,
 }
 
 // How many numbers were written, or the refusal.
-#[derive(Drop)]
+#[derive(Clone, Copy)]
 pub enum Ran {
     Numbers(usize),
     Refused(Refusal),
 }
 
 // The file's byte order, the channel's format, and the place of the run asked for; or the refusal.
-#[derive(Drop)]
+#[derive(Clone, Copy)]
 enum RunFound {
     At(Order, u32, Place),
     Refused(Refusal),

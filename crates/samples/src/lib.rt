@@ -1,4 +1,6 @@
 // The frames of a recording, and the samples of a channel in a frame.
+#![tactic(auto)]
+
 ghost use Rattle.std.specs.Prelude.{◌≡◌, ◌+◌, ◌*◌, ◌≤◌, leb, length};
 ghost use Rattle.words.specs.Numbers.{number_at};
 ghost use Rattle.rules.specs.Rules as R;
@@ -12,28 +14,28 @@ use recordings::RecordingFound;
 use rules::{Channel, Channels, Frame, Frames, Refusal};
 use words::{Order, int2, int3, int4, is_nan, number2, number4};
 
-#[derive(Drop)]
+#[derive(Clone, Copy)]
 pub struct Time {
     pub hour: u32,
     pub minute: u32,
     pub second: u32,
 }
 
-#[derive(Drop)]
+#[derive(Clone, Copy)]
 pub enum ClockTold {
     At(Time),
     Refused(Refusal),
 }
 
 // Where samples stand in a file: the first byte, the bytes of one, and how many there are.
-#[derive(Drop)]
+#[derive(Clone, Copy)]
 pub struct Place {
     pub position: usize,
     pub width: usize,
     pub count: usize,
 }
 
-#[derive(Drop)]
+#[derive(Clone, Copy)]
 pub enum PlaceTold {
     At(Place),
     Refused(Refusal),
@@ -41,7 +43,7 @@ pub enum PlaceTold {
 
 // Where a channel's samples stand in every frame of a recording: by the file's byte order and the channel's format, the place in the first frame, the bytes
 // from there to the same place in the next one, how many frames there are, and the seconds of each.
-#[derive(Drop)]
+#[derive(Clone, Copy)]
 pub struct Track {
     pub order: Order,
     pub format: u32,
@@ -51,49 +53,49 @@ pub struct Track {
     pub seconds: u32,
 }
 
-#[derive(Drop)]
+#[derive(Clone, Copy)]
 pub enum TrackTold {
     At(Track),
     Refused(Refusal),
 }
 
 // A part of a file: its first byte, and its length.
-#[derive(Drop)]
+#[derive(Clone, Copy)]
 pub struct Cut {
     pub start: usize,
     pub length: usize,
 }
 
 // A sample, by the channel's format. A NaN's pattern cannot become an f32, and is answered as its 32 bits.
-#[derive(Drop)]
+#[derive(Clone, Copy)]
 pub enum Number {
     Whole(i32),
     Float(f32),
     Pattern(u32),
 }
 
-#[derive(Drop)]
+#[derive(Clone, Copy)]
 pub enum SampleTold {
     Value(Number),
     Refused(Refusal),
 }
 
 // The file's byte order, where the recording stands, and where its frame stands; or the refusal.
-#[derive(Drop)]
+#[derive(Clone, Copy)]
 pub enum FrameFound {
     At(Order, Places, usize),
     Refused(Refusal),
 }
 
 // The samples of a channel in a frame: their format, and their place.
-#[derive(Drop)]
+#[derive(Clone, Copy)]
 pub struct Run {
     pub format: u32,
     pub place: Place,
 }
 
 // The file's byte order, where the recording stands, and the samples asked for; or the refusal.
-#[derive(Drop)]
+#[derive(Clone, Copy)]
 pub enum SamplesFound {
     At(Order, Places, Run),
     Refused(Refusal),

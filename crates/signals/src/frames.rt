@@ -11,21 +11,21 @@ use rules::{Basic, Channel, Channels, Frame, Frames, Head, Kind, Label, Refusal}
 use words::{Order, number4};
 
 // What a 140 says and where it stops, or the refusal.
-#[derive(Drop)]
+#[derive(Clone, Copy)]
 pub enum FramesJudged {
     On(Frames, usize),
     Stop(Refusal),
 }
 
 // T, the frame length, and the byte of a frame where its samples end: what a 140's own fields say.
-#[derive(Drop)]
+#[derive(Clone, Copy)]
 pub struct Shape {
     pub seconds: u32,
     pub size: usize,
     pub filled: usize,
 }
 
-#[derive(Drop)]
+#[derive(Clone, Copy)]
 pub enum Shaped {
     On(Shape),
     Stop(Refusal),

@@ -1,4 +1,6 @@
 // A recording from its 140 on: the signals, the delimiter and the padding.
+#![tactic(auto)]
+
 pub mod frames;
 
 ghost use Rattle.std.specs.Prelude.{◌≡◌, ◌+◌, length};

@@ -1,11 +1,13 @@
 // The table of a file's records: four signed numbers a record, by position.
+#![tactic(auto)]
+
 ghost use Rattle.table.specs.Table.{Lists};
 
 use judge::Judged;
 use rules::Refusal;
 
 // How many rows the file has, or the refusal.
-#[derive(Drop)]
+#[derive(Clone, Copy)]
 pub enum Listed {
     Rows(usize),
     Refused(Refusal),

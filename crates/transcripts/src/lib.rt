@@ -1,5 +1,7 @@
 // A record of a recording, written anew by its code.
 // Every function is safe for any bytes and any room; what is written is said of what was accepted.
+#![tactic(auto)]
+
 ghost use Rattle.std.specs.Prelude.{◌≡◌, ℕ, ◌+◌, ◌≤◌, length};
 ghost use Rattle.rules.specs.Rules as R;
 ghost use Rattle.records.specs.Says.{HasShape};

@@ -1,4 +1,6 @@
 // Turns a file to the other byte order.
+#![tactic(auto)]
+
 pub mod frames;
 pub mod recordings;
 

@@ -1,4 +1,6 @@
 // Prints the listings of the files packed in data/vectors.bin, each behind its length in four bytes, the least first.
+#![tactic(auto)]
+
 use words::{Order, number4};
 
 const MOST: usize = 32768;

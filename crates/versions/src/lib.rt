@@ -1,4 +1,6 @@
 // What each version of the format allows.
+#![tactic(auto)]
+
 ghost use Rattle.std.specs.Prelude.{◌≡◌};
 ghost use Rattle.rules.specs.Rules as R;
 ghost use Rattle.versions.specs.Allowed.{allows_of, older_with};
@@ -6,7 +8,7 @@ ghost use Rattle.versions.specs.Allowed.{allows_of, older_with};
 use rules::{Channel, Head, Label, Version};
 
 // Form 01; script U; the largest multiplier; type 20; the largest format; a recording without an event table of its own.
-#[derive(Drop)]
+#[derive(Clone, Copy)]
 pub struct Allowed {
     pub electrodes: bool,
     pub unicode: bool,

@@ -1,1 +1,2 @@
 // Walks over a file: definitions and laws, and no code.
+#![tactic(auto)]

@@ -1,4 +1,6 @@
 // Numbers in the bytes of a file: words in either byte order, their signed values, whether they are a NaN's, and the first byte that is not zero.
+#![tactic(auto)]
+
 ghost use Rattle.std.specs.Prelude.{◌≡◌, [], ◌∷◌, ℕ, ◌+◌, ◌*◌, ◌≤◌, ◌<◌, length, get_or};
 ghost use Rattle.words.specs.Numbers.{number_at, bytes_in, ordered};
 ghost use Rattle.words.specs.Joins.{join, Joinable};
@@ -7,7 +9,7 @@ ghost use Rattle.words.specs.Floats.{nan_pattern};
 ghost use Rattle.words.specs.Runs.{first_nonzero, Zeros};
 
 // The byte order of a file.
-#[derive(Drop)]
+#[derive(Clone, Copy)]
 pub enum Order {
     Little,
     Big,
