@@ -13,7 +13,7 @@ use Rattle.words.proofs.Values.{signed-pos, signed-neg}
 
 -- a signed number that a call gave, as a local holds it
 pub kept : (z : ℤ) → mag z < 2 ^ 31 → to_z w32 (of_z w32 z) ≡ z
-kept z h = to_z-of_z (record { sfits = h })
+kept z h = to_z-of_z {w = w32} (record { sfits = h })
 
 -- -1 - k, as the code computes it
 minus : (k : ℕ) → negsuc 0 -ℤ pos k ≡ negsuc k
