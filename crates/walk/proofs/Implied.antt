@@ -54,10 +54,10 @@ module _ {A : Type 0} where
   implied same p = p
   implied stop p = p
   implied (weaker h i) (checks c p) = checks (h c) (implied i p)
-  implied (word i) (numbers {v} l p) = numbers l (implied (i v) p)
-  implied (bytes i) (reads {bs} l b p) = reads l b (implied (i bs) p)
-  implied (past i) (skips l b p) = skips l b (implied i p)
-  implied (listed i) (lists p) = lists (implied i p)
+  implied (word i) (numbers {v} {t} l p) = numbers l (implied {t = t} (i v) p)
+  implied (bytes i) (reads {bs} {t} l b p) = reads l b (implied {t = t} (i bs) p)
+  implied (past i) (skips {bs} {t} l b p) = skips l b (implied {t = t} i p)
+  implied (listed i) (lists {t} p) = lists (implied {t = t} i p)
 
 module _ {A B : Type 0} where
   pub implies-bind : {w v : Walk A} {k l : A → Walk B} → Implies w v → ((a : A) → Implies (k a) (l a)) → Implies (w >>= k) (v >>= l)
@@ -81,24 +81,26 @@ module _ {A : Type 0} where
   pub first-fault : {t : List Event} {w v : Walk A} {a : A} → Implies w v → Plays t v a → (o : Order) (at : ℕ) (r : List ℕ) → run o at (render o t ++ r) w ≡ first (faults at t w) (passed a r t)
   unfolding run render faults
   first-fault same gives o at r = refl
+  first-fault stop x o at r = elim x [ ]
   first-fault (weaker {c = true} h i) (checks d p) o at r = first-fault i p o at r
   first-fault (weaker {c = false} h i) (checks d p) o at r = refl
   first-fault (word {n} {f} i) (numbers {v} {t} {a} l p) o at r =
-      rw (append_assoc, run-numeral o at v (render o t ++ r) n f l, first-fault (i v) p o (at + n) r) (first-logged (numeral n v) (faults (at + n) t (f v)) a r t)
+      rw (append_assoc, run-numeral o at v (render o t ++ r) n f l, first-fault {t = t} (i v) p o (at + n) r) (first-logged (numeral n v) (faults (at + n) t (f v)) a r t)
   first-fault (bytes {k} {n} {f} i) (reads {bs} {t} {a} l b p) o at r =
-      rw (append_assoc, run-piece o at k bs (render o t ++ r) n f l, first-fault (i bs) p o (at + n) r) (first-logged (piece k bs) (faults (at + n) t (f bs)) a r t)
+      rw (append_assoc, run-piece o at k bs (render o t ++ r) n f l, first-fault {t = t} (i bs) p o (at + n) r) (first-logged (piece k bs) (faults (at + n) t (f bs)) a r t)
   first-fault (past {n} {w} i) (skips {bs} {t} {a} l b p) o at r =
-      rw (append_assoc, run-blank o at bs (render o t ++ r) n w l, first-fault i p o (at + n) r) (first-logged (blank bs) (faults (at + n) t w) a r t)
-  first-fault (listed {p} {l} {c} {s} {w} i) (lists {t} {a} q) o at r = rw (first-fault i q o at r) (first-logged (row p l c s) (faults at t w) a r t)
+      rw (append_assoc, run-blank o at bs (render o t ++ r) n w l, first-fault {t = t} i p o (at + n) r) (first-logged (blank bs) (faults (at + n) t w) a r t)
+  first-fault (listed {p} {l} {c} {s} {w} i) (lists {t} {a} q) o at r = rw (first-fault {t = t} i q o at r) (first-logged (row p l c s) (faults at t w) a r t)
 
 -- the faults of one walk after the other, on events that a wider walk accepts
 module _ {A B : Type 0} where
   pub faults-bind : {t : List Event} (u : List Event) {w v : Walk A} (k : A → Walk B) {a : A} → Implies w v → Plays t v a → (at : ℕ) → faults at (t ++ u) (w >>= k) ≡ faults at t w ++ faults (at + size t) u (k a)
   unfolding faults ◌>>=◌ size
   faults-bind u k (same {a}) gives at = let z : at + 0 ≡ at = omega arith in rw z
+  faults-bind u k stop x at = elim x [ ]
   faults-bind u k (weaker {c = true} h i) (checks d p) at = faults-bind u k i p at
   faults-bind u k (weaker {c = false} {n} {p = q} h i) (checks d p) at = ap (λ (x : List Fault). record { number = n; place = at - q } ∷ x) (faults-bind u k i p at)
-  faults-bind u k (word {n} i) (numbers {v} {t} l p) at = let z : at + n + size t ≡ at + (n + size t) = omega arith in rw (faults-bind u k (i v) p (at + n), z)
-  faults-bind u k (bytes {n} i) (reads {bs} {t} l b p) at = let z : at + n + size t ≡ at + (length bs + size t) = omega arith in rw (faults-bind u k (i bs) p (at + n), z)
-  faults-bind u k (past {n} i) (skips {bs} {t} l b p) at = let z : at + n + size t ≡ at + (length bs + size t) = omega arith in rw (faults-bind u k i p (at + n), z)
-  faults-bind u k (listed i) (lists p) at = faults-bind u k i p at
+  faults-bind u k (word {n} i) (numbers {v} {t} l p) at = let z : at + n + size t ≡ at + (n + size t) = omega arith in rw (faults-bind {t = t} u k (i v) p (at + n), z)
+  faults-bind u k (bytes {n} i) (reads {bs} {t} l b p) at = let z : at + n + size t ≡ at + (length bs + size t) = omega arith in rw (faults-bind {t = t} u k (i bs) p (at + n), z)
+  faults-bind u k (past {n} i) (skips {bs} {t} l b p) at = let z : at + n + size t ≡ at + (length bs + size t) = omega arith in rw (faults-bind {t = t} u k i p (at + n), z)
+  faults-bind u k (listed i) (lists {t} p) at = faults-bind {t = t} u k i p at

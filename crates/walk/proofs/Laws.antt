@@ -216,6 +216,7 @@ module _ {A B : Type 0} where
   pub plays-split : {t : List Event} (w : Walk A) (k : A → Walk B) {b : B} → Plays t (w >>= k) b → Split t w k b
   unfolding ◌>>=◌
   plays-split {t} (give a) k p = record { value = a; first = []; second = t; joined = refl; before = gives; behind = p }
+  plays-split (refuse _ _) k p = elim p [ ]
   plays-split (check c n q w) k (checks h p) =
       let i = plays-split w k p in
       record { value = i.value; first = i.first; second = i.second; joined = i.joined; before = checks h i.before; behind = i.behind }
@@ -320,10 +321,10 @@ module _ {A : Type 0} where
   plays (give b) q = rw (q.none, ← q.value) gives
   plays (refuse n p) q = absurd q
   plays (check c n p w) q = checks q.holds (plays w q.then)
-  plays (number n f) q = rw q.split (numbers q.small (plays (f q.word) q.then))
-  plays (read k n f) q = rw q.split (reads q.width q.small (plays (f q.bytes) q.then))
-  plays (skip n w) q = rw q.split (skips q.width q.small (plays w q.then))
-  plays (list p l c s w) q = rw q.split (lists (plays w q.then))
+  plays {t = t} (number n f) {a = a} q = rw q.split (numbers q.small (plays {t = q.others} (f q.word) q.then))
+  plays {t = t} (read k n f) {a = a} q = rw q.split (reads q.width q.small (plays {t = q.others} (f q.bytes) q.then))
+  plays {t = t} (skip n w) {a = a} q = rw q.split (skips q.width q.small (plays {t = q.others} w q.then))
+  plays {t = t} (list p l c s w) {a = a} q = rw q.split (lists (plays {t = q.others} w q.then))
 
 -- the same by what was read alone: the events and the answer are computed from it, so that what they say of a walk that is written out holds by computation
 pub record Counts (n : ℕ) (P : ℕ → Type 0) : Type 0 where

@@ -80,6 +80,7 @@ module _ {A : Type 0} where
   pub rising-faults : {k e : ℕ} {t : List Event} {w v : Walk A} {a : A} → Orders k w v e → Plays t v a → (at : ℕ) → k ≤ at → Rising (at - k) (faults at t w) (at + size t - e)
   unfolding faults size
   rising-faults (gave l) gives at h = omega arith
+  rising-faults halt x at h = elim x [ ]
   rising-faults (kept {c} i) (checks q p) at h = rw q (rising-faults i p at h)
   rising-faults {t} (tighter {k} {e} {c = true} {p = b} {w} u z l i) (checks q p) at h = rising-low (at - k) (at - (b - 1)) (at + size t - e) (faults at t w) (omega arith) (rising-faults i p at (omega arith))
   rising-faults (tighter {k} {c = false} {p = b} u z l i) (checks q p) at h =
