@@ -1,0 +1,11 @@
+-- `bulk::rest_of_4` meets its contract, by the laws of a turning loop.
+-- Assumes nothing.
+use Prim.Native.Nat.{◌-◌}
+use Rattle.bulk.proofs.Loops.{Turning}
+use Rattle.bulk.proofs.rest_of_4.Given as goal
+
+abbrev pub invariant-loop-i : goal.invariant-loop-i
+invariant-loop-i l = Turning 4 l.n l.src l.dst l.i l.at
+
+abbrev pub decreases-loop-i : goal.decreases-loop-i
+decreases-loop-i l = l.n - l.i

@@ -1,0 +1,16 @@
+-- `bulk::turn4` meets its contract, by the laws of a turning loop.
+-- Assumes nothing.
+use mathlib.Core.Path.{refl}
+use Prim.Native.Nat.{◌+◌}
+use native.Mathlib.Omega.{arith}
+use Rattle.bulk.proofs.Loops.{turning-none, turning-more, turning-rest}
+use Rattle.bulk.proofs.turn4.Goals as goal
+
+pub loop-i-init : goal.loop-i-init
+loop-i-init c = turning-none c.requires
+
+pub loop-i-preserved : goal.loop-i-preserved
+loop-i-preserved c = turning-more 4 (c.loop-i.at + 16) c.loop-i.invariant (omega arith) refl c.four_of_4.ensures
+
+pub returns : goal.returns
+returns c = turning-rest c.loop-i.invariant c.rest_of_4.ensures
