@@ -4,7 +4,6 @@ use Rattle.std.specs.Prelude.{Bool, ℕ, leb}
 use Rattle.walk.specs.Walk.{pick}
 use Rattle.rules.specs.Rules as R
 use Rattle.dates.specs.declared.DateJudged.{DateJudged}
-use Rattle.dates.specs.declared.DateJudged.TheVariants as DateJudged
 
 -- the first test of the three that fails
 abbrev pub first_wrong : Bool → Bool → Bool → DateJudged
