@@ -13,7 +13,6 @@ use Rattle.rules.specs.declared.Label.{Label}
 use Rattle.rules.specs.Rules.{Channel, sample_bytes, fixed, frame_rule, frame_body, frame}
 use Rattle.rules.specs.Rules as R
 use Rattle.records.specs.declared.Tested.{Tested}
-use Rattle.records.specs.declared.Tested.TheVariants as Tested
 use Rattle.records.specs.Asks.{BodyOf}
 use Rattle.records.specs.Says.{opened, ended, tested, stepped, Beyond, Advances}
 

@@ -6,7 +6,6 @@ use Rattle.rules.specs.Rules as R
 use Rattle.rules.proofs.Cases.{by_form}
 use Rattle.rules.specs.declared.Label.{Label}
 use Rattle.rules.specs.declared.Group.{Group}
-use Rattle.rules.specs.declared.Group.TheVariants as Group
 use Rattle.records.specs.Says.{group_of, is_group, sub_code, shape_of, CodeTells}
 
 pub told-group : (g : Group) → CodeTells (group_of g)

@@ -15,13 +15,10 @@ use Rattle.rules.specs.declared.Label.{Label}
 use Rattle.rules.specs.declared.Head.{Head}
 use Rattle.rules.proofs.Cases.{most-low}
 use Rattle.rules.specs.declared.Kind.{Kind}
-use Rattle.rules.specs.declared.Kind.TheVariants as Kind
 use Rattle.records.specs.Says.{headroom, head_of, fits_of, serial_of, as_rule, rule_of, Spans, Fitting, Admits, AdmittedBy, admitted, tested}
 use Rattle.records.specs.declared.kinds.Rule.{Rule}
 use Rattle.records.specs.declared.Step.{Step}
-use Rattle.records.specs.declared.Step.TheVariants as Step
 use Rattle.records.specs.declared.Tested.{Tested}
-use Rattle.records.specs.declared.Tested.TheVariants as Tested
 use Rattle.records.proofs.Steps.{next-stop, next-done, next-refused, next_more}
 
 -- a head that stands at byte p, admitted: the walk goes on 16 bytes behind p

@@ -18,7 +18,7 @@ use Rattle.walk.specs.Walk.{laid, Text, Walk, give, number, ◌>>=◌, ◌>>◌}
 use Rattle.walk.proofs.Laid.{laid-padding}
 use Rattle.walk.proofs.Seen.{yields-bind, yields-then, places, back, add-sub-add, eqb-add, then-gate, over-gate, over-goes, see-bind, then-skip, over-then, went, stopped, stays-goes, walks, see-read, over-give}
 use Rattle.rules.specs.declared.Label.{Label}
-use Rattle.rules.specs.Rules.{most_of, items_body, Head, head, admit, span, maker_code, next, zeros, padding, more, series, Item, item, item_size, item_bytes, item_list, between, dated, days_in, is_mains, basic_body, Channel, width, samples_in, samples_of, sample_bytes, number_list, samples, coded, fixed, Sub, Group, anything, field_if, channel_body, channel, channels, frames, channels_body, items}
+use Rattle.rules.specs.Rules.{most_of, items_body, Head, head, admit, span, maker_code, next, zeros, padding, more, series, Item, item, item_size, item_bytes, item_list, between, dated, days_in, is_mains, basic_body, Channel, width, samples_in, samples_of, sample_bytes, number_list, samples, coded, fixed, Sub, Group, anything, field_if, channel_body, channel, channels, channels_body, items}
 use Rattle.rules.proofs.Room.{stays-item, stays-item_list}
 use Rattle.records.specs.Says.{KeptOne, Kept, headroom}
 

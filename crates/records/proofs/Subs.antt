@@ -10,7 +10,6 @@ use Rattle.walk.proofs.Seen.{places, gates, over-gate}
 use Rattle.rules.specs.Rules.{Sub, field_if, channel_body}
 use Rattle.rules.proofs.Cases.{by_shape}
 use Rattle.records.specs.declared.Tested.{Tested}
-use Rattle.records.specs.declared.Tested.TheVariants as Tested
 use Rattle.records.specs.Says.{tested, resumed, sub_tested}
 
 -- of the one at `at`

@@ -9,31 +9,20 @@ use Rattle.rules.specs.Rules as R
 use Rattle.rules.specs.declared.Label.{Label}
 use Rattle.rules.specs.declared.Head.{Head}
 use Rattle.rules.specs.declared.Group.{Group}
-use Rattle.rules.specs.declared.Group.TheVariants as Group
 use Rattle.rules.specs.declared.Shape.{Shape}
 use Rattle.rules.specs.declared.Kind.{Kind}
-use Rattle.rules.specs.declared.Kind.TheVariants as Kind
 use Rattle.rules.specs.declared.Basic.{Basic}
 use Rattle.rules.specs.declared.Channels.{Channels}
 use Rattle.records.specs.declared.Headed.{Headed}
-use Rattle.records.specs.declared.Headed.TheVariants as Headed
 use Rattle.records.specs.declared.Step.{Step}
-use Rattle.records.specs.declared.Step.TheVariants as Step
 use Rattle.records.specs.declared.basic.Basiced.{Basiced}
-use Rattle.records.specs.declared.basic.Basiced.TheVariants as Basiced
 use Rattle.records.specs.declared.Tested.{Tested}
-use Rattle.records.specs.declared.Tested.TheVariants as Tested
 use Rattle.records.specs.declared.items.Holder.{Holder}
-use Rattle.records.specs.declared.items.Holder.TheVariants as Holder
 use Rattle.records.specs.declared.kinds.Rule.{Rule}
 use Rattle.records.specs.declared.kinds.Opened.{Opened}
-use Rattle.records.specs.declared.kinds.Opened.TheVariants as Opened
 use Rattle.records.specs.declared.kinds.Code.{Code}
-use Rattle.records.specs.declared.kinds.Code.TheVariants as Code
 use Rattle.records.specs.declared.kinds.Fits.{Fits}
-use Rattle.records.specs.declared.kinds.Fits.TheVariants as Fits
 use Rattle.records.specs.declared.kinds.Serial.{Serial}
-use Rattle.records.specs.declared.kinds.Serial.TheVariants as Serial
 
 -- a refusal, as a verdict
 abbrev pub halts : {A : Type 0} → Refusal → Verdict A

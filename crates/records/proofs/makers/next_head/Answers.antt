@@ -1,0 +1,84 @@
+-- `records::makers::next_head` meets its contract: the makers' records up to p are passed. Assumes nothing.
+use Rattle.records.proofs.Laws.{fueled-stop, fueled-done, fueled-refused, fueled-more}
+use lib.ListN.{length}
+use mathlib.Core.Path.{◌≡◌, ◌∙◌, sym, refl}
+use mathlib.Core.Bool.{true}
+use Rattle.walk.specs.See.{see}
+use Rattle.rules.specs.Rules.{head, maker_code}
+use Rattle.records.specs.Says.{headed, HeadPlaced}
+use Rattle.records.specs.declared.Headed.TheVariants as Headed
+use Prim.Native.Nat.{◌-◌, ◌+◌}
+use native.Mathlib.Omega.{arith}
+use borrow.Author.Rules.{rules}
+use Rattle.records.proofs.makers.next_head.Goals as goal
+
+-- the head that was read: where it stands, and what the walk comes to there
+placed : (x : goal.Then-not-maker_code) → HeadPlaced x.loop-h.p (length x.args.s.now) (Headed.At x.in-At.h)
+placed x = rw x.in-At.is at x.head_at-found.ensures.stands
+
+placed-2 : (x : goal.Else-not-maker_code) → HeadPlaced x.loop-h.p (length x.args.s.now) (Headed.At x.in-At.h)
+placed-2 x = rw x.in-At.is at x.head_at-found.ensures.stands
+
+placed-3 : (x : goal.After-of_step) → HeadPlaced x.loop-h.p (length x.args.s.now) (Headed.At x.in-At.h)
+placed-3 x = rw x.in-At.is at x.head_at-found.ensures.stands
+
+placed-4 : (x : goal.In-On) → HeadPlaced x.loop-h.p (length x.args.s.now) (Headed.At x.in-At.h)
+placed-4 x = rw x.in-At.is at x.head_at-found.ensures.stands
+
+read : (x : goal.Then-not-maker_code) →
+    let a = x.args in
+    see a.o a.base a.s.now (a.base + x.loop-h.p) (head (length a.s.now - x.loop-h.p)) ≡ headed a.base (Headed.At x.in-At.h)
+read x = rw x.in-At.is at x.head_at-found.ensures.seen
+
+read-2 : (x : goal.After-of_step) →
+    let a = x.args in
+    see a.o a.base a.s.now (a.base + x.loop-h.p) (head (length a.s.now - x.loop-h.p)) ≡ headed a.base (Headed.At x.in-At.h)
+read-2 x = rw x.in-At.is at x.head_at-found.ensures.seen
+
+read-3 : (x : goal.In-On) →
+    let a = x.args in
+    see a.o a.base a.s.now (a.base + x.loop-h.p) (head (length a.s.now - x.loop-h.p)) ≡ headed a.base (Headed.At x.in-At.h)
+read-3 x = rw x.in-At.is at x.head_at-found.ensures.seen
+
+-- it is a maker's
+made : (y : goal.After-of_step) → maker_code y.in-At.h.code ≡ true
+made y = sym y.maker_code.ensures ∙ y.if-not-maker_code.false
+
+made-2 : (y : goal.In-On) → maker_code y.in-At.h.code ≡ true
+made-2 y = sym y.maker_code.ensures ∙ y.if-not-maker_code.false
+
+pub loop-h-init : goal.loop-h-init
+loop-h-init c = (search rules, c.requires.low, λ fuel h. record { left = fuel; enough = h; same = refl })
+
+pub returns-in_default : goal.returns-in_default
+returns-in_default c = simp c.in_default.is (record { seen = (λ fuel h. fueled-stop (c.loop-h.invariant.2 fuel h) c.loop-h.invariant.1 (rw c.in_default.is at c.head_at-found.ensures.seen)); stands = tt })
+
+pub returns-then-not-maker_code : goal.returns-then-not-maker_code
+returns-then-not-maker_code c =
+    let w = placed c in
+    let inv = c.loop-h.invariant in
+    record { seen = (λ fuel h. fueled-done (inv.2 fuel h) inv.1 (read c) _ w.0 (sym c.maker_code.ensures ∙ (c.if-not-maker_code.true))); stands = record { low = omega arith; inside = omega arith } }
+
+pub admit-room-requires : goal.admit-room-requires
+admit-room-requires c = let w = placed-2 c in search rules
+
+pub returns-in_default-room : goal.returns-in_default-room
+returns-in_default-room c =
+    let a = c.args in
+    let inv = c.loop-h.invariant in
+    simp (c.of_step.ensures, c.in_default-room.is)
+    (record { seen = (λ fuel h. fueled-refused (inv.2 fuel h) inv.1 (read-2 c) _ (placed-3 c).0 (made c) (rw c.in_default-room.is at (c.admit-room.ensures.seen a.o a.base a.s.now))); stands = tt })
+
+pub loop-h-smaller : goal.loop-h-smaller
+loop-h-smaller c =
+    let w = placed-4 c in
+    let v = rw c.in-On.is at c.admit-room.ensures.stands in
+    omega arith
+
+pub loop-h-preserved : goal.loop-h-preserved
+loop-h-preserved c =
+    let a = c.args in
+    let inv = c.loop-h.invariant in
+    let w = placed-4 c in
+    let v = rw c.in-On.is at c.admit-room.ensures.stands in
+    (omega arith, omega arith, λ fuel h. fueled-more (inv.2 fuel h) inv.1 (read-3 c) _ w.0 (made-2 c) (rw c.in-On.is at (c.admit-room.ensures.seen a.o a.base a.s.now)) _ (omega arith) (omega arith) v.2)

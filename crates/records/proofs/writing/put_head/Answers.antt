@@ -1,0 +1,22 @@
+-- `records::writing::put_head` meets its contract: what is written piece by piece is the head.
+-- Assumes nothing.
+use mathlib.Core.Path.{sym}
+use native.Mathlib.Omega.{arith}
+use lib.Seq.{length-take-le}
+use Rattle.records.proofs.Heads.{head-written}
+use Rattle.records.proofs.writing.put_head.Goals as goal
+
+pub slice_bounds-put4-end-2 : goal.slice_bounds-put4-end-2
+slice_bounds-put4-end-2 c = sym (length-take-le 4 c.args.d.now (omega arith))
+
+pub put4-requires : goal.put4-requires
+put4-requires c = length-take-le 4 c.args.d.now (omega arith)
+
+pub returns : goal.returns
+returns c =
+    let a = c.args in
+    head-written a.to (record { size = a.size; code = a.code; serial = a.serial; multiplier = a.multiplier }) a.d.now _ _ _ _ c.requires
+    c.put4.ensures
+    c.put4-2.ensures
+    c.put4-3.ensures
+    c.put4-4.ensures
