@@ -20,18 +20,14 @@ use Rattle.rules.specs.declared.Refusal.{Refusal}
 use Rattle.rules.proofs.Room.{stays-basic}
 use Rattle.records.specs.declared.Headed.TheVariants as Headed
 use Rattle.records.specs.declared.basic.Basiced.{Basiced}
-use Rattle.records.specs.declared.basic.Basiced.TheVariants as Basiced
 use Rattle.records.specs.declared.items.Holder.TheVariants as Holder
 use Rattle.records.specs.Says.{halts, head_of, headroom, Headroom, basic_of, basiced, ok_of, HeadFrom, NextHead, subs_at, ChannelsStand}
 use Rattle.rules.specs.Rules.{descriptions}
 use Rattle.descriptions.specs.DescriptionsJudged.{HeldIs, HeldAs, Owned, Parts, parted, Keeps, DescribedBounds, held_at, channels_in, patient_in, count_in, place_of, ChannelsPart, MontagePart, ItemsPart, EventsPart, DescriptionsOf}
 use Rattle.descriptions.specs.declared.Before.{Before}
-use Rattle.descriptions.specs.declared.Before.TheVariants as Before
 use Rattle.descriptions.specs.declared.Held.{Held}
-use Rattle.descriptions.specs.declared.Held.TheVariants as Held
 use Rattle.descriptions.specs.declared.Part.{Part}
 use Rattle.descriptions.specs.declared.Parted.{Parted}
-use Rattle.descriptions.specs.declared.Parted.TheVariants as Parted
 use Rattle.descriptions.specs.declared.DescriptionsJudged.TheVariants as DescriptionsJudged
 use Rattle.descriptions.specs.declared.Described.{Described}
 use Rattle.descriptions.proofs.Parts.{bind_stops, bind_goes}

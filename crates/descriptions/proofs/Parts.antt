@@ -23,9 +23,7 @@ use Rattle.records.specs.Says.{halts, head_of, headroom, Headroom, ok_of}
 use Rattle.records.specs.declared.items.Holder.TheVariants as Holder
 use Rattle.descriptions.specs.DescriptionsJudged.{lacking, Follows, There, Stood, Meets, Judges, Behind, ItemsPart, EventsPart}
 use Rattle.descriptions.specs.declared.Held.{Held}
-use Rattle.descriptions.specs.declared.Held.TheVariants as Held
 use Rattle.descriptions.specs.declared.Parted.{Parted}
-use Rattle.descriptions.specs.declared.Parted.TheVariants as Parted
 
 -- a place that is held is not nothing
 pub at-nothing : {X : Type 0} {at : ℕ} → Held.At at ≡ Held.Nothing → X

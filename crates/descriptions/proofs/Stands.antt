@@ -26,7 +26,6 @@ use Rattle.records.proofs.Facts.{between_in}
 use Rattle.records.proofs.Steps.{yields-channels}
 use Rattle.descriptions.specs.DescriptionsJudged.{group_for, HeldIs, HeldAs, HeldWithin, Owned, PartValue, held_at, channels_in, count_in}
 use Rattle.descriptions.specs.declared.Before.{Before}
-use Rattle.descriptions.specs.declared.Before.TheVariants as Before
 
 -- a 100 that passed counts so many
 pub record CountsBounded (channels frames : ℕ) : Type 0 where

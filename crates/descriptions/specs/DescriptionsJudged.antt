@@ -9,27 +9,19 @@ use Rattle.walk.specs.See.{Verdict, goes, see, Goes, over}
 use Rattle.rules.specs.Rules as R
 use Rattle.rules.specs.declared.Form.TheVariants as Form
 use Rattle.rules.specs.declared.Group.{Group}
-use Rattle.rules.specs.declared.Group.TheVariants as Group
 use Rattle.rules.specs.declared.Head.{Head}
 use Rattle.rules.specs.declared.Kind.{Kind}
-use Rattle.rules.specs.declared.Kind.TheVariants as Kind
 use Rattle.rules.specs.declared.Label.{Label}
 use Rattle.rules.specs.declared.Refusal.{Refusal}
 use Rattle.records.specs.declared.basic.Basiced.{Basiced}
-use Rattle.records.specs.declared.basic.Basiced.TheVariants as Basiced
 use Rattle.records.specs.declared.items.Holder.{Holder}
-use Rattle.records.specs.declared.items.Holder.TheVariants as Holder
 use Rattle.records.specs.Says.{halts, head_of, basic_of, ok_of, Headroom, headroom, HeadFrom, subs_at, ChannelsIn, ChannelsStand}
 use Rattle.descriptions.specs.declared.Before.{Before}
-use Rattle.descriptions.specs.declared.Before.TheVariants as Before
 use Rattle.descriptions.specs.declared.Held.{Held}
-use Rattle.descriptions.specs.declared.Held.TheVariants as Held
 use Rattle.descriptions.specs.declared.Part.{Part}
 use Rattle.descriptions.specs.declared.Parted.{Parted}
-use Rattle.descriptions.specs.declared.Parted.TheVariants as Parted
 use Rattle.descriptions.specs.declared.Described.{Described}
 use Rattle.descriptions.specs.declared.DescriptionsJudged.{DescriptionsJudged}
-use Rattle.descriptions.specs.declared.DescriptionsJudged.TheVariants as DescriptionsJudged
 
 abbrev pub refusal_basic : Basiced → Refusal
 refusal_basic (Basiced.Holds b) = record { 0 = 0; 1 = 0 }

@@ -1,0 +1,80 @@
+-- `descriptions::channels_part` meets its contract: another code, a 120 or 320 that is refused, or the head behind one that passed.
+-- x: behind the test of the code; y: behind the 120 or 320. Assumes nothing.
+use mathlib.Core.Path.{◌≡◌, sym, ap, ◌∙◌}
+use Prim.Native.Nat.{◌+◌}
+use native.Mathlib.Omega.{arith}
+use lib.Dec.{eqb}
+use lib.ListN.{length}
+use Rattle.rules.specs.Rules as R
+use Rattle.rules.proofs.Room.{stays-channels_rest}
+use Rattle.records.specs.Says.{group_of}
+use Rattle.descriptions.specs.DescriptionsJudged.{Owned}
+use Rattle.descriptions.proofs.Parts.{judges-absent, judges-stop, judges-behind, follows-lacking, follows-stood}
+use Rattle.descriptions.proofs.Stands.{group-is, owned}
+use borrow.Author.Rules.{rules}
+use Rattle.descriptions.proofs.channels_part.Goals as goal
+
+-- the group, as the rules have it
+abbrev group : goal.After-absent → R.Group
+group x = R.channels_group x.args.label x.args.channels
+
+abbrev group-2 : goal.After-of_step → R.Group
+group-2 x = R.channels_group x.args.label x.args.channels
+
+abbrev group-3 : goal.After-behind → R.Group
+group-3 x = R.channels_group x.args.label x.args.channels
+
+grouped : (x : goal.After-absent) → group_of x.group_for-g.result ≡ group x
+grouped x = ap group_of x.group_for-g.ensures ∙ group-is x.args.label x.args.channels
+
+grouped-2 : (x : goal.After-of_step) → group_of x.group_for-g.result ≡ group-2 x
+grouped-2 x = ap group_of x.group_for-g.ensures ∙ group-is x.args.label x.args.channels
+
+grouped-3 : (x : goal.After-behind) → group_of x.group_for-g.result ≡ group-3 x
+grouped-3 x = ap group_of x.group_for-g.ensures ∙ group-is x.args.label x.args.channels
+
+-- the test of the code
+coded : (x : goal.After-absent) → eqb x.args.h.code (group x).code ≡ x.has_code.result
+coded x = sym (x.has_code.ensures ∙ ap (eqb x.args.h.code) (x.group_code.ensures ∙ ap (λ (g : R.Group). g.code) (grouped x)))
+
+coded-2 : (x : goal.After-of_step) → eqb x.args.h.code (group-2 x).code ≡ x.has_code.result
+coded-2 x = sym (x.has_code.ensures ∙ ap (eqb x.args.h.code) (x.group_code.ensures ∙ ap (λ (g : R.Group). g.code) (grouped-2 x)))
+
+coded-3 : (x : goal.After-behind) → eqb x.args.h.code (group-3 x).code ≡ x.has_code.result
+coded-3 x = sym (x.has_code.ensures ∙ ap (eqb x.args.h.code) (x.group_code.ensures ∙ ap (λ (g : R.Group). g.code) (grouped-3 x)))
+
+pub returns-then-not-has_code : goal.returns-then-not-has_code
+returns-then-not-has_code c =
+    let a = c.args in
+    let other = coded c ∙ c.if-not-has_code.true in
+    rw c.absent.ensures (record {
+      told = judges-absent a.o a.label a.base a.s.now (group c).code (R.channels (group c)) (Owned a.o a.s.now a.h.at a.channels) a.h a.held other;
+      follows = follows-lacking a.base (length a.s.now) a.h a.held c.requires.inside;
+    })
+
+pub returns-in_default : goal.returns-in_default
+returns-in_default c =
+    let a = c.args in
+    let same = coded-2 c ∙ c.if-not-has_code.false in
+    simp (c.of_step.ensures, c.in_default.is) (record {
+      told = judges-stop a.o a.label a.base a.s.now (group-2 c).code (R.channels (group-2 c)) (Owned a.o a.s.now a.h.at a.channels) a.h a.held same _ (rw (grouped-2 c, c.in_default.is) at c.channels_at-step.ensures.seen);
+      follows = tt;
+    })
+
+pub behind-requires : goal.behind-requires
+behind-requires c =
+    let w = rw c.in-On.is at c.channels_at-step.ensures.stands in
+    record { start = omega arith; inside = w.inside; short = search rules }
+
+pub returns : goal.returns
+returns c =
+    let a = c.args in
+    let s = a.s.now in
+    let same = coded-3 c ∙ c.if-not-has_code.false in
+    let q = c.in-On.end in
+    let w = rw c.in-On.is at c.channels_at-step.ensures.stands in
+    record {
+      told = judges-behind a.o a.label a.base s (group-3 c).code (R.channels (group-3 c)) (Owned a.o s a.h.at a.channels) a.h a.held same (stays-channels_rest (group-3 c)) q c.requires.inside w.inside
+          (rw (grouped-3 c, c.in-On.is) at c.channels_at-step.ensures.seen) (owned a.o a.base s a.label _ _ a.h.at q a.channels w.inside) c.behind.result c.behind.ensures;
+      follows = follows-stood (a.base + a.h.at) a.h.at q (length s) c.behind.result (omega arith) c.behind.ensures.stands;
+    }

@@ -1,0 +1,58 @@
+-- `descriptions::montage_part` meets its contract: another code, a 350 that its form or a test refuses, or the head behind one that passed.
+-- x: behind the test of the code; y: behind the 350. Assumes nothing.
+use mathlib.Core.Path.{sym, ◌∙◌}
+use Prim.Native.Nat.{◌+◌}
+use native.Mathlib.Omega.{arith}
+use lib.ListN.{length}
+use Rattle.rules.specs.Rules as R
+use Rattle.rules.proofs.Room.{stays-montage_rest}
+use Rattle.descriptions.specs.declared.Held.TheVariants as Held
+use Rattle.descriptions.proofs.Parts.{judges-absent, judges-stop, judges-behind, follows-lacking, follows-stood}
+use Rattle.descriptions.proofs.Stands.{montage-none, montage-some}
+use borrow.Author.Rules.{rules}
+use Rattle.descriptions.proofs.montage_part.Goals as goal
+
+pub returns-then-not-has_code : goal.returns-then-not-has_code
+returns-then-not-has_code c =
+    let a = c.args in
+    rw c.absent.ensures (record {
+      told = λ cs e. judges-absent a.o a.label a.base a.s.now 350 (R.montage a.label cs) (λ _. Unit {0}) a.h (Held.At 0) (sym c.has_code.ensures ∙ c.if-not-has_code.true);
+      follows = follows-lacking a.base (length a.s.now) a.h (Held.At 0) c.requires.inside;
+    })
+
+pub returns-in_default : goal.returns-in_default
+returns-in_default c =
+    let a = c.args in
+    let same = sym c.has_code.ensures ∙ c.if-not-has_code.false in
+    record {
+      told = λ cs e. judges-stop a.o a.label a.base a.s.now 350 (R.montage a.label cs) (λ _. Unit {0}) a.h (Held.At 0) same _ (montage-none a.o a.base a.s.now a.label c.in_default.is cs a.h);
+      follows = tt;
+    }
+
+pub returns-in_default-step : goal.returns-in_default-step
+returns-in_default-step c =
+    let a = c.args in
+    let same = sym c.has_code.ensures ∙ c.if-not-has_code.false in
+    simp (c.of_step.ensures, c.in_default-step.is) (record {
+      told = λ cs e. judges-stop a.o a.label a.base a.s.now 350 (R.montage a.label cs) (λ _. Unit {0}) a.h (Held.At 0) same _
+          (rw (montage-some a.label c.in-Electrodes.is cs _ _, e) (rw c.in_default-step.is at c.channels_at-step.ensures.seen));
+      follows = tt;
+    })
+
+pub behind-requires : goal.behind-requires
+behind-requires c =
+    let w = rw c.in-On.is at c.channels_at-step.ensures.stands in
+    record { start = omega arith; inside = w.inside; short = search rules }
+
+pub returns : goal.returns
+returns c =
+    let a = c.args in
+    let s = a.s.now in
+    let same = sym c.has_code.ensures ∙ c.if-not-has_code.false in
+    let q = c.in-On.end in
+    let w = rw c.in-On.is at c.channels_at-step.ensures.stands in
+    record {
+      told = λ cs e. judges-behind a.o a.label a.base s 350 (R.montage a.label cs) (λ _. Unit {0}) a.h (Held.At 0) same (stays-montage_rest a.label cs) q c.requires.inside w.inside
+          (rw (montage-some a.label c.in-Electrodes.is cs _ _, e) (rw c.in-On.is at c.channels_at-step.ensures.seen)) (λ _ _. tt) c.behind.result c.behind.ensures;
+      follows = follows-stood (a.base + a.h.at) a.h.at q (length s) c.behind.result (omega arith) c.behind.ensures.stands;
+    }
