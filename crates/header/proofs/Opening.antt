@@ -23,7 +23,6 @@ use Rattle.rules.specs.Rules.{between, same_bytes, one_of, is_spelling, spelling
 use Rattle.header.specs.Letters.{lettered}
 use Rattle.header.specs.Opened.{names}
 use Rattle.header.specs.declared.Lettered.{Lettered}
-use Rattle.header.specs.declared.Lettered.TheVariants as Lettered
 
 -- which of several things bytes name, by the answer of the comparison with the text of the first
 module _ {A : Type 0} (text : A → List ℕ) (a b : A) (others : List A) (bs : List ℕ) (x : Bool) (is : x ≡ same_bytes bs (text a)) where

@@ -7,7 +7,6 @@ use Rattle.walk.specs.Walk.{pick}
 use Rattle.rules.specs.declared.Heading.{Heading}
 use Rattle.rules.specs.Rules as R
 use Rattle.header.specs.declared.Lettered.{Lettered}
-use Rattle.header.specs.declared.Lettered.TheVariants as Lettered
 
 -- the order that a byte names: L or B
 unfoldable pub lettered : ℕ → Lettered

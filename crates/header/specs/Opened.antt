@@ -9,8 +9,6 @@ use Rattle.records.specs.Says.{halts}
 use Rattle.header.specs.Letters.{heading_of}
 use Rattle.header.specs.declared.Lettered.{Lettered}
 use Rattle.header.specs.declared.Opened.{Opened}
-use Rattle.header.specs.declared.Lettered.TheVariants as Lettered
-use Rattle.header.specs.declared.Opened.TheVariants as Opened
 
 -- whether it names one
 abbrev pub names : Lettered → Bool
