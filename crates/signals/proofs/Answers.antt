@@ -25,16 +25,12 @@ use Rattle.rules.specs.declared.Refusal.{Refusal}
 use Rattle.rules.proofs.Room.{stays-frames_body}
 use Rattle.records.specs.Says.{halts, head_of, basic_of, tested, resumed, Advances, ChannelsStand, AdmittedBy, FramesOver}
 use Rattle.records.specs.declared.Step.{Step}
-use Rattle.records.specs.declared.Step.TheVariants as Step
 use Rattle.records.specs.declared.Tested.{Tested}
-use Rattle.records.specs.declared.Tested.TheVariants as Tested
 use Rattle.signals.specs.FramesJudged.{frames_of, framed, FramesAt}
 use Rattle.signals.specs.Shaped.{field_tests, behind_fields, FieldsTested, RestRead, BodyRead}
 use Rattle.signals.specs.declared.frames.FramesJudged.{FramesJudged}
-use Rattle.signals.specs.declared.frames.FramesJudged.TheVariants as FramesJudged
 use Rattle.signals.specs.declared.frames.Shape.{Shape}
 use Rattle.signals.specs.declared.frames.Shaped.{Shaped}
-use Rattle.signals.specs.declared.frames.Shaped.TheVariants as Shaped
 use Rattle.signals.proofs.FramesBody.{size_fits}
 
 -- what `read_shape` answers at each return: t, size and n are the fields

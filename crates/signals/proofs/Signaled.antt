@@ -23,7 +23,6 @@ use Rattle.rules.specs.declared.Refusal.{Refusal}
 use Rattle.rules.proofs.Room.{stays-frames_rest}
 use Rattle.records.specs.declared.Headed.TheVariants as Headed
 use Rattle.records.specs.declared.Tested.{Tested}
-use Rattle.records.specs.declared.Tested.TheVariants as Tested
 use Rattle.records.specs.Says.{halts, head_of, tested, Headroom, headroom, NextHead}
 use Rattle.rules.specs.Rules.{Descriptions, signals}
 use Rattle.descriptions.proofs.Stands.{yields-past}

@@ -12,7 +12,6 @@ use Rattle.rules.specs.declared.Head.{Head}
 use Rattle.records.specs.Says.{halts, head_of, basic_of, HeadFrom, From, ChannelsIn, ChannelsStand}
 use Rattle.descriptions.specs.DescriptionsJudged.{BodyAt}
 use Rattle.signals.specs.declared.frames.FramesJudged.{FramesJudged}
-use Rattle.signals.specs.declared.frames.FramesJudged.TheVariants as FramesJudged
 
 -- what the code keeps of a 140
 abbrev pub frames_of : R.Frames → Frames

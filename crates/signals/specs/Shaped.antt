@@ -13,10 +13,8 @@ use Rattle.records.specs.Asks.{BodyOf}
 use Rattle.records.specs.Says.{halts, ChannelsIn, ChannelsStand}
 use Rattle.signals.specs.FramesJudged.{frames_of, framed}
 use Rattle.signals.specs.declared.frames.FramesJudged.{FramesJudged}
-use Rattle.signals.specs.declared.frames.FramesJudged.TheVariants as FramesJudged
 use Rattle.signals.specs.declared.frames.Shape.{Shape}
 use Rattle.signals.specs.declared.frames.Shaped.{Shaped}
-use Rattle.signals.specs.declared.frames.Shaped.TheVariants as Shaped
 
 -- T, the frame length and the count of frames are tested, in a 140 of so many bytes at `at`; then the verdict that follows
 unfoldable pub field_tests : (at bytes total multiplier : ℕ) → List R.Channel → (t size n : ℕ) → Verdict R.Frames → Verdict R.Frames

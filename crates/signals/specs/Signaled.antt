@@ -14,7 +14,6 @@ use Rattle.records.specs.Says.{halts, head_of, basic_of, ChannelsStand}
 use Rattle.rules.specs.Rules.{Descriptions}
 use Rattle.descriptions.specs.DescriptionsJudged.{BodyAt}
 use Rattle.signals.specs.declared.frames.FramesJudged.{FramesJudged}
-use Rattle.signals.specs.declared.frames.FramesJudged.TheVariants as FramesJudged
 
 abbrev pub refusal_f : FramesJudged → Refusal
 refusal_f (FramesJudged.On f q) = record { 0 = 0; 1 = 0 }
