@@ -17,7 +17,6 @@ use Rattle.rules.proofs.Rows.{judge-rows}
 use Rattle.header.specs.Letters.{heading_of}
 use Rattle.judge.specs.Judged.{AcceptedAs, JudgedAs}
 use Rattle.judge.specs.declared.Judged.{Judged}
-use Rattle.judge.specs.declared.Judged.TheVariants as Judged
 use Rattle.judge.proofs.Verdicts.{accepted-seen}
 
 -- the judge's answer where it is a header

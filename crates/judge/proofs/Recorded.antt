@@ -43,7 +43,6 @@ use Rattle.signals.specs.declared.frames.FramesJudged.TheVariants as FramesJudge
 use Rattle.signals.proofs.Signaled.{yields-signals}
 use Rattle.judge.specs.Recorded.{places_of, places_for, Places-of, recorded, PlacedIn, RecordingIn, BodyIn, BodyJudged, RecordingAt, BodyAgain, RecordingAgain}
 use Rattle.judge.specs.declared.recording.Recorded.{Recorded}
-use Rattle.judge.specs.declared.recording.Recorded.TheVariants as Recorded
 
 -- the place of a part of a recording at `start`, whose body has n bytes: by the room, as the descriptions have it, and as the layout has it
 part-place : (start n room bytes at : ℕ) → bytes ≡ 16 + n → at ≡ bytes - room → place_of (start + 16) n room ≡ start + at

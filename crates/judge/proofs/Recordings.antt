@@ -20,7 +20,6 @@ use Rattle.records.specs.Says.{halts}
 use Rattle.records.proofs.Steps.{ends-cons}
 use Rattle.descriptions.specs.DescriptionsJudged.{HeldAs}
 use Rattle.descriptions.specs.declared.Before.{Before}
-use Rattle.descriptions.specs.declared.Before.TheVariants as Before
 use Rattle.descriptions.specs.declared.Places.{Places}
 use Rattle.descriptions.proofs.Stands.{yields-past}
 use Rattle.judge.specs.Recorded.{leaves, Places-of}

@@ -23,7 +23,6 @@ use Rattle.rules.proofs.Room.{stays-file_header, stays-file}
 use Rattle.header.specs.Letters.{heading_of}
 use Rattle.judge.specs.Judged.{AcceptedAs, JudgedAs}
 use Rattle.judge.specs.declared.Judged.{Judged}
-use Rattle.judge.specs.declared.Judged.TheVariants as Judged
 use Rattle.judge.proofs.Recordings.{yields-recordings}
 
 -- the file with this header whose recordings end at q

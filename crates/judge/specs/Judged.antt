@@ -7,9 +7,7 @@ use Rattle.rules.specs.declared.FileHeader.{FileHeader}
 use Rattle.rules.specs.declared.Refusal.{Refusal}
 use Rattle.header.specs.Letters.{heading_of}
 use Rattle.judge.specs.declared.Judged.{Judged}
-use Rattle.judge.specs.declared.Judged.TheVariants as Judged
 use Rattle.judge.specs.declared.recording.Recorded.{Recorded}
-use Rattle.judge.specs.declared.recording.Recorded.TheVariants as Recorded
 
 abbrev pub refusal_r : Recorded → Refusal
 refusal_r (Recorded.On q) = record { 0 = 0; 1 = 0 }

@@ -10,12 +10,10 @@ use Rattle.rules.specs.Rules as R
 use Rattle.rules.specs.declared.Label.{Label}
 use Rattle.records.specs.Says.{halts, subs_at, ChannelsIn}
 use Rattle.descriptions.specs.declared.Before.{Before}
-use Rattle.descriptions.specs.declared.Before.TheVariants as Before
 use Rattle.descriptions.specs.declared.Places.{Places}
 use Rattle.descriptions.specs.declared.Described.{Described}
 use Rattle.descriptions.specs.DescriptionsJudged.{channels_in, patient_in, held_at, HeldWithin, HeldAs}
 use Rattle.judge.specs.declared.recording.Recorded.{Recorded}
-use Rattle.judge.specs.declared.recording.Recorded.TheVariants as Recorded
 
 -- where a recording that starts here stands, as the walk's value has it: a 120 or 320, or a 130, of its own, or the one taken over from before
 abbrev pub places_of : ℕ → Before → R.Placed → Places

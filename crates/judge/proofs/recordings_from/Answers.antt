@@ -1,0 +1,34 @@
+-- `judge::recordings_from` meets its contract. The loop's invariant: the recordings up to i are read, and the walk goes on at byte p.
+-- The measure is how many are left. x: behind the next one; w: at the loop. Assumes nothing.
+use native.Mathlib.Nat.{zero-add}
+use native.Mathlib.Omega.{arith}
+use borrow.Author.Rules.{rules}
+use Rattle.judge.proofs.Recordings.{going_start, going-none, going-stop, going_on}
+use Rattle.judge.proofs.recordings_from.Goals as goal
+
+pub loop-i-init : goal.loop-i-init
+loop-i-init c = record { few = search rules; place = record { low = search rules; inside = search rules }; held = tt; going = going_start }
+
+pub returns-in_default : goal.returns-in_default
+returns-in_default c =
+    let e = c.in_default.is in
+    let g = c.loop-i.invariant.going in
+    let k = rw e at c.recording_at-step.ensures in
+    rw (c.of_recording.ensures, e) (record { seen = going-stop g c.loop-i-test.true (k.told g.held g.holds); stands = tt })
+
+pub loop-i-preserved : goal.loop-i-preserved
+loop-i-preserved c =
+    let i = c.loop-i.invariant in
+    let k = rw c.in-On.is at c.recording_at-step.ensures in
+    let n = k.continues in
+    record {
+      few = omega arith;
+      place = record { low = omega (arith, i.place.low, n.start); inside = n.end };
+      held = n.channels;
+      going = going_on i.going c.loop-i-test.true i.place.inside (k.told i.going.held i.going.holds);
+    }
+
+pub returns : goal.returns
+returns c =
+    let i = c.loop-i.invariant in
+    record { seen = rw (zero-add c.loop-i.p) (going-none i.going c.loop-i-test.false); stands = i.place }
