@@ -14,11 +14,9 @@ use Rattle.rules.specs.declared.Refusal.{Refusal}
 use Rattle.rules.specs.Rules.{Held, Placed, recording}
 use Rattle.descriptions.specs.DescriptionsJudged.{HeldWithin, HeldAs}
 use Rattle.descriptions.specs.declared.Before.{Before}
-use Rattle.descriptions.specs.declared.Before.TheVariants as Before
 use Rattle.descriptions.specs.declared.Places.{Places}
 use Rattle.judge.specs.Recorded.{places_of, leaves, Places-of, Continues, RecordingAgain}
 use Rattle.judge.specs.declared.recording.Recorded.{Recorded}
-use Rattle.judge.specs.declared.recording.Recorded.TheVariants as Recorded
 use Rattle.children.specs.Children.{Said, said, ◌then◌}
 use Rattle.children.specs.Recordings.{all_of, ReadAs}
 use Rattle.children.proofs.Saying.{nothing}

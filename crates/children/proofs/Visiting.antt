@@ -20,7 +20,6 @@ use Rattle.rules.specs.Rules.{most_of, Head, head, admit, span, limit, basic_bod
 use Rattle.records.specs.Says.{head_of, is_group}
 use Rattle.children.specs.Children.{Said, ◌then◌, Known, Heads, Inner, is100, is_subs, is130, is200, is140, is_maker, Links, more, last, Parted, Chain, Closed, RecordAt, NoRecord, Visits}
 use Rattle.children.specs.declared.Direct.{Direct}
-use Rattle.children.specs.declared.Direct.TheVariants as Direct
 
 -- the cursor's answer where it is a record
 pub recorded : {o : Order} {b : ℕ} {s : List ℕ} {p : ℕ} {a : Direct} {h : At.Head} {q : ℕ} → a ≡ Direct.Record h q → Visits o b s p a → RecordAt o b s p h q

@@ -11,7 +11,6 @@ use Rattle.rules.specs.declared.Label.{Label}
 use Rattle.rules.specs.Rules.{Head, Basic, Group, Channel, Placed, head, basic_rule, maker_rule, any_rule, admit_by, span, basic_body, channels, items, patient_code, event_code, frames, maker_code, delimiter, padding}
 use Rattle.records.specs.Says.{head_of, CodeTells}
 use Rattle.children.specs.declared.Direct.{Direct}
-use Rattle.children.specs.declared.Direct.TheVariants as Direct
 
 -- what a walk says on its way: the rows that it lists, and its events
 pub record Said : Type 0 where

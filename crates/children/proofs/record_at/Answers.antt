@@ -10,16 +10,12 @@ use Rattle.rules.specs.declared.Head.{Head}
 use Rattle.rules.specs.declared.Refusal.{Refusal}
 use Rattle.records.specs.Says.{head_of, HeadAt, AdmittedBy}
 use Rattle.records.specs.declared.Headed.{Headed}
-use Rattle.records.specs.declared.Headed.TheVariants as Headed
 use Rattle.records.specs.declared.Step.{Step}
-use Rattle.records.specs.declared.Step.TheVariants as Step
 use Rattle.rules.specs.declared.Kind.TheVariants as Kind
 use Rattle.records.proofs.Laws.{admitted-at}
 use Rattle.children.specs.Children.{Heads, RecordAt, NoRecord}
 use Rattle.children.proofs.Visiting.{none-headless, none-delimiter, none-refused}
-use borrow.Author.Rules.{rules}
-use Rattle.children.proofs.record_at.Statement.{statement}
-use Rattle.children.proofs.record_at.Tie as tie
+use Rattle.children.proofs.record_at.Goals as goal
 
 -- the head h stands at byte p of the part s
 record There (o : Order) (b : ℕ) (s : List ℕ) (p : ℕ) (h : Head) : Type 0 where
@@ -52,52 +48,43 @@ module _ {o : Order} {b : ℕ} {s : List ℕ} {p : ℕ} {h : Head} where
         inside = w.stands.1;
       }
 
--- the start, seen from behind the head, and the head, from behind its admission
-abbrev start : tie.After-found → tie.Start
-start x = x.before.before.before.before
-
-abbrev at-found : tie.After-admit → tie.After-found
-at-found y = y.before.before.before.before
-
 -- the head that was found
-found : (x : tie.After-found) →
-    let a = (start x).args in
-    There a.o a.base a.s.now a.p x.found.given.0.0
-found x = there x.found.given.1 x.before.before.head_at.ensures
+found : (x : goal.Then-h-eq-CODE) →
+    let a = x.args in
+    There a.o a.base a.s.now a.p x.in-At.h
+found x = there x.in-At.is x.head_at-found.ensures
 
-returns : tie.Need-returns
-returns c =
-    none-headless (rw c.enum_told.given.1 at c.before.before.head_at.ensures.seen)
+found-2 : (x : goal.Else-h-eq-CODE) →
+    let a = x.args in
+    There a.o a.base a.s.now a.p x.in-At.h
+found-2 x = there x.in-At.is x.head_at-found.ensures
 
-returns-2 : tie.Need-returns-2
-returns-2 c = none-delimiter (found c.before.before.before).heads c.if1.true
+found-3 : (x : goal.In_default-room) →
+    let a = x.args in
+    There a.o a.base a.s.now a.p x.in-At.h
+found-3 x = there x.in-At.is x.head_at-found.ensures
 
-admit-requires : tie.Need-admit-requires
-admit-requires c κs =
-    let t = found c.before.before.before in
+found-4 : (x : goal.In-On) →
+    let a = x.args in
+    There a.o a.base a.s.now a.p x.in-At.h
+found-4 x = there x.in-At.is x.head_at-found.ensures
+
+pub returns-in_default : goal.returns-in_default
+returns-in_default c =
+    none-headless (rw c.in_default.is at c.head_at-found.ensures.seen)
+
+pub returns-then-h-eq-CODE : goal.returns-then-h-eq-CODE
+returns-then-h-eq-CODE c = none-delimiter (found c).heads c.if-h-eq-CODE.true
+
+pub admit-room-requires : goal.admit-room-requires
+admit-room-requires c =
+    let t = found-2 c in
     record { low = omega (arith, t.place, t.inside); short = omega (arith, t.place, t.inside) }
 
-returns-3 : tie.Need-returns-3
-returns-3 c =
-    let y = c.before.before in
-    refused (found (at-found y)) c.enum-told2.given.1 y.admit.ensures
+pub returns-in_default-room : goal.returns-in_default-room
+returns-in_default-room c =
+    refused (found-3 c) c.in_default-room.is c.admit-room.ensures
 
-returns-4 : tie.Need-returns-4
-returns-4 c =
-    let y = c.before.before.before in
-    admitted (found (at-found y)) y.before.if1.false c.before.room.given.1 y.admit.ensures
-
-pub record-at-spec : {M : Type 1} → statement M
-record-at-spec =
-    tie.close
-    (tie.spec
-    (λ c κs. search rules)
-    (λ c. search rules)
-    (λ c. search rules)
-    returns
-    returns-2
-    admit-requires
-    (λ c. search rules)
-    (λ c. search rules)
-    returns-3
-    returns-4)
+pub returns : goal.returns
+returns c =
+    admitted (found-4 c) c.if-h-eq-CODE.false c.in-On.is c.admit-room.ensures
