@@ -9,7 +9,6 @@ use Rattle.walk.specs.Walk.{Walk, ◌>>◌, reserve, pick}
 use Rattle.rules.specs.Rules as R
 use Rattle.bodies.specs.declared.Way.{Way}
 use Rattle.bodies.specs.declared.Widths.{Widths}
-use Rattle.bodies.specs.declared.Widths.TheVariants as Widths
 
 -- the bytes of the events of a walk over the part s of the file, which stands at b, written anew
 abbrev pub copy : {A : Type 0} → Way → ℕ → List ℕ → ℕ → Walk A → List ℕ
