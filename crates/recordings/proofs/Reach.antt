@@ -27,13 +27,11 @@ use Rattle.records.proofs.Facts.{between_in}
 use Rattle.descriptions.specs.DescriptionsJudged.{channels_in, patient_in}
 use Rattle.descriptions.specs.DescriptionsJudged as DescriptionsJudged
 use Rattle.descriptions.specs.declared.Before.{Before}
-use Rattle.descriptions.specs.declared.Before.TheVariants as Before
 use Rattle.descriptions.specs.declared.Held.{Held}
 use Rattle.descriptions.specs.declared.Places.{Places}
 use Rattle.judge.specs.Judged.{AcceptedAs}
 use Rattle.judge.specs.Recorded.{places_of, Continues, RecordingAgain}
 use Rattle.judge.specs.declared.recording.Recorded.{Recorded}
-use Rattle.judge.specs.declared.recording.Recorded.TheVariants as Recorded
 use Rattle.judge.proofs.Accepted.{went}
 use Rattle.children.proofs.Recordings.{passed-next, Sofar, sofar-start}
 use Rattle.children.proofs.Again.{Knowing, Next, again-stop, again-next}

@@ -13,12 +13,10 @@ use Rattle.descriptions.specs.declared.Places.{Places}
 use Rattle.judge.specs.Judged.{AcceptedAs}
 use Rattle.judge.specs.Recorded.{HeaderIn}
 use Rattle.judge.specs.declared.recording.Recorded.{Recorded}
-use Rattle.judge.specs.declared.recording.Recorded.TheVariants as Recorded
 use Rattle.recordings.specs.Answers.{value, refusal, numbered}
 use Rattle.recordings.specs.Recordings.{Chosen, recording_of, start_of, at120, at130}
 use Rattle.recordings.specs.declared.Counts.{Counts}
 use Rattle.recordings.specs.declared.RecordingFound.{RecordingFound}
-use Rattle.recordings.specs.declared.RecordingFound.TheVariants as RecordingFound
 
 abbrev pub refusal_recording : RecordingFound → Refusal
 refusal_recording (RecordingFound.At o q) = record { 0 = 0; 1 = 0 }
