@@ -7,7 +7,6 @@ use Rattle.recordings.specs.Answers.{Answer, value, refusal}
 use Rattle.codes.specs.Codes.{meaning, KindAnswer}
 use Rattle.codes.specs.declared.EventKind.{EventKind}
 use Rattle.codes.specs.declared.KindTold.{KindTold}
-use Rattle.codes.specs.declared.KindTold.TheVariants as KindTold
 
 -- the answer of the code, from what it means
 abbrev pub told : Answer EventKind → KindTold

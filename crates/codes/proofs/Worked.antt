@@ -6,7 +6,6 @@ use Prim.Native.Nat.{ℕ}
 use Rattle.recordings.specs.Answers.{value, outside}
 use Rattle.codes.specs.Codes.{published, kind_in, kind_told}
 use Rattle.codes.specs.declared.EventKind.{EventKind}
-use Rattle.codes.specs.declared.EventKind.TheVariants as EventKind
 
 -- these codes are of this kind
 abbrev Are : EventKind → List ℕ → Type 0

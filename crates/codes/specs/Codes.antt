@@ -4,9 +4,7 @@ use Rattle.std.specs.Prelude.{◌≡◌, List, [], ◌∷◌, ℕ, ◌/◌, ◌%
 use Rattle.walk.specs.Walk.{pick}
 use Rattle.recordings.specs.Answers.{Answer, value, refusal, outside, indexed}
 use Rattle.codes.specs.declared.EventKind.{EventKind}
-use Rattle.codes.specs.declared.EventKind.TheVariants as EventKind
 use Rattle.codes.specs.declared.KindTold.{KindTold}
-use Rattle.codes.specs.declared.KindTold.TheVariants as KindTold
 use Rattle.codes.specs.declared.Published.{Published}
 
 -- a published code, and its kind
