@@ -1,13 +1,13 @@
 -- Tests that make no sum and no product, which could be too large; the part of a file that a place names; and the samples in its bytes.
 -- Assumes nothing.
 use mathlib.Core.Path.{◌≡◌, refl, sym, ap, ◌∙◌}
-use mathlib.Core.Bool.{Bool, true, false, not}
+use mathlib.Core.Bool.{Bool, true, false}
 use mathlib.Core.List.{List, [], ◌∷◌}
 use Prim.Native.Nat.{ℕ, zero, suc, ◌+◌, ◌-◌, ◌*◌, ◌/◌, ◌≤◌, ◌<◌}
 use native.Mathlib.Nat.{zero-add, mul_comm, mul-add, mul-le-mul_left, le-div_iff_mul-le}
 use native.Mathlib.Omega.{arith}
-use borrow.Author.Tests.{le-leb, lt-leb, leb-true, leb-false, not-true, not-false}
-use borrow.Rule.Slice.PartAt.{sl_part}
+use borrow.Author.Tests.{le-leb, lt-leb, leb-true, leb-false}
+use borrow.Rule.Slice.PartAt.{sl_partˢ}
 use denote.Ref.{Bor}
 use lib.Dec.{leb}
 use lib.ListN.{length, get_or, take, drop, length-drop}
@@ -18,7 +18,7 @@ use Rattle.walk.proofs.Seen.{part-number}
 use Rattle.rules.specs.Rules.{order_of, width}
 use Rattle.rules.specs.Reading.{Value, value_of}
 use Rattle.descriptions.specs.declared.Places.{Places}
-use Rattle.recordings.specs.Answers.{Answer, value, indexed}
+use Rattle.recordings.specs.Answers.{value, indexed}
 use Rattle.recordings.proofs.Chosen.{answered}
 use Rattle.samples.specs.Asked.{RunIn}
 use Rattle.samples.specs.Frames.{Samples, samples_of}
@@ -48,11 +48,11 @@ fits-times room w count h =
     same_test count (room / w) (w * count) room (λ l. omega (arith, (le-div_iff_mul-le h).0 l, mul_comm w count)) (λ l. (le-div_iff_mul-le h).1 (omega (arith, l, mul_comm w count)))
 
 -- what a test says that the code made, and went on from its outcome
-pub tested-out : (a b : ℕ) {r : Bool} → r ≡ leb a b → not r ≡ true → b < a
-tested-out a b {r} e h = leb-false a b (sym e ∙ not-true r h)
+pub tested-out : (a b : ℕ) {r : Bool} → r ≡ leb a b → r ≡ false → b < a
+tested-out a b {r} e h = leb-false a b (sym e ∙ h)
 
-pub tested-in : (a b : ℕ) {r : Bool} → r ≡ leb a b → not r ≡ false → a ≤ b
-tested-in a b {r} e h = leb-true a b (sym e ∙ not-false r h)
+pub tested-in : (a b : ℕ) {r : Bool} → r ≡ leb a b → r ≡ true → a ≤ b
+tested-in a b {r} e h = leb-true a b (sym e ∙ h)
 
 -- The part of a file of n bytes
 
@@ -80,9 +80,9 @@ module _ (n : ℕ) (p : Place) where
       go false e = rw (part-outside (leb-false (p.position + p.width * p.count) n e)) (omega arith)
 
 -- a part of the file, as the code makes it
-pub cut : (file : Bor (List ℕ)) (a e γ : ℕ) (p : Place) → part_in (length file.now) p ≡ record { start = a; length = e - a } → PartAnswer file p (sl_part file (a + file.ref_ptr.1) a e γ)
+pub cut : (file : Bor (List ℕ)) (a e : ℕ) (p : Place) → part_in (length file.now) p ≡ record { start = a; length = e - a } → PartAnswer file p (sl_partˢ file (a + file.ref_ptr.1) a e)
 unfolding bytes_at
-cut file a e γ p h = record { bytes = ap (λ (q : Cut). bytes_at q.length file.now q.start) (sym h); block = refl; offset = omega (arith, ap (λ (q : Cut). q.start) h) }
+cut file a e p h = record { bytes = ap (λ (q : Cut). bytes_at q.length file.now q.start) (sym h); block = refl; offset = omega (arith, ap (λ (q : Cut). q.start) h) }
 
 -- as many bytes as the part is long
 pub bytes-many : (s : List ℕ) (p : Place) → length (bytes_of s p) ≡ (part_in (length s) p).length

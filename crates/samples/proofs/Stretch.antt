@@ -23,7 +23,6 @@ use Rattle.recordings.proofs.Chosen.{refusal-value}
 use Rattle.samples.specs.Asked.{RunInside, run_of, RunAt}
 use Rattle.samples.specs.Frames.{float_in, number_in}
 use Rattle.samples.specs.declared.Number.{Number}
-use Rattle.samples.specs.declared.Number.TheVariants as Number
 use Rattle.samples.specs.declared.Run.{Run}
 
 -- the width of a format, and the value of the sample that stands at byte p

@@ -1,9 +1,9 @@
 -- The track of a channel: what the code finds in the first frame says where its samples stand in every one.
 -- Assumes nothing.
-use mathlib.Core.Path.{◌≡◌, refl, sym, ap, ◌∙◌}
-use mathlib.Core.Bool.{Bool, true, false}
+use mathlib.Core.Path.{◌≡◌, ap}
+use mathlib.Core.Bool.{true, false}
 use mathlib.Core.List.{List}
-use Prim.Native.Nat.{ℕ, ◌+◌, ◌-◌, ◌*◌, ◌≤◌}
+use Prim.Native.Nat.{ℕ, ◌+◌, ◌-◌, ◌≤◌}
 use native.Mathlib.Omega.{arith}
 use borrow.Author.Tests.{le-leb}
 use lib.ListN.{length, take}
@@ -25,7 +25,6 @@ use Rattle.recordings.proofs.Standing.{found-seen}
 use Rattle.samples.specs.Asked.{RunIn, track_at}
 use Rattle.samples.specs.Frames.{ChosenFrame, frame_of, Samples, samples_of}
 use Rattle.samples.specs.Placed.{place_in, place_of, track_of, place_on}
-use Rattle.samples.specs.declared.Place.{Place}
 use Rattle.samples.specs.declared.Run.{Run}
 use Rattle.samples.specs.declared.Track.{Track}
 use Rattle.samples.proofs.Framing.{numbered-some, frame_at, this-one}

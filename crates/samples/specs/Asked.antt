@@ -15,9 +15,7 @@ use Rattle.recordings.specs.Found.{FoundIn}
 use Rattle.samples.specs.Frames.{ChosenFrame, frame_of, time_of, format_of, Samples, samples_of}
 use Rattle.samples.specs.Placed.{place_in}
 use Rattle.samples.specs.declared.FrameFound.{FrameFound}
-use Rattle.samples.specs.declared.FrameFound.TheVariants as FrameFound
 use Rattle.samples.specs.declared.SamplesFound.{SamplesFound}
-use Rattle.samples.specs.declared.SamplesFound.TheVariants as SamplesFound
 use Rattle.samples.specs.declared.Run.{Run}
 use Rattle.samples.specs.declared.Time.{Time}
 use Rattle.samples.specs.declared.Track.{Track}

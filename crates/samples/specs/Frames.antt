@@ -7,7 +7,6 @@ use Rattle.rules.specs.Reading.{Value, whole, float, frame_reading}
 use Rattle.recordings.specs.Answers.{Answer, value, ◌>>=◌, numbered}
 use Rattle.recordings.specs.Recordings.{Chosen, recording_of, start_of}
 use Rattle.samples.specs.declared.Number.{Number}
-use Rattle.samples.specs.declared.Number.TheVariants as Number
 use Rattle.samples.specs.declared.Time.{Time}
 
 -- A frame, and where it stands

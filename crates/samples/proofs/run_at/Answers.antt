@@ -1,0 +1,43 @@
+-- `samples::run_at` meets its contract: the channel's record is read, and its samples are none where they would not be inside.
+-- Assumes nothing.
+use Prim.Native.Nat.{ℕ, ◌+◌, ◌-◌, ◌*◌, ◌≤◌}
+use native.Mathlib.Omega.{arith}
+use lib.ListN.{length}
+use Rattle.records.proofs.Facts.{bytes-short}
+use Rattle.samples.proofs.Placing.{tested-out, tested-in}
+use Rattle.samples.proofs.Stretch.{run-found, run-outside}
+use Rattle.samples.proofs.run_at.Goals as goal
+
+-- the bytes before and its own, and the room that there is
+abbrev taken : goal.Then-not-fits → ℕ
+taken w = w.sample_bytes-before.result + w.width-width.result * w.samples_in-count.result
+
+abbrev taken-2 : goal.Else-not-fits → ℕ
+taken-2 w = w.sample_bytes-before.result + w.width-width.result * w.samples_in-count.result
+
+abbrev room : goal.Then-not-fits → ℕ
+room w = let a = w.args in length a.s.now - (a.at + 24)
+
+abbrev room-2 : goal.Else-not-fits → ℕ
+room-2 w = let a = w.args in length a.s.now - (a.at + 24)
+
+inside : (c : goal.Else-not-fits) → taken-2 c ≤ room-2 c
+inside c = tested-in (taken-2 c) (room-2 c) c.fits.ensures c.if-not-fits.false
+
+pub overflow_mul-bytes : goal.overflow_mul-bytes
+overflow_mul-bytes c =
+    let n = c.samples_in-count in
+    record { fits = omega (arith, bytes-short c.width-width.result n.result c.width-width.ensures.1 n.ensures.1) }
+
+pub returns-then-not-fits : goal.returns-then-not-fits
+returns-then-not-fits c =
+    run-outside _ _ _ _ _ _ _ _ _ _ _ _ c.sample_bytes-before.ensures c.number4-flags.ensures.0 c.number4-format.ensures.0 c.number4-rate.ensures.0 c.samples_in-count.ensures.0 c.width-width.ensures.0
+    (omega arith) (omega (arith, tested-out (taken c) (room c) c.fits.ensures c.if-not-fits.true))
+
+pub overflow_add-place : goal.overflow_add-place
+overflow_add-place c = record { fits = omega (arith, inside c) }
+
+pub returns : goal.returns
+returns c =
+    run-found _ _ _ _ _ _ _ _ _ _ _ _ c.sample_bytes-before.ensures c.number4-flags.ensures.0 c.number4-format.ensures.0 c.number4-rate.ensures.0 c.samples_in-count.ensures.0 c.width-width.ensures.0
+    (omega (arith, inside c))
