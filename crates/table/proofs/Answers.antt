@@ -22,7 +22,6 @@ use Rattle.rows.specs.Rows.{written}
 use Rattle.rows.specs.Listing.{Wrote}
 use Rattle.table.specs.Table.{Answer, rows, refusal, meaning, counted, kept, Lists}
 use Rattle.table.specs.declared.Listed.{Listed}
-use Rattle.table.specs.declared.Listed.TheVariants as Listed
 
 -- an answer is no refusal
 pub rows-refusal : {X : Type 0} {n m p : ℕ} → rows n ≡ refusal m p → X

@@ -6,7 +6,6 @@ use Rattle.walk.specs.Walk.{pick, Row, Outcome, refused, passed}
 use Rattle.rules.specs.Rules as R
 use Rattle.rows.specs.Rows.{written}
 use Rattle.table.specs.declared.Listed.{Listed}
-use Rattle.table.specs.declared.Listed.TheVariants as Listed
 
 -- how many rows, or a refusal and its position
 pub data Answer : Type 0 where
