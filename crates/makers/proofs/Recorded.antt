@@ -16,7 +16,6 @@ use Rattle.children.proofs.Recordings.{body_of, within, recording-ends, Sofar, s
 use Rattle.makers.specs.Makers.{first_maker}
 use Rattle.makers.specs.Search.{found, First}
 use Rattle.makers.specs.declared.MakerField.{MakerField}
-use Rattle.makers.specs.declared.MakerField.TheVariants as MakerField
 use Rattle.makers.proofs.Search.{first_some, first-append, first-row}
 
 -- the recording that the cursor found at p is no maker's record: the first is that of its body

@@ -8,7 +8,6 @@ use Rattle.rules.specs.declared.Refusal.{Refusal}
 use Rattle.children.specs.Recordings.{OfRecording}
 use Rattle.makers.specs.declared.Searched.{Searched}
 use Rattle.makers.specs.declared.MakerField.{MakerField}
-use Rattle.makers.specs.declared.MakerField.TheVariants as MakerField
 use Rattle.makers.specs.Makers.{first_maker}
 
 abbrev pub found : MakerField → Option ℕ
