@@ -17,7 +17,6 @@ use Rattle.walk.proofs.Apart.{zero_one}
 use Rattle.walk.proofs.Unique.{one}
 use Rattle.permit.specs.Permit.{Answer, bytes, refusal, meaning, permitted, Writes}
 use Rattle.permit.specs.declared.Written.{Written}
-use Rattle.permit.specs.declared.Written.TheVariants as Written
 
 -- an answer is no refusal
 pub bytes-refusal : {X : Type 0} {n m p : ℕ} → bytes n ≡ refusal m p → X

@@ -5,7 +5,6 @@ use Rattle.std.proofs.Math.Option.{Option, none, some}
 use Rattle.words.specs.Runs.{pasted}
 use Rattle.walk.specs.Walk.{pick}
 use Rattle.permit.specs.declared.Written.{Written}
-use Rattle.permit.specs.declared.Written.TheVariants as Written
 
 -- how many bytes were written, or a refusal and its position
 pub data Answer : Type 0 where
