@@ -14,7 +14,7 @@ use Rattle.walk.specs.Walk.{laid, Event, numeral, cleared, Walk, give, refuse, c
 use Rattle.walk.proofs.Tracing.{trace-bind, trace-give, cleared-append}
 use Rattle.walk.proofs.Went.{gate-went, went-first, goes_same}
 use Rattle.rules.specs.Canonical.{numerals, sample_events, blanks}
-use Rattle.rules.specs.Rules.{Head, head, Channel, channels, number_list, samples, samples_in, width, Frame}
+use Rattle.rules.specs.Rules.{Head, head, Channel, number_list, samples, samples_in, width, Frame}
 use Rattle.bodies.specs.Copy.{filling}
 use Rattle.measures.specs.Measures.{FrameIn}
 

@@ -20,7 +20,7 @@ use Rattle.walk.proofs.Laws.{size-append, size-cleared}
 use Rattle.walk.proofs.Seen.{see-bind, stays-goes, body-length}
 use Rattle.walk.proofs.Tracing.{size-trace}
 use Rattle.walk.proofs.Went.{gate-went, goes_same, by-onward, by_went, by-then}
-use Rattle.rules.specs.Rules.{most_of, Head, head, span, pad_ok, padding, basic, channels, Frame, Frames, frames, Maker, Next, next, Held, Placed, content_limit, delimiter, recording_body, recording, Descriptions, descriptions, signals}
+use Rattle.rules.specs.Rules.{most_of, Head, head, span, pad_ok, padding, Frame, Frames, frames, Maker, Next, next, Held, Placed, content_limit, delimiter, recording_body, Descriptions, descriptions, signals}
 use Rattle.rules.specs.declared.Label.{Label}
 use Rattle.rules.specs.Canonical.{most, record_of, frames_bytes, frames_head, frames_written, maker_events, delimiter_head, delimiter_events, content}
 use Rattle.rules.proofs.Room.{Behind, stays-next, stays-descriptions, stays-frames_rest}

@@ -32,7 +32,6 @@ use Rattle.measures.specs.Measures.{sized_for, most_served, Large, Serves, measu
 use Rattle.measures.specs.declared.Sized.{Sized}
 use Rattle.measures.specs.declared.Measure.{Measure}
 use Rattle.measures.specs.declared.Measured.{Measured}
-use Rattle.measures.specs.declared.Measured.TheVariants as Measured
 use Rattle.measures.proofs.Lengths.{Accepted}
 
 -- sizes

@@ -16,7 +16,6 @@ use Rattle.records.specs.Says.{ChannelsIn, ChannelsStand}
 use Rattle.measures.specs.declared.Sized.{Sized}
 use Rattle.measures.specs.declared.Measure.{Measure}
 use Rattle.measures.specs.declared.Measured.{Measured}
-use Rattle.measures.specs.declared.Measured.TheVariants as Measured
 
 -- the size and the multiplier of a record of n bytes, and the length that they make
 abbrev pub sized_for : ℕ → Sized
