@@ -10,7 +10,6 @@ use Rattle.words.proofs.Values.{unsigned_signed}
 use Rattle.walk.proofs.Apart.{false-true}
 use Rattle.questions.specs.Values.{some_nan, floats_of, calibration_of, Words, words_of}
 use Rattle.questions.specs.declared.channels.Calibration.{Calibration}
-use Rattle.questions.specs.declared.channels.Calibration.TheVariants as Calibration
 
 -- the words are tested one after the other
 pub nan-here : (b : Bool) {a : Bool} → a ≡ true → true ≡ a || b

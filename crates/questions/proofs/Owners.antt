@@ -15,9 +15,7 @@ use Rattle.rules.specs.Rules as R
 use Rattle.rules.proofs.Asked.{Rest, event-rest}
 use Rattle.rules.proofs.Held.{patient-rest-holds}
 use Rattle.records.specs.declared.items.Holder.{Holder}
-use Rattle.records.specs.declared.items.Holder.TheVariants as Holder
 use Rattle.descriptions.specs.declared.Held.{Held}
-use Rattle.descriptions.specs.declared.Held.TheVariants as Held
 use Rattle.descriptions.specs.declared.Places.{Places}
 use Rattle.descriptions.proofs.Parts.{at-nothing}
 use Rattle.recordings.specs.Answers.{Answer, value, refusal, outside, numbered, indexed}

@@ -13,7 +13,6 @@ use Rattle.walk.specs.Walk.{Event, pick, passed}
 use Rattle.rules.specs.Rules as R
 use Rattle.rules.specs.Reading.{Value, ChannelReading, channel_reading, ItemReading, item_reading, frame_reading, RecordingReading, recording_reading, samples_reading, reading}
 use Rattle.records.specs.declared.items.Holder.{Holder}
-use Rattle.records.specs.declared.items.Holder.TheVariants as Holder
 use Rattle.records.proofs.Facts.{between_in}
 use Rattle.recordings.specs.Answers.{Answer, value, refusal, ◌>>=◌, indexed, numbered}
 use Rattle.recordings.specs.Recordings.{Chosen, recording_of}

@@ -3,7 +3,6 @@
 use mathlib.Core.Path.{◌≡◌, refl, sym, ap, ◌∙◌}
 use mathlib.Core.List.{List, []}
 use Prim.Native.Nat.{ℕ}
-use lib.ListN.{length}
 use Rattle.words.specs.Numbers.{Bytes}
 use Rattle.walk.specs.Walk.{Event, passed}
 use Rattle.rules.specs.Rules as R

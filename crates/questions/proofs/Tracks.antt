@@ -20,7 +20,7 @@ use Rattle.samples.specs.Placed.{track_of}
 use Rattle.samples.proofs.Framing.{numbered-some}
 use Rattle.samples.proofs.Stretch.{width-least, bytes-before}
 use Rattle.samples.proofs.Tracking.{track_in, place-on, track-there, track-out}
-use Rattle.questions.specs.Tied.{channel_read, Alike, format_in, TrackIs}
+use Rattle.questions.specs.Tied.{channel_read, Alike, TrackIs}
 use Rattle.questions.proofs.Described.{recording-well, channel-seen, format-is}
 use Rattle.questions.proofs.Readings.{sub_alike, recording-known, seconds-small}
 

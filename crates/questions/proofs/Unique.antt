@@ -7,27 +7,17 @@ use Rattle.walk.proofs.Unique.{one}
 use Rattle.rules.specs.declared.Refusal.{Refusal}
 use Rattle.recordings.specs.Answers.{Answer, value, refusal}
 use Rattle.recordings.specs.declared.FactsTold.{FactsTold}
-use Rattle.recordings.specs.declared.FactsTold.TheVariants as FactsTold
 use Rattle.samples.specs.declared.PlaceTold.{PlaceTold}
-use Rattle.samples.specs.declared.PlaceTold.TheVariants as PlaceTold
 use Rattle.samples.specs.declared.SampleTold.{SampleTold}
-use Rattle.samples.specs.declared.SampleTold.TheVariants as SampleTold
 use Rattle.samples.specs.declared.ClockTold.{ClockTold}
-use Rattle.samples.specs.declared.ClockTold.TheVariants as ClockTold
 use Rattle.samples.specs.declared.TrackTold.{TrackTold}
-use Rattle.samples.specs.declared.TrackTold.TheVariants as TrackTold
 use Rattle.questions.specs.Promised.{HeaderAnswer, FactsAnswer, ChannelAnswer, MontageCountAnswer, MontageAnswer, PatientItemAnswer, EventItemAnswer, ClockAnswer, PlaceAnswer, TrackAnswer, SampleAnswer}
 use Rattle.questions.specs.Meanings.{meaning_h, meaning_f, meaning_d, meaning_n, meaning_m, meaning_i, meaning_t, meaning_p, meaning_k, meaning_s}
 use Rattle.questions.specs.declared.channels.ChannelTold.{ChannelTold}
-use Rattle.questions.specs.declared.channels.ChannelTold.TheVariants as ChannelTold
 use Rattle.questions.specs.declared.channels.MontageCountTold.{MontageCountTold}
-use Rattle.questions.specs.declared.channels.MontageCountTold.TheVariants as MontageCountTold
 use Rattle.questions.specs.declared.channels.MontageTold.{MontageTold}
-use Rattle.questions.specs.declared.channels.MontageTold.TheVariants as MontageTold
 use Rattle.questions.specs.declared.headers.HeaderTold.{HeaderTold}
-use Rattle.questions.specs.declared.headers.HeaderTold.TheVariants as HeaderTold
 use Rattle.questions.specs.declared.items.ItemTold.{ItemTold}
-use Rattle.questions.specs.declared.items.ItemTold.TheVariants as ItemTold
 
 -- an answer of the code, from what it means
 abbrev answer : {A E : Type 0} → (A → E) → (Refusal → E) → Answer A → E

@@ -7,9 +7,7 @@ use Rattle.walk.specs.Walk.{pick}
 use Rattle.walk.specs.See.{see, goes}
 use Rattle.rules.specs.Rules as R
 use Rattle.records.specs.declared.items.Holder.{Holder}
-use Rattle.records.specs.declared.items.Holder.TheVariants as Holder
 use Rattle.descriptions.specs.declared.Held.{Held}
-use Rattle.descriptions.specs.declared.Held.TheVariants as Held
 use Rattle.descriptions.specs.declared.Places.{Places}
 use Rattle.questions.specs.Meanings.{meaning_i}
 use Rattle.questions.specs.Questions.{item_in}

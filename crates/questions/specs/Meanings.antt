@@ -4,33 +4,23 @@ use Rattle.std.specs.Prelude.{ℕ}
 use Rattle.recordings.specs.Answers.{Answer, value, refusal}
 use Rattle.recordings.specs.declared.Counts.{Counts}
 use Rattle.recordings.specs.declared.FactsTold.{FactsTold}
-use Rattle.recordings.specs.declared.FactsTold.TheVariants as FactsTold
 use Rattle.samples.specs.declared.Place.{Place}
 use Rattle.samples.specs.declared.PlaceTold.{PlaceTold}
-use Rattle.samples.specs.declared.PlaceTold.TheVariants as PlaceTold
 use Rattle.samples.specs.declared.Number.{Number}
 use Rattle.samples.specs.declared.SampleTold.{SampleTold}
-use Rattle.samples.specs.declared.SampleTold.TheVariants as SampleTold
 use Rattle.samples.specs.declared.Time.{Time}
 use Rattle.samples.specs.declared.ClockTold.{ClockTold}
-use Rattle.samples.specs.declared.ClockTold.TheVariants as ClockTold
 use Rattle.samples.specs.declared.Track.{Track}
 use Rattle.samples.specs.declared.TrackTold.{TrackTold}
-use Rattle.samples.specs.declared.TrackTold.TheVariants as TrackTold
 use Rattle.questions.specs.declared.channels.ChannelTold.{ChannelTold}
-use Rattle.questions.specs.declared.channels.ChannelTold.TheVariants as ChannelTold
 use Rattle.questions.specs.declared.channels.Descriptor.{Descriptor}
 use Rattle.questions.specs.declared.channels.MontageCountTold.{MontageCountTold}
-use Rattle.questions.specs.declared.channels.MontageCountTold.TheVariants as MontageCountTold
 use Rattle.questions.specs.declared.channels.MontageTold.{MontageTold}
-use Rattle.questions.specs.declared.channels.MontageTold.TheVariants as MontageTold
 use Rattle.questions.specs.declared.channels.Wired.{Wired}
 use Rattle.questions.specs.declared.headers.Header.{Header}
 use Rattle.questions.specs.declared.headers.HeaderTold.{HeaderTold}
-use Rattle.questions.specs.declared.headers.HeaderTold.TheVariants as HeaderTold
 use Rattle.questions.specs.declared.items.Entry.{Entry}
 use Rattle.questions.specs.declared.items.ItemTold.{ItemTold}
-use Rattle.questions.specs.declared.items.ItemTold.TheVariants as ItemTold
 
 abbrev pub meaning_h : HeaderTold → Answer Header
 meaning_h (HeaderTold.Header x) = value x

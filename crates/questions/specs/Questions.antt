@@ -7,7 +7,6 @@ use Rattle.walk.specs.Walk.{pick, Outcome, refused, passed}
 use Rattle.rules.specs.Rules as R
 use Rattle.rules.specs.declared.Label.{Label}
 use Rattle.records.specs.declared.items.Holder.{Holder}
-use Rattle.records.specs.declared.items.Holder.TheVariants as Holder
 use Rattle.recordings.specs.Answers.{Answer, value, refusal, ◌>>=◌, indexed, numbered}
 use Rattle.recordings.specs.Recordings.{Chosen, recording_of, start_of, at120, at130}
 use Rattle.recordings.specs.declared.Counts.{Counts}

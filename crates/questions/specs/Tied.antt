@@ -7,7 +7,6 @@ use Rattle.walk.specs.Walk.{pick}
 use Rattle.rules.specs.Rules.{order_of, width}
 use Rattle.rules.specs.Reading.{Value, ChannelReading, ItemReading, FrameReading, RecordingReading, Reading}
 use Rattle.records.specs.declared.items.Holder.{Holder}
-use Rattle.records.specs.declared.items.Holder.TheVariants as Holder
 use Rattle.recordings.specs.Answers.{Answer, value, refusal, ◌>>=◌, indexed, numbered}
 use Rattle.recordings.specs.declared.Counts.{Counts}
 use Rattle.samples.specs.Placed.{place_of, place_on, values_of}

@@ -10,7 +10,6 @@ use Rattle.walk.specs.See.{see, goes}
 use Rattle.rules.specs.Rules as R
 use Rattle.rules.specs.Reading.{channel_reading, item_reading}
 use Rattle.questions.specs.declared.channels.Calibration.{Calibration}
-use Rattle.questions.specs.declared.channels.Calibration.TheVariants as Calibration
 use Rattle.questions.specs.declared.channels.Descriptor.{Descriptor}
 use Rattle.questions.specs.declared.channels.Text.{Text}
 use Rattle.questions.specs.declared.channels.Wired.{Wired}
