@@ -19,7 +19,6 @@ use Rattle.recordings.specs.Answers.{Answer, value, refusal}
 use Rattle.index.specs.Events.{Entry, entries}
 use Rattle.index.specs.Index.{meaning, numbers, entries_of, Indexes}
 use Rattle.index.specs.declared.Indexed.{Indexed}
-use Rattle.index.specs.declared.Indexed.TheVariants as Indexed
 
 -- a file that is refused
 pub indexes-refused : (s : List ℕ) (out : List ℤ) {n p : ℕ} → R.judge s ≡ refused n p → Indexes s out out (Indexed.Refused (record { 0 = n; 1 = p }))

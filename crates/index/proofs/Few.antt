@@ -15,7 +15,6 @@ use Rattle.rules.specs.Rules as R
 use Rattle.rules.specs.Rules.{sample_bytes, samples_in, width}
 use Rattle.rules.specs.declared.Label.{Label}
 use Rattle.rules.specs.declared.Version.{Version}
-use Rattle.rules.specs.declared.Version.TheVariants as Version
 use Rattle.rules.proofs.Canon.{file-ok}
 use Rattle.rules.proofs.Sized.{longest}
 use Rattle.rules.proofs.Turn.{accepted}

@@ -23,11 +23,9 @@ use Rattle.rules.proofs.Turn.{accepted}
 use Rattle.records.proofs.Facts.{between_in}
 use Rattle.descriptions.specs.DescriptionsJudged.{HeldWithin}
 use Rattle.descriptions.specs.declared.Before.{Before}
-use Rattle.descriptions.specs.declared.Before.TheVariants as Before
 use Rattle.descriptions.specs.declared.Places.{Places}
 use Rattle.judge.specs.Recorded.{RecordingAgain}
 use Rattle.judge.specs.declared.recording.Recorded.{Recorded}
-use Rattle.judge.specs.declared.recording.Recorded.TheVariants as Recorded
 use Rattle.recordings.specs.Answers.{value, indexed}
 use Rattle.recordings.specs.Found.{FoundIn}
 use Rattle.recordings.specs.Recordings.{Chosen, recording_of}

@@ -7,7 +7,6 @@ use Rattle.rules.specs.Rules as R
 use Rattle.recordings.specs.Answers.{Answer, value, refusal}
 use Rattle.index.specs.Events.{Entry, entries}
 use Rattle.index.specs.declared.Indexed.{Indexed}
-use Rattle.index.specs.declared.Indexed.TheVariants as Indexed
 
 abbrev pub meaning : Indexed → Answer ℕ
 meaning (Indexed.Entries n) = value n
