@@ -3,7 +3,7 @@
 use mathlib.Core.Path.{◌≡◌, sym, ap, ◌∙◌}
 use mathlib.Core.List.{List, ◌++◌}
 use mathlib.Core.Option.{Option}
-use Prim.Native.Nat.{ℕ, ◌-◌}
+use Prim.Native.Nat.{ℕ}
 use lib.ListN.{length}
 use Rattle.words.specs.Numbers.{other}
 use Rattle.words.specs.Runs.{pasted}
@@ -24,7 +24,6 @@ use Rattle.bodies.specs.Copy.{copy}
 use Rattle.makers.specs.Makers.{first_maker}
 use Rattle.permit.specs.Permit.{Answer, bytes, refusal, meaning, permitted}
 use Rattle.permit.specs.declared.Written.{Written}
-use Rattle.permit.specs.declared.Written.TheVariants as Written
 use Rattle.permit.proofs.Settled.{stopped, wrote}
 use Rattle.turn.specs.Turn.{answer_of, Turns}
 use Rattle.turn.specs.Steps.{turning}

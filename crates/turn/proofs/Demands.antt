@@ -15,7 +15,6 @@ use Rattle.rules.proofs.Turn.{turn-judge, turn-length, turn-order, turn-turn}
 use Rattle.makers.specs.Makers.{first_maker}
 use Rattle.permit.specs.Permit.{bytes, Writes}
 use Rattle.permit.specs.declared.Written.{Written}
-use Rattle.permit.specs.declared.Written.TheVariants as Written
 use Rattle.permit.proofs.Settled.{writes-unique, writes_bytes}
 use Rattle.turn.specs.Turn.{answer_of, Turns}
 

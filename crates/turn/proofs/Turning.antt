@@ -1,6 +1,6 @@
 -- What is written of a 145 and of a 140, from what each of the code's steps wrote; and bytes written front to back.
 -- Assumes nothing.
-use mathlib.Core.Path.{◌≡◌, refl, sym, ap, ◌∙◌}
+use mathlib.Core.Path.{◌≡◌, subst, refl, sym, ap, ◌∙◌}
 use mathlib.Core.Bool.{Bool, false, ◌&&◌, ◌||◌}
 use mathlib.Core.List.{List, ◌∷◌, ◌++◌, append_assoc}
 use Prim.Native.Nat.{ℕ, suc, ◌+◌, ◌-◌, ◌*◌, ◌≤◌, ◌<◌}
@@ -99,11 +99,12 @@ module _ (t : ℕ) (cs : List Channel) where
   unfolding filling number_list frame_body ◌>>=◌ ◌>>◌
   stays-filling at =
       let z : 24 + sample_bytes t cs - 16 ≡ 8 + sample_bytes t cs = omega arith in
-      let h = rw z at (stays-frame_body (24 + sample_bytes t cs) t cs at (omega arith)) in
+      let h = stays-frame_body (24 + sample_bytes t cs) t cs at (omega arith) in
       let h₁ = h.1 0 refl in
       let h₂ = h₁.1 0 refl in
       let h₃ = h₂.1 0 refl in
-      (h.0, λ _. (h₁.0, λ _. (h₂.0, λ _. (h₃.0, stays-first (samples t cs) _ (at + (8 + sample_bytes t cs)) (at + 2 + 2 + 2 + 2) _ h₃.1))))
+      subst (λ (n : ℕ). Stays (at + n) at (filling t cs) (λ _ _. Unit {0})) z
+      (h.0, λ _. (h₁.0, λ _. (h₂.0, λ _. (h₃.0, stays-first (samples t cs) _ (at + (24 + sample_bytes t cs - 16)) (at + 2 + 2 + 2 + 2) _ h₃.1))))
 
   copy-frame_body : (w : Way) (b : ℕ) (s : List ℕ) (at size : ℕ) → copy w b s at (frame_body size t cs) ≡ copy w b s at (filling t cs) ++ bytes_at (size - (24 + sample_bytes t cs)) s (at + 8 + sample_bytes t cs - b)
   unfolding filling number_list frame_body trace ◌>>=◌ ◌>>◌
