@@ -1,13 +1,13 @@
 -- The run asked for, from the place of the channel's samples, by the tests of its range and of the room; and that it is the same run of the reading's
 -- samples.
 -- Assumes nothing.
-use mathlib.Core.Path.{◌≡◌, refl, sym, ap, ◌∙◌}
+use mathlib.Core.Path.{◌≡◌, refl, sym, ap}
 use mathlib.Core.Bool.{Bool, true, false, ◌&&◌}
 use mathlib.Core.List.{List}
 use Prim.Native.Nat.{ℕ, ◌+◌, ◌≤◌, ◌<◌}
-use borrow.Author.Tests.{le-leb, lt-leb, leb-true}
+use borrow.Author.Tests.{lt-leb, leb-true}
 use lib.Dec.{leb}
-use lib.ListN.{length, take, drop}
+use lib.ListN.{length}
 use Rattle.words.specs.Numbers.{Bytes}
 use Rattle.words.specs.declared.Order.{Order}
 use Rattle.walk.specs.Walk.{pick}
@@ -16,7 +16,7 @@ use Rattle.recordings.specs.Answers.{Answer, value, refusal, ◌>>=◌, outside}
 use Rattle.descriptions.specs.declared.Places.{Places}
 use Rattle.samples.specs.Asked.{RunIn}
 use Rattle.samples.specs.Frames.{format_of, Samples, samples_of}
-use Rattle.samples.specs.Placed.{place_in, place_of, values_of}
+use Rattle.samples.specs.Placed.{place_in}
 use Rattle.samples.specs.declared.Place.{Place}
 use Rattle.samples.specs.declared.Run.{Run}
 use Rattle.samples.proofs.Framing.{frame-of}

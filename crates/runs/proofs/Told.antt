@@ -17,7 +17,7 @@ use Rattle.words.specs.declared.Order.{Order}
 use Rattle.walk.specs.Walk.{pick}
 use Rattle.walk.proofs.Apart.{false-true}
 use Rattle.walk.proofs.Unique.{one}
-use Rattle.rules.specs.Reading.{Value, whole, float, value_of}
+use Rattle.rules.specs.Reading.{Value, value_of}
 use Rattle.rules.specs.Rules as R
 use Rattle.recordings.specs.Answers.{Answer, value, refusal}
 use Rattle.recordings.proofs.Chosen.{refusal-value}
@@ -29,9 +29,7 @@ use Rattle.decode.specs.Decoded.{Decoded, itself}
 use Rattle.runs.specs.Found.{FoundIn}
 use Rattle.runs.specs.Runs.{meaning, serves, Element, element_of, run_of, counted, holding, answer_of, RunAnswer}
 use Rattle.runs.specs.declared.Ran.{Ran}
-use Rattle.runs.specs.declared.Ran.TheVariants as Ran
 use Rattle.runs.specs.declared.Sibling.{Sibling}
-use Rattle.runs.specs.declared.Sibling.TheVariants as Sibling
 
 -- what each call makes of a word of w bytes
 abbrev pub means : (b : Sibling) → ℕ → ℕ → Element b

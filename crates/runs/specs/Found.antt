@@ -10,7 +10,6 @@ use Rattle.samples.specs.Placed.{place_of}
 use Rattle.samples.specs.declared.Place.{Place}
 use Rattle.runs.specs.Runs.{serves, place_from, answer_of}
 use Rattle.runs.specs.declared.RunFound.{RunFound}
-use Rattle.runs.specs.declared.RunFound.TheVariants as RunFound
 use Rattle.runs.specs.declared.Sibling.{Sibling}
 
 abbrev pub refusal_run : RunFound → Refusal

@@ -9,9 +9,7 @@ use Rattle.samples.specs.Frames.{format_of}
 use Rattle.samples.specs.Placed.{place_of, values_of}
 use Rattle.samples.specs.declared.Place.{Place}
 use Rattle.runs.specs.declared.Ran.{Ran}
-use Rattle.runs.specs.declared.Ran.TheVariants as Ran
 use Rattle.runs.specs.declared.Sibling.{Sibling}
-use Rattle.runs.specs.declared.Sibling.TheVariants as Sibling
 
 abbrev pub meaning : Ran → Answer ℕ
 meaning (Ran.Numbers n) = value n

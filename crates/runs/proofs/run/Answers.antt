@@ -1,0 +1,51 @@
+-- `runs::run` meets its contract: the run asked for, decoded from its bytes, by the laws of Told.
+-- Assumes nothing.
+use mathlib.Core.Path.{refl, sym}
+use native.Mathlib.Omega.{arith}
+use lib.IntN.{pos}
+use lib.ListN.{length}
+use lib.Seq.{length-take-le}
+use Rattle.rules.specs.Reading.{whole}
+use Rattle.runs.specs.Found.{RunFoundAs}
+use Rattle.runs.specs.declared.RunFound.TheVariants as RunFound
+use Rattle.runs.specs.declared.Sibling.TheVariants as Sibling
+use Rattle.runs.proofs.Told.{runs-refused, bytes-long, runs-told}
+use Rattle.runs.proofs.run.Goals as goal
+
+-- the run found
+known : (x : goal.After-part) →
+    let a = x.args in
+    RunFoundAs Sibling.Whole a.file.now a.recording a.frame a.channel a.first a.number (length a.out.now) (RunFound.At x.in-At.order x.in-At.format x.in-At.place)
+known x = rw x.in-At.is at x.run_asked-found.ensures
+
+known-2 : (x : goal.After-numbers-arg-1) →
+    let a = x.args in
+    RunFoundAs Sibling.Whole a.file.now a.recording a.frame a.channel a.first a.number (length a.out.now) (RunFound.At x.in-At.order x.in-At.format x.in-At.place)
+known-2 x = rw x.in-At.is at x.run_asked-found.ensures
+
+known-3 : (x : goal.After-out-1) →
+    let a = x.args in
+    RunFoundAs Sibling.Whole a.file.now a.recording a.frame a.channel a.first a.number (length a.out.now) (RunFound.At x.in-At.order x.in-At.format x.in-At.place)
+known-3 x = rw x.in-At.is at x.run_asked-found.ensures
+
+pub returns-in_default : goal.returns-in_default
+returns-in_default c =
+    let a = c.args in
+    let e = c.in_default.is in
+    rw (c.of_run_found.ensures, e) (runs-refused Sibling.Whole a.file.now a.recording a.frame a.channel a.first a.number a.out.now (rw e at c.run_asked-found.ensures))
+
+pub slice_bounds-numbers-end : goal.slice_bounds-numbers-end
+slice_bounds-numbers-end c = omega (arith, (known c).room)
+
+pub slice_bounds-numbers-end-2 : goal.slice_bounds-numbers-end-2
+slice_bounds-numbers-end-2 c = sym (length-take-le _ _ (known-2 c).room)
+
+pub numbers-requires : goal.numbers-requires
+numbers-requires c =
+    let f = known-2 c in
+    bytes-long f c.args.out.now refl _ c.part.ensures.bytes _ refl
+
+pub returns : goal.returns
+returns c =
+    let f = known-3 c in
+    runs-told f c.args.out.now refl _ c.part.ensures.bytes _ refl (whole (pos 0)) _ c.numbers.ensures

@@ -1,0 +1,50 @@
+-- `runs::run_floats` meets its contract: the run asked for, decoded from its bytes, by the laws of Told.
+-- Assumes nothing.
+use mathlib.Core.Path.{refl, sym}
+use native.Mathlib.Omega.{arith}
+use lib.ListN.{length}
+use lib.Seq.{length-take-le}
+use Rattle.rules.specs.Reading.{float}
+use Rattle.runs.specs.Found.{RunFoundAs}
+use Rattle.runs.specs.declared.RunFound.TheVariants as RunFound
+use Rattle.runs.specs.declared.Sibling.TheVariants as Sibling
+use Rattle.runs.proofs.Told.{runs-refused, bytes-long, runs-told, floats-wide}
+use Rattle.runs.proofs.run_floats.Goals as goal
+
+-- the run found
+known : (x : goal.After-part) →
+    let a = x.args in
+    RunFoundAs Sibling.Floats a.file.now a.recording a.frame a.channel a.first a.number (length a.out.now) (RunFound.At x.in-At.order x.in-At.field-1 x.in-At.place)
+known x = rw x.in-At.is at x.run_asked-found.ensures
+
+known-2 : (x : goal.After-patterns-arg-1) →
+    let a = x.args in
+    RunFoundAs Sibling.Floats a.file.now a.recording a.frame a.channel a.first a.number (length a.out.now) (RunFound.At x.in-At.order x.in-At.field-1 x.in-At.place)
+known-2 x = rw x.in-At.is at x.run_asked-found.ensures
+
+known-3 : (x : goal.After-slice_known-2-1) →
+    let a = x.args in
+    RunFoundAs Sibling.Floats a.file.now a.recording a.frame a.channel a.first a.number (length a.out.now) (RunFound.At x.in-At.order x.in-At.field-1 x.in-At.place)
+known-3 x = rw x.in-At.is at x.run_asked-found.ensures
+
+pub returns-in_default : goal.returns-in_default
+returns-in_default c =
+    let a = c.args in
+    let e = c.in_default.is in
+    rw (c.of_run_found.ensures, e) (runs-refused Sibling.Floats a.file.now a.recording a.frame a.channel a.first a.number a.out.now (rw e at c.run_asked-found.ensures))
+
+pub slice_bounds-patterns-end : goal.slice_bounds-patterns-end
+slice_bounds-patterns-end c = omega (arith, (known c).room)
+
+pub slice_bounds-patterns-end-2 : goal.slice_bounds-patterns-end-2
+slice_bounds-patterns-end-2 c = sym (length-take-le _ _ (known-2 c).room)
+
+pub patterns-requires : goal.patterns-requires
+patterns-requires c =
+    let f = known-2 c in
+    bytes-long f c.args.out.now refl _ c.part.ensures.bytes _ (floats-wide _ f.served)
+
+pub returns : goal.returns
+returns c =
+    let f = known-3 c in
+    runs-told f c.args.out.now refl _ c.part.ensures.bytes _ (floats-wide _ f.served) (float 0) _ c.patterns.ensures
