@@ -3,7 +3,7 @@
 use mathlib.Core.Path.{◌≡◌, refl, sym, ap, ◌∙◌}
 use mathlib.Core.List.{List, map}
 use mathlib.Core.Option.{Option}
-use Prim.Native.Nat.{ℕ, ◌-◌, ◌≤◌, ◌<◌}
+use Prim.Native.Nat.{ℕ, ◌≤◌, ◌<◌}
 use native.Mathlib.Omega.{arith}
 use borrow.Author.Tests.{leb-true}
 use lib.Dec.{leb}
@@ -23,14 +23,12 @@ use Rattle.rules.proofs.Rewrite.{rewritten-of, reading-words}
 use Rattle.rules.proofs.Turn.{accepted}
 use Rattle.header.specs.Letters.{lettered, heading_of}
 use Rattle.header.specs.declared.Lettered.{Lettered}
-use Rattle.header.specs.declared.Lettered.TheVariants as Lettered
 use Rattle.judge.specs.Judged.{AcceptedAs}
 use Rattle.children.specs.Recordings.{rows_of}
 use Rattle.judge.proofs.Accepted.{listed}
 use Rattle.makers.specs.Makers.{first_maker}
 use Rattle.permit.specs.Permit.{Answer, bytes, refusal, meaning, permitted}
 use Rattle.permit.specs.declared.Written.{Written}
-use Rattle.permit.specs.declared.Written.TheVariants as Written
 use Rattle.permit.proofs.Settled.{stopped, wrote}
 use Rattle.rewrite.specs.RecordingsAnew.{file_anew, length_anew}
 use Rattle.rewrite.specs.Rewrite.{barrier, answer_of, rewritten_in, Rewrites}

@@ -21,7 +21,6 @@ use Rattle.header.specs.declared.Lettered.TheVariants as Lettered
 use Rattle.bodies.specs.Orders.{same_order}
 use Rattle.makers.specs.Makers.{first_maker}
 use Rattle.permit.specs.declared.Written.{Written}
-use Rattle.permit.specs.declared.Written.TheVariants as Written
 use Rattle.permit.proofs.Settled.{writes-unique, writes_bytes}
 use Rattle.turn.specs.Turn.{Turns}
 use Rattle.turn.proofs.Demands.{turn-answers}

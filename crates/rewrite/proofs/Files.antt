@@ -23,7 +23,6 @@ use Rattle.turn.proofs.Sent.{AfterHeader, after_more}
 use Rattle.measures.specs.Measures.{MeasureOf, MeasureBounds, Each, Given, length_in, behind_head}
 use Rattle.measures.specs.declared.Sized.{Sized}
 use Rattle.measures.specs.declared.Measured.{Measured}
-use Rattle.measures.specs.declared.Measured.TheVariants as Measured
 use Rattle.rewrite.specs.RecordingsAnew.{AcceptedAt, MeasuredAt, length_anew}
 
 -- the canonical events of recordings that the walk read, with the serials from i on

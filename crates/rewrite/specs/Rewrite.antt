@@ -8,7 +8,6 @@ use Rattle.rules.specs.Rules as R
 use Rattle.rules.specs.Canonical as C
 use Rattle.header.specs.Letters.{lettered}
 use Rattle.header.specs.declared.Lettered.{Lettered}
-use Rattle.header.specs.declared.Lettered.TheVariants as Lettered
 use Rattle.bodies.specs.Orders.{same_order}
 use Rattle.makers.specs.Makers.{first_maker}
 use Rattle.permit.specs.Permit.{Answer, refusal, permitted, settled, Writes}
