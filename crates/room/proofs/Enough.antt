@@ -15,11 +15,9 @@ use Rattle.rules.specs.declared.Refusal.{Refusal}
 use Rattle.rules.proofs.Refusals.{refusals}
 use Rattle.header.specs.Letters.{lettered}
 use Rattle.header.specs.declared.Lettered.{Lettered}
-use Rattle.header.specs.declared.Lettered.TheVariants as Lettered
 use Rattle.makers.specs.Makers.{first_maker}
 use Rattle.permit.specs.Permit.{refusal, meaning, permitted}
 use Rattle.permit.specs.declared.Written.{Written}
-use Rattle.permit.specs.declared.Written.TheVariants as Written
 use Rattle.permit.proofs.Settled.{writes-unique, bytes-refusal, permit-bytes}
 use Rattle.rewrite.specs.Rewrite.{barrier, asked, answered, Rewrites}
 use Rattle.room.specs.Room.{reserve, room_of, RoomAnswer}
