@@ -6,24 +6,19 @@ use Rattle.words.specs.Numbers.{letter_of}
 use Rattle.walk.specs.Walk.{Outcome, refused, passed}
 use Rattle.rules.specs.Rules as R
 use Rattle.rules.specs.declared.Spelling.{Spelling}
-use Rattle.rules.specs.declared.Spelling.TheVariants as Spelling
 use Rattle.table.specs.Table as Table
 use Rattle.permit.specs.Permit as Permit
 use Rattle.recordings.specs.Answers.{Answer, value, refusal}
 use Rattle.recordings.specs.declared.Counts.{Counts}
 use Rattle.codes.specs.declared.EventKind.{EventKind}
-use Rattle.codes.specs.declared.EventKind.TheVariants as EventKind
 use Rattle.samples.specs.declared.Number.{Number}
-use Rattle.samples.specs.declared.Number.TheVariants as Number
 use Rattle.samples.specs.declared.Cut.{Cut}
 use Rattle.samples.specs.declared.Place as Found
 use Rattle.samples.specs.declared.Time.{Time}
 use Rattle.samples.specs.declared.Track as Tracked
 use Rattle.questions.specs.Values.{words_of}
 use Rattle.questions.specs.declared.channels.Calibration.{Calibration}
-use Rattle.questions.specs.declared.channels.Calibration.TheVariants as Calibration
 use Rattle.questions.specs.declared.channels.Descriptor.{Descriptor}
-use Rattle.questions.specs.declared.channels.Text.{Text}
 use Rattle.questions.specs.declared.channels.Wired.{Wired}
 use Rattle.questions.specs.declared.headers.Header as Asked
 use Rattle.questions.specs.declared.items.Entry.{Entry}

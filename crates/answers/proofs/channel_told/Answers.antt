@@ -1,16 +1,14 @@
 -- `answers::channel_told` meets its contract, field by field.
 -- Assumes nothing.
-use borrow.Author.Rules.{rules}
 use Rattle.words.proofs.Ints.{kept}
-use Rattle.answers.proofs.channel_told.Statement.{statement}
-use Rattle.answers.proofs.channel_told.Tie as tie
+use Rattle.answers.proofs.channel_told.Goals as goal
 
-returns : tie.Need-returns
+pub returns : goal.returns
 returns c =
-    let x = c.before.before.args.x in
-    let f = c.struct_told.given in
+    let x = c.args.x in
+    let f = c.struct_told-1.given in
     rw (
-      c.before.patterns-of.ensures,
+      c.patterns_of-c.ensures,
       kept x.number f.0.1,
       kept x.flags f.1.0.1,
       kept x.kind f.1.1.0.1,
@@ -21,6 +19,3 @@ returns c =
       kept x.high_cut f.1.1.1.1.1.1.1.1.0.1,
       kept x.sensitivity f.1.1.1.1.1.1.1.1.1.0.1,
     )
-
-pub channel-told-spec : {M : Type 1} → statement M
-channel-told-spec = tie.close (tie.spec (λ c κs. search rules) returns)
