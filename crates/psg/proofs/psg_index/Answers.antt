@@ -1,0 +1,8 @@
+-- `psg::psg_index` meets its contract: the index's answer, taken apart.
+-- Assumes nothing.
+use Rattle.psg.proofs.psg_index.Goals as goal
+
+pub returns : goal.returns
+returns c =
+    let t = c.index.ensures in
+    record { answers = rw (c.index_of.ensures, t.answer); holds = t.buffer }

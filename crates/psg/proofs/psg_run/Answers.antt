@@ -1,0 +1,8 @@
+-- `psg::psg_run` meets its contract: the run's answer, taken apart.
+-- Assumes nothing.
+use Rattle.psg.proofs.psg_run.Goals as goal
+
+pub returns : goal.returns
+returns c =
+    let t = c.run.ensures in
+    record { answers = rw (c.run_of.ensures, t.answer); holds = t.buffer }
