@@ -25,58 +25,42 @@ use Rattle.header.specs.Opened.{names}
 use Rattle.header.proofs.Opening.{header-open}
 use Rattle.judge.specs.Judged.{AcceptedAs, JudgedAs}
 use Rattle.judge.specs.declared.Judged.{Judged}
-use Rattle.judge.specs.declared.Judged.TheVariants as Judged
 use Rattle.judge.proofs.Verdicts.{accepted-seen}
 use Rattle.table.specs.Table as Table
 use Rattle.table.specs.Table.{Lists}
 use Rattle.table.specs.declared.Listed.{Listed}
-use Rattle.table.specs.declared.Listed.TheVariants as Listed
 use Rattle.recordings.specs.Answers.{Answer, value, refusal}
 use Rattle.recordings.specs.declared.Counts.{Counts}
 use Rattle.recordings.specs.declared.FactsTold.{FactsTold}
-use Rattle.recordings.specs.declared.FactsTold.TheVariants as FactsTold
 use Rattle.samples.specs.Placed.{place_of, track_of}
 use Rattle.samples.specs.declared.ClockTold.{ClockTold}
-use Rattle.samples.specs.declared.ClockTold.TheVariants as ClockTold
 use Rattle.samples.specs.declared.Number.{Number}
-use Rattle.samples.specs.declared.Number.TheVariants as Number
 use Rattle.samples.specs.declared.Place.{Place}
 use Rattle.samples.specs.declared.PlaceTold.{PlaceTold}
-use Rattle.samples.specs.declared.PlaceTold.TheVariants as PlaceTold
 use Rattle.samples.specs.declared.SampleTold.{SampleTold}
-use Rattle.samples.specs.declared.SampleTold.TheVariants as SampleTold
 use Rattle.samples.specs.declared.Time.{Time}
 use Rattle.samples.specs.declared.Track.{Track}
 use Rattle.samples.specs.declared.TrackTold.{TrackTold}
-use Rattle.samples.specs.declared.TrackTold.TheVariants as TrackTold
 use Rattle.questions.specs.Meanings.{meaning_h, meaning_f, meaning_d, meaning_i, meaning_t, meaning_p, meaning_k, meaning_s, meaning_n, meaning_m}
 use Rattle.questions.specs.Questions.{header_of, facts_of, channel_of, patient_item_of, event_item_of, clock_of, sample_of, montage_count_of, montage_of}
 use Rattle.questions.specs.declared.channels.ChannelTold.{ChannelTold}
-use Rattle.questions.specs.declared.channels.ChannelTold.TheVariants as ChannelTold
 use Rattle.questions.specs.declared.channels.Descriptor.{Descriptor}
 use Rattle.questions.specs.declared.channels.MontageCountTold.{MontageCountTold}
-use Rattle.questions.specs.declared.channels.MontageCountTold.TheVariants as MontageCountTold
 use Rattle.questions.specs.declared.channels.MontageTold.{MontageTold}
-use Rattle.questions.specs.declared.channels.MontageTold.TheVariants as MontageTold
 use Rattle.questions.specs.declared.channels.Wired.{Wired}
 use Rattle.questions.specs.declared.headers.Header as Asked
 use Rattle.questions.specs.declared.headers.HeaderTold.{HeaderTold}
-use Rattle.questions.specs.declared.headers.HeaderTold.TheVariants as HeaderTold
 use Rattle.questions.specs.declared.items.Entry.{Entry}
 use Rattle.questions.specs.declared.items.ItemTold.{ItemTold}
-use Rattle.questions.specs.declared.items.ItemTold.TheVariants as ItemTold
 use Rattle.index.specs.Index as Index
 use Rattle.index.specs.Index.{entries_of, Indexes}
 use Rattle.index.specs.declared.Indexed.{Indexed}
-use Rattle.index.specs.declared.Indexed.TheVariants as Indexed
 use Rattle.runs.specs.Runs as Runs
 use Rattle.runs.specs.Runs.{Element, RunAnswer}
 use Rattle.runs.specs.declared.Ran.{Ran}
-use Rattle.runs.specs.declared.Ran.TheVariants as Ran
 use Rattle.runs.specs.declared.Sibling.{Sibling}
 use Rattle.permit.specs.Permit as Permit
 use Rattle.permit.specs.declared.Written.{Written}
-use Rattle.permit.specs.declared.Written.TheVariants as Written
 use Rattle.turn.specs.Turn as Turn
 use Rattle.turn.specs.Turn.{Turns}
 use Rattle.rewrite.specs.Rewrite as Rewrite
@@ -95,7 +79,7 @@ use Rattle.answers.specs.declared.Montage.{Montage}
 use Rattle.answers.specs.declared.Place as PlaceC
 use Rattle.answers.specs.declared.Sample.{Sample}
 use Rattle.answers.specs.declared.Track as TrackC
-use Rattle.psg.specs.Calls.{JudgeAnswers, TableAnswers, TurnAnswers, RewriteAnswers, RoomAnswers, RunAnswers, IndexAnswers}
+use Rattle.psg.specs.Calls.{JudgeAnswers, TableAnswers, TurnAnswers, RewriteAnswers, RunAnswers, IndexAnswers}
 use Rattle.demands.specs.Demands.{of_file, of_table, of_turn, of_rewrite, of_question, of_run, refusal_of, Refuses, Answered, KeepsRest, listed_rows, wrote_c, stopped_c, header_c, refused_c, flat_judged, TakenApart, Boundary, Accepted, header_judged, JudgesByRules}
 use Rattle.demands.proofs.Refusing.{of-file, header_refused, room-refused, table-refuses, table-keeps, turn-refuses, turn-keeps, rewrite-refuses, rewrite-keeps, index-refuses, index-keeps, Proper, proper-facts, proper-channel, proper-item, proper-clock, proper-place, proper-sample, proper-montage-count, proper-montage}
 use Rattle.demands.proofs.Refusing.{proper-track}

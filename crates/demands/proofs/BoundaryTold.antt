@@ -10,8 +10,6 @@ use Rattle.walk.specs.Walk.{Event}
 use Rattle.rules.specs.Rules as R
 use Rattle.rules.specs.Reading.{Value, ChannelReading, Reading, reading}
 use Rattle.rules.specs.declared.Version.{Version}
-use Rattle.rules.specs.declared.Version.TheVariants as Version
-use Rattle.rules.specs.declared.Form.TheVariants as Form
 use Rattle.rules.specs.declared.Form.{Form}
 use Rattle.rules.specs.declared.Refusal.{Refusal}
 use Rattle.records.specs.declared.items.Holder.TheVariants as Holder

@@ -2,7 +2,7 @@
 -- Assumes nothing.
 use mathlib.Core.Path.{◌≡◌, refl, sym, ap, ◌∙◌}
 use mathlib.Core.Bool.{Bool, true, false}
-use Prim.Native.Nat.{ℕ, ◌≤◌, ◌<◌}
+use Prim.Native.Nat.{ℕ}
 use native.Mathlib.Omega.{arith}
 use borrow.Author.Tests.{le-leb, lt-leb}
 use lib.Dec.{leb}
@@ -14,7 +14,6 @@ use Rattle.recordings.proofs.Chosen.{refusal-value}
 use Rattle.codes.specs.Codes.{kind_of, kind_told, meaning, KindAnswer}
 use Rattle.codes.specs.declared.EventKind.{EventKind}
 use Rattle.codes.specs.declared.KindTold.{KindTold}
-use Rattle.codes.specs.declared.KindTold.TheVariants as KindTold
 use Rattle.codes.proofs.Table.{kind-is}
 use Rattle.codes.proofs.Unique.{told, told_back}
 use Rattle.answers.specs.Flat.{flat_kind}

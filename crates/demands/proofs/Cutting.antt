@@ -2,13 +2,13 @@
 -- the reading's samples.
 -- Assumes nothing.
 use mathlib.Core.Path.{◌≡◌, refl, sym, ap, ◌∙◌}
-use mathlib.Core.List.{List, []}
+use mathlib.Core.List.{List}
 use Prim.Native.Nat.{ℕ, ◌+◌}
-use denote.Ref.{Bor}
+use denote.Bor.{Bor}
 use lib.ListN.{length}
 use Rattle.words.specs.Numbers.{Bytes, bytes_at}
 use Rattle.walk.specs.Walk.{Event}
-use Rattle.rules.specs.Reading.{Reading, reading}
+use Rattle.rules.specs.Reading.{reading}
 use Rattle.rules.specs.Rules as R
 use Rattle.recordings.specs.Answers.{value}
 use Rattle.samples.specs.Placed.{place_of, part_in, bytes_of, PartAnswer, values_at}
@@ -47,7 +47,7 @@ module _ (file : Bor (List ℕ)) (p : Place) where
         let w = alike-value (place-samples file.now b h i j k) (sym e) in
         let y = shown.all (placed-from file.now b i j k (sym e)).inside in
         record {
-          offset = shown.offset ∙ ap (λ (n : ℕ). file.ptr.1 + n) y.0;
+          offset = shown.offset ∙ ap (λ (n : ℕ). file.ref_ptr.1 + n) y.0;
           long = y.1;
           channel = w.like.channel;
           described = w.like.described;
@@ -56,8 +56,8 @@ module _ (file : Bor (List ℕ)) (p : Place) where
 
   pub part-told : (a : PartC.Part) → PartAnswers (length file.now) p.position p.width p.count a → PartTold file p a
   part-told a x = record {
-    told = record { ref_ptr = (file.ref_ptr.0, file.ref_ptr.1 + cut.start); ghost_name = file.ghost_name; now = bytes_of file.now p };
+    told = record { ref_ptr = (file.ref_ptr.0, file.ref_ptr.1 + cut.start); now = bytes_of file.now p };
     met = record { bytes = refl; block = refl; offset = refl };
-    start = λ r y. y.offset ∙ ap (λ (c : PartC.Part). file.ptr.1 + c.start) (sym x);
+    start = λ r y. y.offset ∙ ap (λ (c : PartC.Part). file.ref_ptr.1 + c.start) (sym x);
     long = λ r y. part-long r y ∙ ap (λ (c : PartC.Part). c.length) (sym x);
   }

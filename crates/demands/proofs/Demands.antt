@@ -4,15 +4,14 @@ use mathlib.Core.Path.{◌≡◌, refl, sym, ap, ◌∙◌}
 use mathlib.Core.Bool.{true}
 use mathlib.Core.List.{List}
 use mathlib.Core.Option.{none}
-use Prim.Native.Nat.{ℕ, ◌+◌, ◌*◌, ◌≤◌}
+use Prim.Native.Nat.{ℕ, ◌*◌, ◌≤◌}
 use native.Mathlib.Omega.{arith}
 use borrow.Author.Tests.{le-leb}
-use denote.Ref.{Bor}
+use denote.Bor.{Bor}
 use lib.IntN.{ℤ}
-use lib.ListN.{length, take, drop}
-use lib.Seq.{take_at}
+use lib.ListN.{length, take}
 use Rattle.words.specs.Lent.{written}
-use Rattle.words.specs.Numbers.{Bytes, bytes_at, other}
+use Rattle.words.specs.Numbers.{Bytes, other}
 use Rattle.words.specs.declared.Order.{Order}
 use Rattle.words.proofs.Lent.{written-front}
 use Rattle.walk.specs.Walk.{Event, refused, rows}
@@ -29,7 +28,6 @@ use Rattle.rows.specs.Rows as Rows
 use Rattle.table.specs.Table as Table
 use Rattle.table.specs.Table.{Lists}
 use Rattle.table.specs.declared.Listed.{Listed}
-use Rattle.table.specs.declared.Listed.TheVariants as Listed
 use Rattle.table.proofs.Answers.{lists-refused, table-unique}
 use Rattle.recordings.specs.Answers.{Answer, value, ◌>>=◌, numbered}
 use Rattle.recordings.specs.declared.FactsTold.TheVariants as FactsTold
@@ -62,14 +60,12 @@ use Rattle.index.specs.Events.{Entry, entries}
 use Rattle.index.specs.Index as Index
 use Rattle.index.specs.Index.{Indexes}
 use Rattle.index.specs.declared.Indexed.{Indexed}
-use Rattle.index.specs.declared.Indexed.TheVariants as Indexed
 use Rattle.index.proofs.Answers.{indexes-refused, index-unique}
 use Rattle.index.proofs.AsBefore.{entries-read}
 use Rattle.index.proofs.Exact.{exact}
 use Rattle.makers.specs.Makers.{first_maker}
 use Rattle.permit.specs.Permit as Permit
 use Rattle.permit.specs.declared.Written.{Written}
-use Rattle.permit.specs.declared.Written.TheVariants as Written
 use Rattle.turn.specs.Turn.{Turns}
 use Rattle.turn.proofs.Answers.{turns-refused}
 use Rattle.turn.proofs.Demands.{turn-unique, turn-answers, turn-accepted, turn_twice}

@@ -10,13 +10,12 @@ use native.Mathlib.Omega.{arith}
 use borrow.Author.Tests.{leb-true}
 use lib.Dec.{leb}
 use lib.IntN.{ℤ}
-use lib.ListN.{length, drop}
-use lib.Seq.{drop_at}
+use lib.ListN.{length}
 use Rattle.words.specs.Numbers.{Bytes}
 use Rattle.words.specs.Lent.{written}
 use Rattle.words.proofs.Lent.{length-written, written-beyond}
 use Rattle.words.proofs.Runs.{length-pasted, drop-pasted}
-use Rattle.walk.specs.Walk.{pick, Row, Event, Outcome, refused, passed, rows}
+use Rattle.walk.specs.Walk.{pick, Event, Outcome, refused, passed, rows}
 use Rattle.walk.proofs.Apart.{none-some}
 use Rattle.rules.specs.Canonical.{rewritten}
 use Rattle.rules.specs.Reading.{frame_reading}
@@ -27,11 +26,9 @@ use Rattle.rules.proofs.Refusals.{refusals}
 use Rattle.rules.proofs.Turn.{nothing_left, turn-length}
 use Rattle.header.specs.Letters.{lettered}
 use Rattle.header.specs.declared.Lettered.{Lettered}
-use Rattle.header.specs.declared.Lettered.TheVariants as Lettered
 use Rattle.rows.specs.Rows as Rows
 use Rattle.table.specs.Table as Table
 use Rattle.table.specs.declared.Listed.{Listed}
-use Rattle.table.specs.declared.Listed.TheVariants as Listed
 use Rattle.table.proofs.Answers.{rows-refusal}
 use Rattle.recordings.specs.Answers.{Answer, value, refusal, ◌>>=◌, indexed, numbered}
 use Rattle.recordings.specs.Recordings.{judged, recording_of}
@@ -45,7 +42,6 @@ use Rattle.makers.specs.Makers.{first_maker}
 use Rattle.permit.specs.Permit as Permit
 use Rattle.permit.specs.Permit.{permitted, Writes}
 use Rattle.permit.specs.declared.Written.{Written}
-use Rattle.permit.specs.declared.Written.TheVariants as Written
 use Rattle.permit.proofs.Settled.{bytes-refusal, permit-room}
 use Rattle.turn.specs.Turn as Turn
 use Rattle.turn.specs.Turn.{Turns}
@@ -56,7 +52,6 @@ use Rattle.index.specs.Events.{entries}
 use Rattle.index.specs.Index as Index
 use Rattle.index.specs.Index.{entries_of}
 use Rattle.index.specs.declared.Indexed.{Indexed}
-use Rattle.index.specs.declared.Indexed.TheVariants as Indexed
 use Rattle.demands.specs.Demands.{of_file, of_table, of_turn, of_rewrite, of_question, Refuses, Answered, KeepsRest, listed_rows, refusal_of}
 use Rattle.demands.proofs.Makers.{maker-inside}
 

@@ -25,16 +25,14 @@ use Rattle.samples.specs.Placed.{place_of, bytes_of, values_of}
 use Rattle.samples.specs.declared.Place.{Place}
 use Rattle.samples.proofs.Placing.{values-many}
 use Rattle.samples.specs.declared.SampleTold.{SampleTold}
-use Rattle.samples.specs.declared.SampleTold.TheVariants as SampleTold
 use Rattle.questions.specs.Promised.{SampleAnswer}
 use Rattle.questions.specs.Tied.{channel_read}
 use Rattle.questions.proofs.Unique.{sample-unique}
 use Rattle.runs.specs.Runs.{Element, element_of, serves, run_within, place_from, run_of, counted, holding, meaning, answer_of, RunAnswer}
 use Rattle.runs.proofs.Asked.{as_before}
 use Rattle.runs.specs.declared.Ran.{Ran}
-use Rattle.runs.specs.declared.Ran.TheVariants as Ran
 use Rattle.runs.specs.declared.Sibling.{Sibling}
-use Rattle.demands.specs.Demands.{of_file, of_question, of_run, Refuses, KeepsRest, Accepted, value_told, Agree, values, refusals, run_read, EntryTells}
+use Rattle.demands.specs.Demands.{of_file, of_question, of_run, Refuses, KeepsRest, Accepted, Agree, values, refusals, run_read, EntryTells}
 use Rattle.demands.proofs.Agreeing.{agree_then, agree-second, agree-equal, image-value}
 use Rattle.demands.proofs.Refusing.{short, or_right, Proper, proper-outside, proper-then, proper-place, proper-format}
 use Rattle.demands.proofs.Samples.{Stand, samples-stand}

@@ -26,35 +26,26 @@ use Rattle.header.specs.Letters.{lettered}
 use Rattle.header.specs.declared.Lettered.TheVariants as Lettered
 use Rattle.judge.specs.Judged.{AcceptedAs, JudgedAs}
 use Rattle.judge.specs.declared.Judged.{Judged}
-use Rattle.judge.specs.declared.Judged.TheVariants as Judged
 use Rattle.rows.specs.Rows as Rows
 use Rattle.table.specs.Table as Table
 use Rattle.table.specs.Table.{Lists}
 use Rattle.table.specs.declared.Listed.{Listed}
-use Rattle.table.specs.declared.Listed.TheVariants as Listed
 use Rattle.recordings.specs.Answers.{Answer, value, refusal, ◌>>=◌, indexed}
 use Rattle.recordings.specs.declared.Counts.{Counts}
 use Rattle.recordings.specs.declared.FactsTold.{FactsTold}
-use Rattle.recordings.specs.declared.FactsTold.TheVariants as FactsTold
 use Rattle.codes.specs.Codes as Codes
 use Rattle.codes.specs.Codes.{KindAnswer, KindIs}
 use Rattle.codes.specs.declared.EventKind.{EventKind}
 use Rattle.codes.specs.declared.KindTold.{KindTold}
-use Rattle.codes.specs.declared.KindTold.TheVariants as KindTold
 use Rattle.samples.specs.Placed.{PartAnswer, values_at}
 use Rattle.samples.specs.declared.ClockTold.{ClockTold}
-use Rattle.samples.specs.declared.ClockTold.TheVariants as ClockTold
 use Rattle.samples.specs.declared.Number.{Number}
-use Rattle.samples.specs.declared.Number.TheVariants as Number
 use Rattle.samples.specs.declared.Place.{Place}
 use Rattle.samples.specs.declared.PlaceTold.{PlaceTold}
-use Rattle.samples.specs.declared.PlaceTold.TheVariants as PlaceTold
 use Rattle.samples.specs.declared.SampleTold.{SampleTold}
-use Rattle.samples.specs.declared.SampleTold.TheVariants as SampleTold
 use Rattle.samples.specs.declared.Time.{Time}
 use Rattle.samples.specs.declared.Track.{Track}
 use Rattle.samples.specs.declared.TrackTold.{TrackTold}
-use Rattle.samples.specs.declared.TrackTold.TheVariants as TrackTold
 use Rattle.questions.specs.Promised.{HeaderAnswer, FactsAnswer, ChannelAnswer, MontageCountAnswer, MontageAnswer, PatientItemAnswer, EventItemAnswer, ClockAnswer, PlaceAnswer, SampleAnswer}
 use Rattle.questions.specs.Promised.{TrackAnswer}
 use Rattle.questions.specs.Tied.{recording_read, channel_read, montage_read, item_read, frame_read, samples_read, sample_read, Alike, FactsAre, TextsAre, WiredIs, ItemIs, ClockIs, format_in, PlaceIs}
@@ -63,35 +54,26 @@ use Rattle.questions.specs.Values.{text_at}
 use Rattle.questions.specs.Questions.{header_in}
 use Rattle.questions.specs.Meanings.{meaning_h, meaning_f, meaning_d, meaning_n, meaning_m, meaning_i, meaning_t, meaning_p, meaning_k, meaning_s}
 use Rattle.questions.specs.declared.channels.Calibration.{Calibration}
-use Rattle.questions.specs.declared.channels.Calibration.TheVariants as Calibration
 use Rattle.questions.specs.declared.channels.ChannelTold.{ChannelTold}
-use Rattle.questions.specs.declared.channels.ChannelTold.TheVariants as ChannelTold
 use Rattle.questions.specs.declared.channels.Descriptor.{Descriptor}
 use Rattle.questions.specs.declared.channels.MontageCountTold.{MontageCountTold}
-use Rattle.questions.specs.declared.channels.MontageCountTold.TheVariants as MontageCountTold
 use Rattle.questions.specs.declared.channels.MontageTold.{MontageTold}
-use Rattle.questions.specs.declared.channels.MontageTold.TheVariants as MontageTold
 use Rattle.questions.specs.declared.items.Entry.{Entry}
 use Rattle.questions.specs.declared.headers.Header as Asked
 use Rattle.questions.specs.declared.headers.HeaderTold.{HeaderTold}
-use Rattle.questions.specs.declared.headers.HeaderTold.TheVariants as HeaderTold
 use Rattle.questions.specs.declared.items.ItemTold.{ItemTold}
-use Rattle.questions.specs.declared.items.ItemTold.TheVariants as ItemTold
 use Rattle.runs.specs.Runs as Runs
 use Rattle.runs.specs.Runs.{Element, element_of, RunAnswer}
 use Rattle.runs.specs.declared.Ran.{Ran}
-use Rattle.runs.specs.declared.Ran.TheVariants as Ran
 use Rattle.runs.specs.declared.Sibling.{Sibling}
 use Rattle.index.specs.Events as Events
 use Rattle.index.specs.Events.{entries}
 use Rattle.index.specs.Index as Index
 use Rattle.index.specs.Index.{entries_of, Indexes}
 use Rattle.index.specs.declared.Indexed.{Indexed}
-use Rattle.index.specs.declared.Indexed.TheVariants as Indexed
 use Rattle.makers.specs.Makers.{first_maker}
 use Rattle.permit.specs.Permit as Permit
 use Rattle.permit.specs.declared.Written.{Written}
-use Rattle.permit.specs.declared.Written.TheVariants as Written
 use Rattle.turn.specs.Turn.{Turns}
 use Rattle.rewrite.specs.Rewrite.{barrier, rewritten_in, Rewrites}
 use Rattle.room.specs.Room.{RoomAnswer, ShortAnew}
