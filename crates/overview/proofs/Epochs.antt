@@ -1,18 +1,18 @@
 -- The numbers of an epoch: none, or as many as its frames have, and the smallest and the largest of them.
 -- Assumes nothing.
 use mathlib.Core.Path.{◌≡◌, refl, sym, ap, ◌∙◌}
-use mathlib.Core.List.{List, [], ◌∷◌, ◌++◌}
-use mathlib.Core.Option.{Option, none, some}
+use mathlib.Core.List.{List, [], ◌∷◌}
+use mathlib.Core.Option.{none, some}
 use Prim.Native.Nat.{ℕ, zero, suc, ◌+◌, ◌-◌, ◌*◌, ◌^◌, ◌≤◌, ◌<◌}
 use native.Mathlib.Nat.{mul-zero, mul-suc, mul-le-mul_left, mul-le-mul_right}
 use native.Mathlib.Omega.{arith}
 use lib.IntN.{ℤ, pos}
 use lib.ListN.{length, length-append}
 use Rattle.words.specs.Numbers.{bytes_at}
-use Rattle.recordings.specs.Answers.{Answer, value}
+use Rattle.recordings.specs.Answers.{value}
 use Rattle.samples.specs.declared.Track.{Track}
 use Rattle.overview.specs.Overview.{envelope_of}
-use Rattle.overview.specs.Steps.{wholes_at, extremes_of, frame_numbers, frames_numbers, started_by, epoch_numbers, shown, EpochIs}
+use Rattle.overview.specs.Steps.{extremes_of, frames_numbers, started_by, epoch_numbers, shown, EpochIs}
 use Rattle.overview.specs.declared.Envelope.{Envelope}
 use Rattle.overview.specs.declared.extremes.Extremes.{Extremes}
 use Rattle.overview.proofs.Framed.{wholes-many}

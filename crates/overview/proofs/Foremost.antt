@@ -93,7 +93,7 @@ tested h k e = rw (to_z-of_z h, to_z-of_z k) at e
 
 -- a number of 32 bits is the same in 64
 pub recast : {z : ℤ} → SFits w32 z → to_z w64 (of_z w64 (to_z w32 (of_z w32 z))) ≡ z
-recast h = ap (λ (x : ℤ). to_z w64 (of_z w64 x)) (to_z-of_z h) ∙ to_z-of_z (sfits_widen tt h)
+recast h = ap (λ (x : ℤ). to_z w64 (of_z w64 x)) (to_z-of_z h) ∙ to_z-of_z {w = w64} (sfits_widen (tt {0}) h)
 
 -- it fits where it stands
 pub refits : (w : Width) (z : ℤ) → SFits w z → SFits w (to_z w (of_z w z))

@@ -1,7 +1,7 @@
 -- A loop over the numbers of a part, or of two side by side, front to back: once over the width, for numbers of 16 bits and of 32.
 -- Assumes nothing.
 use mathlib.Core.Path.{◌≡◌, refl, sym, ap, ◌∙◌}
-use mathlib.Core.List.{List, [], ◌∷◌}
+use mathlib.Core.List.{List}
 use Prim.Native.Nat.{ℕ, zero, suc, ◌+◌, ◌*◌, ◌≤◌, ◌<◌}
 use native.Mathlib.Nat.{zero-add, mul-zero, mul-suc, eq_of_mul-eq-mul_left}
 use native.Mathlib.Omega.{arith}

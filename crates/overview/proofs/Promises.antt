@@ -29,10 +29,8 @@ use Rattle.overview.specs.Promises.{InEpoch, EpochTells, wrote_c, stopped_c, Sam
 use Rattle.overview.specs.declared.Counted.{Counted}
 use Rattle.overview.specs.declared.Envelope.{Envelope}
 use Rattle.overview.specs.declared.OverviewTold.{OverviewTold}
-use Rattle.overview.specs.declared.OverviewTold.TheVariants as OverviewTold
 use Rattle.overview.specs.declared.Overviewed.{Overviewed}
 use Rattle.overview.specs.declared.RangeTold.{RangeTold}
-use Rattle.overview.specs.declared.RangeTold.TheVariants as RangeTold
 use Rattle.overview.proofs.Least.{envelope-is, none-there}
 use Rattle.overview.proofs.Read.{apart, judged}
 use Rattle.overview.proofs.Told.{epochs-there}

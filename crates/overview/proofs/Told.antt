@@ -20,7 +20,6 @@ use Rattle.rules.specs.declared.Refusal.{Refusal}
 use Rattle.recordings.specs.Answers.{Answer, value, refusal, ◌>>=◌, outside, numbered}
 use Rattle.samples.specs.declared.Track.{Track}
 use Rattle.samples.specs.declared.TrackTold.{TrackTold}
-use Rattle.samples.specs.declared.TrackTold.TheVariants as TrackTold
 use Rattle.questions.specs.Promised.{TrackAnswer}
 use Rattle.questions.specs.Tied.{recording_read, channel_read, format_in, TrackIs}
 use Rattle.demands.specs.Demands.{Accepted, Tells, refusal_of}

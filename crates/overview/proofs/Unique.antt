@@ -11,10 +11,8 @@ use Rattle.overview.specs.Overview.{meaning, OverviewAnswer, meaning_r, RangeAns
 use Rattle.overview.specs.declared.Counted.{Counted}
 use Rattle.overview.specs.declared.Envelope.{Envelope}
 use Rattle.overview.specs.declared.OverviewTold.{OverviewTold}
-use Rattle.overview.specs.declared.OverviewTold.TheVariants as OverviewTold
 use Rattle.overview.specs.declared.Overviewed.{Overviewed}
 use Rattle.overview.specs.declared.RangeTold.{RangeTold}
-use Rattle.overview.specs.declared.RangeTold.TheVariants as RangeTold
 
 -- an answer of the code, from what it means
 abbrev pub again : Answer (Option Envelope) → OverviewTold

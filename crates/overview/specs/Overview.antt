@@ -14,9 +14,7 @@ use Rattle.runs.specs.Runs.{element_of}
 use Rattle.runs.specs.declared.Sibling.TheVariants as Sibling
 use Rattle.overview.specs.declared.Envelope.{Envelope}
 use Rattle.overview.specs.declared.OverviewTold.{OverviewTold}
-use Rattle.overview.specs.declared.OverviewTold.TheVariants as OverviewTold
 use Rattle.overview.specs.declared.RangeTold.{RangeTold}
-use Rattle.overview.specs.declared.RangeTold.TheVariants as RangeTold
 
 -- Samples
 

@@ -22,10 +22,8 @@ use Rattle.overview.specs.Overview.{samples_in, seconds_of, numbers, meaning, Ov
 use Rattle.overview.specs.declared.Counted.{Counted}
 use Rattle.overview.specs.declared.Envelope.{Envelope}
 use Rattle.overview.specs.declared.OverviewTold.{OverviewTold}
-use Rattle.overview.specs.declared.OverviewTold.TheVariants as OverviewTold
 use Rattle.overview.specs.declared.Overviewed.{Overviewed}
 use Rattle.overview.specs.declared.RangeTold.{RangeTold}
-use Rattle.overview.specs.declared.RangeTold.TheVariants as RangeTold
 
 -- An epoch's samples
 

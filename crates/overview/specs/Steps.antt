@@ -11,7 +11,6 @@ use Rattle.rules.specs.declared.Refusal.{Refusal}
 use Rattle.recordings.specs.Answers.{refusal}
 use Rattle.samples.specs.declared.Track.{Track}
 use Rattle.samples.specs.declared.TrackTold.{TrackTold}
-use Rattle.samples.specs.declared.TrackTold.TheVariants as TrackTold
 use Rattle.questions.specs.Promised.{TrackAnswer}
 use Rattle.decode.specs.Wide.{Wide}
 use Rattle.overview.specs.Overview.{lower, higher, foremost, envelope_of, within, range_of}

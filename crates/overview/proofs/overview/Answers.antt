@@ -1,0 +1,40 @@
+-- `overview::overview` meets its contract: from the track, by the laws of Told.
+-- Assumes nothing.
+use mathlib.Core.Path.{◌≡◌, ◌∙◌}
+use Rattle.recordings.specs.Answers.{value}
+use Rattle.overview.specs.Overview.{envelope_of, overview_of}
+use Rattle.overview.specs.Steps.{epoch_numbers, EpochsIn}
+use Rattle.overview.proofs.Epochs.{told_none, told-some}
+use Rattle.overview.proofs.Told.{epoch-there, tracked, one-refused, overview-told}
+use Rattle.overview.proofs.overview.Goals as goal
+
+known : (x : goal.In-At) → EpochsIn x.args.file.now x.args.recording x.args.channel x.args.epoch 1 x.in-At.t
+known x = rw x.in-At.is at x.epochs_asked-found.ensures
+
+known-2 : (x : goal.Then-x-eq0) → EpochsIn x.args.file.now x.args.recording x.args.channel x.args.epoch 1 x.in-At.t
+known-2 x = rw x.in-At.is at x.epochs_asked-found.ensures
+
+known-3 : (x : goal.Else-x-eq0) → EpochsIn x.args.file.now x.args.recording x.args.channel x.args.epoch 1 x.in-At.t
+known-3 x = rw x.in-At.is at x.epochs_asked-found.ensures
+
+told : (x : goal.Then-x-eq0) →
+    value (envelope_of (epoch_numbers x.args.file.now x.in-At.t x.args.epoch)) ≡ overview_of x.args.file.now x.args.recording x.args.channel x.args.epoch
+told x = let y = known-2 x in overview-told _ y.bytes _ _ _ y.answer y.whole _ y.inside
+
+told-2 : (x : goal.Else-x-eq0) →
+    value (envelope_of (epoch_numbers x.args.file.now x.in-At.t x.args.epoch)) ≡ overview_of x.args.file.now x.args.recording x.args.channel x.args.epoch
+told-2 x = let y = known-3 x in overview-told _ y.bytes _ _ _ y.answer y.whole _ y.inside
+
+pub returns-in_default : goal.returns-in_default
+returns-in_default c =
+    let e = c.in_default.is in
+    rw (c.of_track.ensures, e) (one-refused _ _ _ _ (rw e at c.epochs_asked-found.ensures))
+
+pub epoch_of-x-requires : goal.epoch_of-x-requires
+epoch_of-x-requires c = let y = known c in record { tracked = tracked _ y.bytes _ _ _ y.answer; there = epoch-there _ _ y.inside }
+
+pub returns-then-x-eq0 : goal.returns-then-x-eq0
+returns-then-x-eq0 c = told_none _ _ _ _ c.epoch_of-x.ensures c.if-x-eq0.true ∙ told c
+
+pub returns : goal.returns
+returns c = told-some _ _ _ _ c.epoch_of-x.ensures c.if-x-eq0.false ∙ told-2 c
