@@ -1,14 +1,16 @@
 // Prints the listing of the file on standard input.
 #![tactic(auto)]
 
+use std::io;
+
 const MOST: usize = 32768;
 
-fn main() {
-    let mut buf = io::large_buffer();
-    let n = io::read_full(0, &mut buf);
+fn main(rt: HostRuntime) -> io::Result<()> {
+    let mut buf = [0u8; MOST + 1];
+    let n = lister::read_full(&mut rt.reader(), &mut buf)?;
+    let mut to = io::writer(&rt);
     if MOST < n {
-        lister::print_refusal(17, MOST as u64);
-        return;
+        return lister::print_refusal(&mut to, 17, MOST as u64);
     }
-    lister::print_listing(&buf[..n]);
+    lister::print_listing(&mut to, &buf[..n])
 }
