@@ -274,7 +274,7 @@ pub fn overview_range(
     RangeTold::Epochs(number)
 }
 
-// What C and Rust link: the refusal and its position, or 0 and 0; then the values, which are 0 for a refusal and for an empty epoch.
+// What C and Rust call, by crate `overview_c`: the refusal and its position, or 0 and 0; then the values, which are 0 for a refusal and for an empty epoch.
 #[repr(C)]
 #[derive(Clone, Copy)]
 pub struct Overviewed {
@@ -340,21 +340,14 @@ fn range_apart(a: RangeTold) -> Counted
 }
 
 // The overview of one epoch.
-#[unsafe(no_mangle)]
-pub extern "C" fn psg_overview(
-    file: &[u8],
-    recording: usize,
-    channel: usize,
-    epoch: usize,
-) -> Overviewed
+pub fn psg_overview(file: &[u8], recording: usize, channel: usize, epoch: usize) -> Overviewed
     ensures { OverviewAnswers file.now recording channel epoch result }
 {
     overview_apart(overview(file, recording, channel, epoch))
 }
 
 // The overview of several epochs: how many were written.
-#[unsafe(no_mangle)]
-pub extern "C" fn psg_overview_range(
+pub fn psg_overview_range(
     file: &[u8],
     recording: usize,
     channel: usize,

@@ -1,4 +1,4 @@
-// What C and Rust link: each call takes a proved answer apart into a struct of numbers, and adds nothing.
+// What C and Rust call, by crate `psg_c`: each call takes a proved answer apart into a struct of numbers, and adds nothing.
 #![tactic(auto)]
 
 ghost use Rattle.psg.specs.Calls.{JudgeAnswers, TableAnswers, TurnAnswers, RewriteAnswers, RoomAnswers};
@@ -18,8 +18,7 @@ use table::Listed;
 use words::byte;
 
 // The verdict on a file: what its header says, or the refusal.
-#[unsafe(no_mangle)]
-pub extern "C" fn psg_judge(file: &[u8]) -> Header
+pub fn psg_judge(file: &[u8]) -> Header
     ensures { JudgeAnswers file.now result }
 {
     let judged = judge::judge(file);
@@ -30,8 +29,7 @@ pub extern "C" fn psg_judge(file: &[u8]) -> Header
 }
 
 // The table: how many rows of four numbers were written.
-#[unsafe(no_mangle)]
-pub extern "C" fn psg_table(file: &[u8], rows: &mut [i64]) -> Counted
+pub fn psg_table(file: &[u8], rows: &mut [i64]) -> Counted
     ensures { TableAnswers file.now rows.old rows.new result }
 {
     let listed = table::table(file, rows);
@@ -42,103 +40,89 @@ pub extern "C" fn psg_table(file: &[u8], rows: &mut [i64]) -> Counted
 }
 
 // The file in the other byte order: how many bytes were written.
-#[unsafe(no_mangle)]
-pub extern "C" fn psg_turn(file: &[u8], out: &mut [u8]) -> Counted
+pub fn psg_turn(file: &[u8], out: &mut [u8]) -> Counted
     ensures { TurnAnswers file.now out.old out.new result }
 {
     answers::written_of(turn::turn(file, out))
 }
 
 // The canonical form of the file, in the order that a letter names: how many bytes were written.
-#[unsafe(no_mangle)]
-pub extern "C" fn psg_rewrite(file: &[u8], order: u8, out: &mut [u8]) -> Counted
+pub fn psg_rewrite(file: &[u8], order: u8, out: &mut [u8]) -> Counted
     ensures { RewriteAnswers file.now order out.old out.new result }
 {
     answers::written_of(rewrite::rewrite(file, order, out))
 }
 
 // Room that is enough for the canonical form of the file, in either order: so many bytes.
-#[unsafe(no_mangle)]
-pub extern "C" fn psg_rewrite_room(file: &[u8]) -> Counted
+pub fn psg_rewrite_room(file: &[u8]) -> Counted
     ensures { RoomAnswers file.now result }
 {
     answers::written_of(room::room(file))
 }
 
 // The questions, in the order of crate `questions`.
-#[unsafe(no_mangle)]
-pub extern "C" fn psg_header(file: &[u8]) -> Heading
+pub fn psg_header(file: &[u8]) -> Heading
     ensures { HeaderAnswers file.now result }
 {
     answers::heading_of(questions::header(file))
 }
 
-#[unsafe(no_mangle)]
-pub extern "C" fn psg_facts(file: &[u8], recording: usize) -> Facts
+pub fn psg_facts(file: &[u8], recording: usize) -> Facts
     ensures { FactsAnswers file.now recording result }
 {
     answers::facts_of(questions::facts(file, recording))
 }
 
-#[unsafe(no_mangle)]
-pub extern "C" fn psg_channel(file: &[u8], recording: usize, channel: usize) -> Channel
+pub fn psg_channel(file: &[u8], recording: usize, channel: usize) -> Channel
     ensures { ChannelAnswers file.now recording channel result }
 {
     answers::channel_of(questions::channel(file, recording, channel))
 }
 
-#[unsafe(no_mangle)]
-pub extern "C" fn psg_montage_count(file: &[u8], recording: usize) -> Counted
+pub fn psg_montage_count(file: &[u8], recording: usize) -> Counted
     ensures { MontageCountAnswers file.now recording result }
 {
     answers::montage_count_of(questions::montage_count(file, recording))
 }
 
-#[unsafe(no_mangle)]
-pub extern "C" fn psg_montage(file: &[u8], recording: usize, channel: usize) -> Montage
+pub fn psg_montage(file: &[u8], recording: usize, channel: usize) -> Montage
     ensures { MontageAnswers file.now recording channel result }
 {
     answers::montage_of(questions::montage(file, recording, channel))
 }
 
-#[unsafe(no_mangle)]
-pub extern "C" fn psg_patient_item(file: &[u8], recording: usize, item: usize) -> Item
+pub fn psg_patient_item(file: &[u8], recording: usize, item: usize) -> Item
     ensures { PatientItemAnswers file.now recording item result }
 {
     answers::item_of(questions::patient_item(file, recording, item))
 }
 
-#[unsafe(no_mangle)]
-pub extern "C" fn psg_event_item(file: &[u8], recording: usize, item: usize) -> Item
+pub fn psg_event_item(file: &[u8], recording: usize, item: usize) -> Item
     ensures { EventItemAnswers file.now recording item result }
 {
     answers::item_of(questions::event_item(file, recording, item))
 }
 
-#[unsafe(no_mangle)]
-pub extern "C" fn psg_clock(file: &[u8], recording: usize, frame: usize) -> Clock
+pub fn psg_clock(file: &[u8], recording: usize, frame: usize) -> Clock
     ensures { ClockAnswers file.now recording frame result }
 {
     answers::clock_of(questions::clock(file, recording, frame))
 }
 
-#[unsafe(no_mangle)]
-pub extern "C" fn psg_place(file: &[u8], recording: usize, frame: usize, channel: usize) -> Place
+pub fn psg_place(file: &[u8], recording: usize, frame: usize, channel: usize) -> Place
     ensures { PlaceAnswers file.now recording frame channel result }
 {
     answers::place_of(questions::place(file, recording, frame, channel))
 }
 
-#[unsafe(no_mangle)]
-pub extern "C" fn psg_track(file: &[u8], recording: usize, channel: usize) -> Track
+pub fn psg_track(file: &[u8], recording: usize, channel: usize) -> Track
     ensures { TrackAnswers file.now recording channel result }
 {
     answers::track_of(questions::track(file, recording, channel))
 }
 
 // The part of a file of so many bytes that `samples::part` cuts by a place. It needs no file.
-#[unsafe(no_mangle)]
-pub extern "C" fn psg_part(bytes: usize, position: usize, width: usize, count: usize) -> Part
+pub fn psg_part(bytes: usize, position: usize, width: usize, count: usize) -> Part
     ensures { PartAnswers bytes position width count result }
 {
     let place = samples::Place {
@@ -149,8 +133,7 @@ pub extern "C" fn psg_part(bytes: usize, position: usize, width: usize, count: u
     answers::part_of(samples::part_in(bytes, place))
 }
 
-#[unsafe(no_mangle)]
-pub extern "C" fn psg_sample(
+pub fn psg_sample(
     file: &[u8],
     recording: usize,
     frame: usize,
@@ -163,8 +146,7 @@ pub extern "C" fn psg_sample(
 }
 
 // A run of samples: so many whole numbers, or the 32 bits of so many floats.
-#[unsafe(no_mangle)]
-pub extern "C" fn psg_run(
+pub fn psg_run(
     file: &[u8],
     recording: usize,
     frame: usize,
@@ -178,8 +160,7 @@ pub extern "C" fn psg_run(
     answers::run_of(runs::run(file, recording, frame, channel, first, number, samples))
 }
 
-#[unsafe(no_mangle)]
-pub extern "C" fn psg_run_floats(
+pub fn psg_run_floats(
     file: &[u8],
     recording: usize,
     frame: usize,
@@ -194,16 +175,14 @@ pub extern "C" fn psg_run_floats(
 }
 
 // The night events: how many entries of five numbers were written.
-#[unsafe(no_mangle)]
-pub extern "C" fn psg_index(file: &[u8], entries: &mut [i64]) -> Counted
+pub fn psg_index(file: &[u8], entries: &mut [i64]) -> Counted
     ensures { IndexAnswers file.now entries.old entries.new result }
 {
     answers::index_of(index::index(file, entries))
 }
 
 // The kind of an event's code. It needs no file.
-#[unsafe(no_mangle)]
-pub extern "C" fn psg_event_kind(code: u64) -> Kind
+pub fn psg_event_kind(code: u64) -> Kind
     ensures { KindAnswers code result }
 {
     answers::kind_of(codes::event_kind(code))
