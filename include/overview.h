@@ -1,6 +1,6 @@
 /* The thirty-second overview of recordings in the JSSR PSG common format, versions 1.00 to 3.00: the smallest and the
  * largest sample of a channel, and how many there are, epoch by epoch. It is a proved library above the one of psg.h
- * and has an archive of its own: link liboverview.a, which `rt staticlib overview` writes. It needs neither psg.h nor
+ * and has an archive of its own: link liboverview.a, which `tools/build.sh overview` builds. It needs neither psg.h nor
  * libpsg.a, and goes into one program with them.
  *
  * Epochs are asked for from 0, recordings and channels from 1. Epoch e has the frames that start in it: those whose

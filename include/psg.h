@@ -1,5 +1,5 @@
 /* The proved library for recordings in the JSSR PSG common format, versions 1.00 to 3.00. Link libpsg.a, which
- * `rt staticlib psg` writes.
+ * `tools/build.sh psg` builds.
  *
  * A file and a buffer are lent as pointer and length for the time of a call; nothing is kept. Every call judges the file
  * itself, and every file and every argument is answered. An answer begins with the refusal: its number (document 01,

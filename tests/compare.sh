@@ -3,7 +3,7 @@
 # project's own (tests/corpus) and, where it is there, of the one beside the checkout (or its archive is the argument),
 # which another program made, the one with the requests that have landed; then files made afresh, through `listing` and
 # through the library, and a short run of many files at once. SEED and COUNT choose the files made afresh, ROUNDS those
-# that go through the library.
+# that go through the library. Needs what `tools/build.sh` builds.
 set -euo pipefail
 cd "$(dirname "$0")/.."
 own=tests/corpus/files.tar.gz

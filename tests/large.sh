@@ -4,7 +4,7 @@
 # of the gate.
 set -euo pipefail
 cd "$(dirname "$0")/.."
-rt staticlib psg > /dev/null
+bash tools/build.sh psg >/dev/null
 path=$(mktemp)
 trap 'rm -f "$path"' EXIT
 (cd rust && cargo run --release --offline --quiet --package psg-large -- "$path")

@@ -1,4 +1,4 @@
-//! Links the library that `rt staticlib overview` wrote, or the one in the folder that OVERVIEW_LIB names.
+//! Links the library that `tools/build.sh overview` built, or the one in the folder that OVERVIEW_LIB names.
 fn main() {
     let root = std::env::var("CARGO_MANIFEST_DIR").expect("cargo names the folder");
     let folder = std::env::var("OVERVIEW_LIB").unwrap_or(format!("{root}/../../target/staticlib"));

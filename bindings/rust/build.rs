@@ -1,4 +1,4 @@
-//! Links the library that `rt staticlib psg` wrote, or the one in the folder that PSG_LIB names.
+//! Links the library that `tools/build.sh psg` built, or the one in the folder that PSG_LIB names.
 fn main() {
     let root = std::env::var("CARGO_MANIFEST_DIR").expect("cargo names the folder");
     let folder = std::env::var("PSG_LIB").unwrap_or(format!("{root}/../../target/staticlib"));
