@@ -28,11 +28,11 @@ def expected(text):
 
 def module(files, rules, walk, numbers):
     lines = ['-- Files of the corpus, judged by the definitions.',
-             'use mathlib.Core.Path.{_≡_, refl}', 'use mathlib.Core.List.{List, [], _∷_}',
-             'use Prim.Native.Nat.{ℕ}', 'use Rattle·words.specs.Numbers.{%s}' % ', '.join(numbers),
-             'use Rattle·walk.specs.Walk.{Row, Outcome, refused, passed, %s}' % ', '.join(walk),
-             'use Rattle·rules.specs.Rules.{File, %s}' % ', '.join(rules), '',
-             'abbrev row4 : Row → List ℕ', 'row4 r = r .start ∷ r .size ∷ r .code ∷ r .serial ∷ []', '',
+             'use Rattle.std.proofs.Common.{◌≡◌, refl, ℕ, List, [], ◌∷◌}',
+             'use Rattle.words.specs.Numbers.{%s}' % ', '.join(numbers),
+             'use Rattle.walk.specs.Walk.{Row, Outcome, refused, passed, %s}' % ', '.join(walk),
+             'use Rattle.rules.specs.Rules.{File, %s}' % ', '.join(rules), '',
+             'abbrev row4 : Row → List ℕ', 'row4 r = r.start ∷ r.size ∷ r.code ∷ r.serial ∷ []', '',
              'abbrev all4 : List Row → List (List ℕ)', 'all4 [] = []', 'all4 (r ∷ rs) = row4 r ∷ all4 rs', '',
              'abbrev answer : Outcome File → List (List ℕ)', 'answer (refused n p) = (n ∷ p ∷ []) ∷ []',
              'answer (passed v r t) = all4 (rows 0 t)', '']
@@ -45,19 +45,20 @@ def module(files, rules, walk, numbers):
 def checked(top, files, rules, walk, numbers):
     """Whether rt accepts the theorems, in a copy under `top`, and what it says."""
     for crate in ('words', 'walk', 'rules'):
-        shutil.copytree(os.path.join(HERE, 'crates', crate), os.path.join(top, 'crates', crate))
+        shutil.copytree(os.path.join(HERE, 'crates', crate), os.path.join(top, 'crates', crate),
+                        ignore=shutil.ignore_patterns('out', 'must-fail'))
     own = os.path.join(top, 'crates', 'corpus')
     for part in ('src', 'specs', 'proofs'):
         os.makedirs(os.path.join(own, part))
     open(os.path.join(top, 'crates.txt'), 'w').write('words:\nwalk: words\nrules: words walk\ncorpus: words walk rules\n')
-    open(os.path.join(own, 'src', 'lib.rt'), 'w').write('// Files of the corpus.\n')
+    open(os.path.join(own, 'src', 'lib.rt'), 'w').write('// Files of the corpus.\n#![tactic(auto)]\n')
     open(os.path.join(own, 'specs', 'Lib.antt'), 'w').write('')
     mods = []
     for i in range(0, len(files), PER_MODULE):
         mods.append('Files%d' % (i // PER_MODULE))
         open(os.path.join(own, 'proofs', mods[-1] + '.antt'), 'w').write(module(files[i:i + PER_MODULE], rules, walk, numbers))
     open(os.path.join(own, 'proofs', 'Lib.antt'), 'w').write(''.join('pub mod %s\n' % m for m in mods))
-    run = subprocess.run(['rt', 'check', 'corpus'], cwd=top, capture_output=True, text=True)
+    run = subprocess.run(['rt', 'check'], cwd=own, capture_output=True, text=True)
     return run.returncode == 0, run.stdout + run.stderr
 
 
@@ -77,7 +78,7 @@ def main():
     count = int(sys.argv[3]) if len(sys.argv) > 3 else 400
     rules = unfoldable('crates/rules/specs/Rules.antt')
     walk = unfoldable('crates/walk/specs/Walk.antt', ('render', 'size', 'cleared', 'after'))
-    numbers = ['ordered', 'word', 'wordIn']
+    numbers = ['ordered', 'word', 'word_in']
     with tempfile.TemporaryDirectory() as top:
         if not os.path.isdir(corpus):
             with tarfile.open(corpus) as archive:
