@@ -1,25 +1,29 @@
 // Reads files, and prints what the table says of one: a record a line, or the refusal.
 #![tactic(auto)]
 
+ghost use Rattle.std.specs.Fmt.{signed_decimal};
 ghost use Rattle.std.specs.Io.{ReadsAtMost};
-ghost use Rattle.std.specs.Io.KnownBytes.{Consumes, IsAtEnd};
-ghost use Rattle.std.specs.Prelude.{◌<◌, ◌≡◌, nat_abs, IfOk, length, take};
+ghost use Rattle.std.specs.Io.KnownBytes.{Appends, Consumes, IsAtEnd};
+ghost use Rattle.std.specs.Prelude.{◌<◌, ◌≡◌, nat_abs, min, IfOk, IfSome, OnOk, length, take};
+ghost use Rattle.lister.specs.Listing.{line_at, lines_in, refusal_line, listing_of, printed_of};
 
 use std::io::{self, Read, Write};
 use table::Listed;
 
-// A file of 32,768 bytes has at most 2,048 records, of four numbers each.
+// The longest file that is listed. It has at most 2,048 records, of four numbers each.
+const MOST: usize = 32768;
+
 const ROWS: usize = 2048;
 
 // Reads until `buf` is full or the input ends. Answers how many bytes it put at the start of `buf`.
-pub fn read_full<R: Read>(input: &mut R, buf: &mut [u8]) -> io::Result<usize>
+pub fn read_full<R: Read>(from: &mut R, buf: &mut [u8]) -> io::Result<usize>
     ensures bound { ReadsAtMost result buf.new }
-    ensures bytes { IfOk result (λ n. Consumes (R.remaining input.old) (R.remaining input.new) (take n buf.new)) }
-    ensures end { IfOk result (λ n. n < length buf.old → IsAtEnd (R.remaining input.new)) }
+    ensures bytes { IfOk result (λ n. Consumes (R.remaining from.old) (R.remaining from.new) (take n buf.new)) }
+    ensures end { IfOk result (λ n. n < length buf.old → IsAtEnd (R.remaining from.new)) }
 {
     let mut done = 0;
     while done < buf.len() {
-        let n = input.read(&mut buf[done..])?;
+        let n = from.read(&mut buf[done..])?;
         if n == 0 {
             break;
         }
@@ -36,7 +40,9 @@ fn magnitude(n: i64) -> u64
 }
 
 // A number of a row, with a sign where it is negative.
-fn print_number<W: Write>(to: &mut W, n: i64) -> io::Result<()> {
+fn print_number<W: Write>(to: &mut W, n: i64) -> io::Result<()>
+    ensures { OnOk result (Appends (W.contents to.old) (W.contents to.new) (signed_decimal n)) }
+{
     if n < 0 {
         to.write_all(b"-")?;
     }
@@ -46,6 +52,7 @@ fn print_number<W: Write>(to: &mut W, n: i64) -> io::Result<()> {
 // The row whose four numbers start at `at`.
 fn print_row<W: Write>(to: &mut W, out: &[i64; 8192], at: usize) -> io::Result<()>
     requires { at < 8189 }
+    ensures { OnOk result (Appends (W.contents to.old) (W.contents to.new) (line_at out.now at)) }
 {
     print_number(to, out[at])?;
     to.write_all(b" ")?;
@@ -57,7 +64,9 @@ fn print_row<W: Write>(to: &mut W, out: &[i64; 8192], at: usize) -> io::Result<(
     to.write_all(b"\n")
 }
 
-fn print_rows<W: Write>(to: &mut W, out: &[i64; 8192], n: usize) -> io::Result<()> {
+fn print_rows<W: Write>(to: &mut W, out: &[i64; 8192], n: usize) -> io::Result<()>
+    ensures { OnOk result (Appends (W.contents to.old) (W.contents to.new) (lines_in (min n 2048) out.now)) }
+{
     for i in 0..ROWS {
         if n <= i {
             return Ok(());
@@ -68,16 +77,32 @@ fn print_rows<W: Write>(to: &mut W, out: &[i64; 8192], n: usize) -> io::Result<(
 }
 
 // The refusal's line.
-pub fn print_refusal<W: Write>(to: &mut W, number: u64, at: u64) -> io::Result<()> {
+pub fn print_refusal<W: Write>(to: &mut W, number: u64, at: u64) -> io::Result<()>
+    ensures { OnOk result (Appends (W.contents to.old) (W.contents to.new) (refusal_line number at)) }
+{
     writeln!(to, "refused {number} at {at}")
 }
 
 // The listing of a file of at most 32,768 bytes.
-pub fn print_listing<W: Write>(to: &mut W, file: &[u8]) -> io::Result<()> {
+pub fn print_listing<W: Write>(to: &mut W, file: &[u8]) -> io::Result<()>
+    ensures { OnOk result (Appends (W.contents to.old) (W.contents to.new) (listing_of file.now)) }
+{
     let mut out = [0i64; 8192];
     let listed = table::table(file, &mut out);
     match listed {
         Listed::Rows(n) => print_rows(to, &out, n),
         Listed::Refused(r) => print_refusal(to, r.0 as u64, r.1 as u64),
     }
+}
+
+// The listing of all that the input has, or refusal 17 where that is more than 32,768 bytes.
+pub fn list<R: Read, W: Write>(from: &mut R, to: &mut W) -> io::Result<()>
+    ensures { OnOk result (IfSome (R.remaining from.old) (λ s. Appends (W.contents to.old) (W.contents to.new) (printed_of s))) }
+{
+    let mut buf = [0u8; MOST + 1];
+    let n = read_full(from, &mut buf)?;
+    if MOST < n {
+        return print_refusal(to, 17, MOST as u64);
+    }
+    print_listing(to, &buf[..n])
 }
