@@ -1,5 +1,5 @@
 -- `children::record_at` meets its contract: no head, the delimiter, a head that is not admitted, or a record.
--- x: behind the head; y: behind its admission. Assumes nothing.
+-- x: behind the head. Assumes nothing.
 use mathlib.Core.Path.{◌≡◌}
 use mathlib.Core.List.{List}
 use Prim.Native.Nat.{ℕ, ◌+◌, ◌≤◌}

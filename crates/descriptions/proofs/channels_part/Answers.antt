@@ -1,5 +1,5 @@
 -- `descriptions::channels_part` meets its contract: another code, a 120 or 320 that is refused, or the head behind one that passed.
--- x: behind the test of the code; y: behind the 120 or 320. Assumes nothing.
+-- x: behind the test of the code. Assumes nothing.
 use mathlib.Core.Path.{◌≡◌, sym, ap, ◌∙◌}
 use Prim.Native.Nat.{◌+◌}
 use native.Mathlib.Omega.{arith}

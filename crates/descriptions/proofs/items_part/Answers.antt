@@ -1,5 +1,5 @@
 -- `descriptions::items_part` meets its contract: another code, a record that is refused, or the head behind one that passed.
--- x: behind the test of the code; y: behind the record. Assumes nothing.
+-- x: behind the test of the code. Assumes nothing.
 use mathlib.Core.Path.{◌≡◌, sym, ap, ◌∙◌}
 use Prim.Native.Nat.{◌+◌}
 use native.Mathlib.Omega.{arith}

@@ -1,5 +1,5 @@
 -- `descriptions::montage_part` meets its contract: another code, a 350 that its form or a test refuses, or the head behind one that passed.
--- x: behind the test of the code; y: behind the 350. Assumes nothing.
+-- Assumes nothing.
 use mathlib.Core.Path.{sym, ◌∙◌}
 use Prim.Native.Nat.{◌+◌}
 use native.Mathlib.Omega.{arith}

@@ -1,5 +1,5 @@
 -- `judge::judge` meets its contract: one law of Verdicts for each return.
--- x: the header that was read; y: behind the recordings. Assumes nothing.
+-- x: the header that was read. Assumes nothing.
 use mathlib.Core.Path.{refl}
 use native.Mathlib.Nat.{zero-add}
 use native.Mathlib.Omega.{arith}

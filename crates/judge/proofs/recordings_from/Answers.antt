@@ -1,5 +1,5 @@
 -- `judge::recordings_from` meets its contract. The loop's invariant: the recordings up to i are read, and the walk goes on at byte p.
--- The measure is how many are left. x: behind the next one; w: at the loop. Assumes nothing.
+-- The measure is how many are left. Assumes nothing.
 use native.Mathlib.Nat.{zero-add}
 use native.Mathlib.Omega.{arith}
 use borrow.Author.Rules.{rules}

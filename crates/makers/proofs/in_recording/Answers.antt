@@ -1,5 +1,5 @@
 -- `makers::in_recording` meets its contract: the first is that of the body, by the laws of Recorded.
--- y: behind the cursor's step. Assumes nothing.
+-- Assumes nothing.
 use native.Mathlib.Omega.{arith}
 use lib.ListN.{length-take, length-drop}
 use Rattle.children.proofs.Visiting.{recorded, unrecorded}

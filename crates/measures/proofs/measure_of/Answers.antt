@@ -1,5 +1,5 @@
 -- `measures::measure_of` meets its contract: where the walk accepts the recording's body, no test of the code fails, and what is measured is the recording's measure.
--- h: the head of the 140, which stops at q; d: the head that follows; t, size, n: the numbers of the 140. Assumes nothing.
+-- h: the head of the 140, which stops at q; d: the head that follows. Assumes nothing.
 use mathlib.Core.Path.{◌≡◌, sym, ap, ◌∙◌}
 use mathlib.Core.List.{List}
 use mathlib.Core.Option.{Option}

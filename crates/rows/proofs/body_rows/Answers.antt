@@ -1,5 +1,5 @@
 -- `rows::body_rows` meets its contract. The loop's invariant: the rows up to byte p are written. The measure is what is left of the part.
--- y: behind the cursor's step. Assumes nothing.
+-- Assumes nothing.
 use mathlib.Core.Path.{refl}
 use native.Mathlib.Omega.{arith}
 use Rattle.children.proofs.Visiting.{recorded, unrecorded}

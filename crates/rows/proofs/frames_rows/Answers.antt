@@ -1,5 +1,5 @@
 -- `rows::frames_rows` meets its contract: a 140 without room for its frames lists none.
--- z: the start. Assumes nothing.
+-- Assumes nothing.
 use mathlib.Core.Path.{◌≡◌}
 use native.Mathlib.Omega.{arith}
 use Prim.Native.Nat.{ℕ, ◌+◌, ◌-◌, ◌*◌, ◌≤◌}

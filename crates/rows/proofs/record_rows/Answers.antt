@@ -1,5 +1,5 @@
 -- `rows::record_rows` meets its contract: its own row, and then those of the records that it holds.
--- x: behind the test of the code. Assumes nothing.
+-- Assumes nothing.
 use mathlib.Core.Path.{sym, ◌∙◌}
 use native.Mathlib.Omega.{arith}
 use Rattle.rows.proofs.Body.{held-group, held-140, held_none}

@@ -1,5 +1,5 @@
 -- `rows::recording_rows` meets its contract: its head's row and its body's, by the laws of Recorded.
--- y: behind the cursor's step. Assumes nothing.
+-- Assumes nothing.
 use native.Mathlib.Omega.{arith}
 use lib.ListN.{length-take, length-drop}
 use Rattle.children.proofs.Recordings.{recording-none}

@@ -1,5 +1,5 @@
 -- `table::table` meets its contract: what `judge` says of the file, and what `file_rows` counted and wrote, by the laws of Answers.
--- x: behind the judge's answer. Assumes nothing.
+-- Assumes nothing.
 use Rattle.judge.proofs.Accepted.{accepted, accepted-long}
 use Rattle.table.proofs.Answers.{lists-refused, lists-short, lists-rows}
 use borrow.Author.Rules.{rules}

@@ -1,5 +1,5 @@
 -- `turn::turn` meets its contract: what `judge` says of the file, what the search for a maker's record found, the leave to write, and what `file_turned` wrote, by the laws of Answers.
--- x: behind the judge's answer. Assumes nothing.
+-- Assumes nothing.
 use mathlib.Core.Path.{sym, ap, ◌∙◌}
 use borrow.Author.Rules.{rules}
 use lib.ListN.{length}

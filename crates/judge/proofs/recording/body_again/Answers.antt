@@ -1,5 +1,5 @@
 -- `judge::recording::body_again` meets its contract: one law of Recorded for each return.
--- x: behind the descriptions; y: the 140's place in the body. Assumes nothing.
+-- x: behind the descriptions. Assumes nothing.
 use native.Mathlib.Omega.{arith}
 use Prim.Native.Nat.{◌+◌}
 use Rattle.descriptions.specs.DescriptionsJudged.{DescriptionsOf}

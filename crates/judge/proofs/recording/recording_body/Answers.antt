@@ -1,5 +1,5 @@
 -- `judge::recording::recording_body` meets its contract: one law of Recorded for each return.
--- x: behind the descriptions; y: behind the channels that hold; z: behind the signals. Assumes nothing.
+-- x: behind the descriptions. Assumes nothing.
 use native.Mathlib.Omega.{arith}
 use Prim.Native.Nat.{◌+◌}
 use Rattle.descriptions.specs.DescriptionsJudged.{DescriptionsOf}

@@ -1,5 +1,5 @@
 -- `rewrite::recordings::body` meets its contract. The loop's invariant: the records up to byte p are written, and take the first k bytes. The measure is what is left of the part.
--- y: behind the cursor's step. Assumes nothing.
+-- Assumes nothing.
 use mathlib.Core.Path.{refl}
 use native.Mathlib.Omega.{arith}
 use borrow.Author.Rules.{rules}

@@ -1,5 +1,5 @@
 -- `rewrite::recordings::measure_at` meets its contract: an accepted recording's 140 stands inside it, and its body is a part of the file.
--- z: the start. Assumes nothing.
+-- Assumes nothing.
 use mathlib.Core.Path.{◌≡◌}
 use mathlib.Core.List.{List}
 use mathlib.Core.Option.{Option}

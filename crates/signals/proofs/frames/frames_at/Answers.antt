@@ -1,5 +1,5 @@
 -- `signals::frames::frames_at` meets its contract: one law of Answers for each return.
--- x: behind the head; r: where the record stops; y: behind the body. Assumes nothing.
+-- x: behind the head; r: where the record stops. Assumes nothing.
 use mathlib.Core.Path.{◌≡◌, sym, ◌∙◌}
 use mathlib.Core.Bool.{true, ◌||◌}
 use native.Mathlib.Omega.{arith}

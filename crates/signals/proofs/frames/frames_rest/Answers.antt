@@ -1,5 +1,5 @@
 -- `signals::frames::frames_rest` meets its contract: one law of Answers for each return.
--- x: behind the frames; t: where they stop; y: behind the padding. Assumes nothing.
+-- t: where they stop. Assumes nothing.
 use Prim.Native.Nat.{◌*◌, ◌-◌, ◌≤◌}
 use native.Mathlib.Omega.{arith}
 use Rattle.records.specs.declared.Step.TheVariants as Step

@@ -1,5 +1,5 @@
 -- `turn::frames::body_if_room` meets its contract: where the walk accepts the body, no test of the code fails, and it is written where there is room.
--- x: behind its three numbers; z: the start. Assumes nothing.
+-- x: behind its three numbers. Assumes nothing.
 use mathlib.Core.Path.{◌≡◌, sym, ap, ◌∙◌}
 use mathlib.Core.List.{List}
 use Prim.Native.Nat.{ℕ, ◌+◌, ◌-◌, ◌*◌, ◌≤◌}

@@ -1,5 +1,5 @@
 -- `turn::frames::frame` meets its contract: its head, what fills it and the bytes behind that are written one behind the other.
--- x: behind what fills it; y: behind its head; z: the start. Assumes nothing.
+-- Assumes nothing.
 use mathlib.Core.Path.{◌≡◌, refl, sym}
 use Prim.Native.Nat.{◌+◌, ◌-◌}
 use native.Mathlib.Omega.{arith}

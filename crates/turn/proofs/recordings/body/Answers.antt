@@ -1,5 +1,5 @@
 -- `turn::recordings::body` meets its contract. The loop's invariant: the records up to byte p are written. The measure is what is left of the part.
--- y: behind the cursor's step. Assumes nothing.
+-- Assumes nothing.
 use mathlib.Core.Path.{refl}
 use native.Mathlib.Omega.{arith}
 use Rattle.children.specs.Children.{known_of}
