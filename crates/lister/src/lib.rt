@@ -1,10 +1,11 @@
-// Reads files, and prints what the table says of one: a record a line, or the refusal.
+// Reads files, and prints what the table says of one: a record a line, or the refusal. An `Err` is a read's or a write's: of
+// what the writer holds then nothing is said, since std's `write_all` says nothing of it.
 #![tactic(auto)]
 
 ghost use Rattle.std.specs.Fmt.{signed_decimal};
 ghost use Rattle.std.specs.Io.{ReadsAtMost};
 ghost use Rattle.std.specs.Io.KnownBytes.{Appends, Consumes, IsAtEnd};
-ghost use Rattle.std.specs.Prelude.{◌<◌, ◌≡◌, nat_abs, min, IfOk, IfSome, OnOk, length, take};
+ghost use Rattle.std.specs.Prelude.{◌<◌, ◌≡◌, nat_abs, min, IfOk, ℕ, IfSome, OnErr, OnOk, length, take};
 ghost use Rattle.lister.specs.Listing.{line_at, lines_in, refusal_line, listing_of, printed_of};
 
 use std::io::{self, Read, Write};
@@ -20,6 +21,7 @@ pub fn read_full<R: Read>(from: &mut R, buf: &mut [u8]) -> io::Result<usize>
     ensures bound { ReadsAtMost result buf.new }
     ensures bytes { IfOk result (λ n. Consumes (R.remaining from.old) (R.remaining from.new) (take n buf.new)) }
     ensures end { IfOk result (λ n. n < length buf.old → IsAtEnd (R.remaining from.new)) }
+    ensures err { OnErr result ((n : ℕ) × Consumes (R.remaining from.old) (R.remaining from.new) (take n buf.new)) }
 {
     let mut done = 0;
     while done < buf.len() {
