@@ -195,7 +195,7 @@ abbrev pub channel : Meant {X = Descriptor} value refusal ChannelTold Channel
 channel = record { meaning = meaning_d; tell = ChannelTold.Channel; refuse = ChannelTold.Refused; flat = flat_channel; says = λ a. refusal_of a.refusal a.position; tells = λ v. refl; refuses = λ r. refl; zero = λ v. refl; named = λ n p. refl }
 
 abbrev pub montage-count : Meant {X = ℕ} value refusal MontageCountTold Counted
-montage-count = record { meaning = meaning_n; tell = MontageCountTold.Channels; refuse = MontageCountTold.Refused; flat = flat_count; says = λ a. refusal_of a.refusal a.position; tells = λ v. refl; refuses = λ r. refl; zero = λ v. refl; named = λ n p. refl }
+montage_count = record { meaning = meaning_n; tell = MontageCountTold.Channels; refuse = MontageCountTold.Refused; flat = flat_count; says = λ a. refusal_of a.refusal a.position; tells = λ v. refl; refuses = λ r. refl; zero = λ v. refl; named = λ n p. refl }
 
 abbrev pub montage : Meant {X = Wired} value refusal MontageTold Montage
 montage = record { meaning = meaning_m; tell = MontageTold.Channel; refuse = MontageTold.Refused; flat = flat_montage; says = λ a. refusal_of a.channel.refusal a.channel.position; tells = λ v. refl; refuses = λ r. refl; zero = λ v. refl; named = λ n p. refl }
@@ -358,29 +358,29 @@ module _ (s : List ℕ) (b : Bytes s) where
   boundary = record {
     judge = judge-apart;
     table = table-apart;
-    table-keeps = λ out out' a x. let y = table-apart out out' a x in kept (table-keeps s out out' y.told y.met) (ends-listed y.told y.same);
+    table_keeps = λ out out' a x. let y = table-apart out out' a x in kept (table-keeps s out out' y.told y.met) (ends-listed y.told y.same);
     turn = turn-apart;
-    turn-keeps = λ out out' a x. let y = turn-apart out out' a x in kept (turn-keeps s b out out' y.told y.met) (ends-written y.told y.same);
+    turn_keeps = λ out out' a x. let y = turn-apart out out' a x in kept (turn-keeps s b out out' y.told y.met) (ends-written y.told y.same);
     rewrite = rewrite-apart;
-    rewrite-keeps = λ order out out' a x. let y = rewrite-apart order out out' a x in kept (rewrite-keeps s order out out' y.told y.met) (ends-written y.told y.same);
+    rewrite_keeps = λ order out out' a x. let y = rewrite-apart order out out' a x in kept (rewrite-keeps s order out out' y.told y.met) (ends-written y.told y.same);
     room = λ a x. by-meaning written s (either-bytes (room_of s)) (λ c e. e) x (λ n p h. rw h) (λ n p e. of-file s of_file 0 (λ n h. h) (refusal_of n p) (room-refused s (refusal_of n p) (sym e)));
     header = λ a x. by-meaning header s (either (header_of s)) (λ c e. e) x (λ n p h. rw h) (λ n p e. of-file s of_file 0 (λ n h. h) (refusal_of n p) (header_refused s (refusal_of n p) (sym e)));
     facts = λ i a x. by-meaning facts s (either (facts_of s i)) (λ c e. e) x (λ n p h. rw h) (asked (proper-facts s i));
     channel = λ i j a x. by-meaning channel s (either (channel_of s i j)) (λ c e. e) x (λ n p h. rw h) (asked (proper-channel s i j));
-    montage-count = λ i a x. by-meaning montage-count s (either (montage_count_of s i)) (λ c e. e) x (λ n p h. rw h) (asked (proper-montage-count s i));
+    montage_count = λ i a x. by-meaning montage-count s (either (montage_count_of s i)) (λ c e. e) x (λ n p h. rw h) (asked (proper-montage-count s i));
     montage = λ i j a x. by-meaning montage s (either (montage_of s i j)) (λ c e. e) x (λ n p h. rw h) (asked (proper-montage s i j));
-    patient-item = λ i j a x. by-meaning item s (either (patient_item_of s i j)) (λ c e. e) x (λ n p h. rw h) (asked (proper-item s Holder.Patient i j));
-    event-item = λ i j a x. by-meaning item s (either (event_item_of s i j)) (λ c e. e) x (λ n p h. rw h) (asked (proper-item s Holder.Event i j));
+    patient_item = λ i j a x. by-meaning item s (either (patient_item_of s i j)) (λ c e. e) x (λ n p h. rw h) (asked (proper-item s Holder.Patient i j));
+    event_item = λ i j a x. by-meaning item s (either (event_item_of s i j)) (λ c e. e) x (λ n p h. rw h) (asked (proper-item s Holder.Event i j));
     clock = λ i j a x. by-meaning clock s (either (clock_of s i j)) (λ c e. e) x (λ n p h. rw h) (asked (proper-clock s i j));
     place = λ i j k a x. by-meaning place s (either (place_of s i j k)) (λ c e. e) x (λ n p h. rw h) (asked (proper-place s i j k));
     track = λ i k a x. by-meaning track s (either (track_of s i k)) (λ c e. e) x (λ n p h. rw h) (asked (proper-track s i k));
     part = λ file e p a x. part-told file p a (rw e x);
     sample = λ i j k n a x. by-meaning sample s (either (sample_of s i j k n)) (λ c e. e) x (λ n p h. rw h) (asked (proper-sample s i j k n));
     run = run-apart;
-    run-keeps = λ c i j k first n out out' a x. let y = run-apart c i j k first n out out' a x in kept (run-keeps s c i j k first n out out' y.told y.met) (ends-ran y.told y.same);
+    run_keeps = λ c i j k first n out out' a x. let y = run-apart c i j k first n out out' a x in kept (run-keeps s c i j k first n out out' y.told y.met) (ends-ran y.told y.same);
     index = index-apart;
-    index-keeps = λ out out' a x. let y = index-apart out out' a x in kept (index-keeps s out out' y.told y.met) (ends-indexed y.told y.same);
-    event-kind = kind-apart;
+    index_keeps = λ out out' a x. let y = index-apart out out' a x in kept (index-keeps s out out' y.told y.met) (ends-indexed y.told y.same);
+    event_kind = kind-apart;
   }
 
   -- accepted and refused exactly as the rules do

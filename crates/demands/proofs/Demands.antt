@@ -95,29 +95,29 @@ pub demand-1 : (s : List ℕ) → Bytes s → Demand-1 s
 demand-1 s b = record {
   judge = λ a x r i. of-file s of_file 0 (λ n h. h) r (rw i at x);
   table = λ out out' a x r i. table-refuses s (length out) r (sym (ap Table.meaning i) ∙ x.answer);
-  table-keeps = table-keeps s;
+  table_keeps = table-keeps s;
   turn = λ out out' a x r i. turn-refuses s b (length out) r (sym (ap Permit.meaning i) ∙ x.answer);
-  turn-keeps = turn-keeps s b;
+  turn_keeps = turn-keeps s b;
   rewrite = λ order out out' a x r i. rewrite-refuses s b order (length out) r (sym (ap Permit.meaning i) ∙ x.answer);
-  rewrite-keeps = rewrite-keeps s;
+  rewrite_keeps = rewrite-keeps s;
   room = λ a x r i. of-file s of_file 0 (λ n h. h) r (room-refused s r (sym (ap Permit.meaning i) ∙ x));
   header = λ a x r i. of-file s of_file 0 (λ n h. h) r (header_refused s r (sym (ap meaning_h i) ∙ x));
   facts = λ i a x. question s meaning_f FactsTold.Refused (λ r. refl) (proper-facts s i) a x;
   channel = λ i j a x. question s meaning_d ChannelTold.Refused (λ r. refl) (proper-channel s i j) a x;
-  montage-count = λ i a x. question s meaning_n MontageCountTold.Refused (λ r. refl) (proper-montage-count s i) a x;
+  montage_count = λ i a x. question s meaning_n MontageCountTold.Refused (λ r. refl) (proper-montage-count s i) a x;
   montage = λ i j a x. question s meaning_m MontageTold.Refused (λ r. refl) (proper-montage s i j) a x;
-  patient-item = λ i j a x. question s meaning_i ItemTold.Refused (λ r. refl) (proper-item s Holder.Patient i j) a x;
-  event-item = λ i j a x. question s meaning_i ItemTold.Refused (λ r. refl) (proper-item s Holder.Event i j) a x;
+  patient_item = λ i j a x. question s meaning_i ItemTold.Refused (λ r. refl) (proper-item s Holder.Patient i j) a x;
+  event_item = λ i j a x. question s meaning_i ItemTold.Refused (λ r. refl) (proper-item s Holder.Event i j) a x;
   clock = λ i j a x. question s meaning_t ClockTold.Refused (λ r. refl) (proper-clock s i j) a x;
   place = λ i j k a x. question s meaning_p PlaceTold.Refused (λ r. refl) (proper-place s i j k) a x;
   track = λ i k a x. question s meaning_k TrackTold.Refused (λ r. refl) (proper-track s i k) a x;
   part = λ file e p r x. shown file p r x;
   sample = λ i j k n a x. question s meaning_s SampleTold.Refused (λ r. refl) (proper-sample s i j k n) a x;
   run = λ c i j k first n out out' a x r e. run-refuses s c i j k first n (length out) r (sym (ap Runs.meaning e) ∙ x.answer);
-  run-keeps = run-keeps s;
+  run_keeps = run-keeps s;
   index = λ out out' a x r i. index-refuses s (length out) r (sym (ap Index.meaning i) ∙ x.answer);
-  index-keeps = index-keeps s;
-  event-kind = λ c a x. kind-answered c (length s) a x;
+  index_keeps = index-keeps s;
+  event_kind = λ c a x. kind-answered c (length s) a x;
   boundary = boundary s b;
 }
 
@@ -132,10 +132,10 @@ hands-up s n p h = record {
   header = λ a x. header-unique s a _ x (rw h);
   facts = λ i a x. facts-unique s i a _ x (rw h);
   channel = λ i j a x. channel-unique s i j a _ x (rw h);
-  montage-count = λ i a x. montage-count-unique s i a _ x (rw h);
+  montage_count = λ i a x. montage-count-unique s i a _ x (rw h);
   montage = λ i j a x. montage-unique s i j a _ x (rw h);
-  patient-item = λ i j a x. patient-item-unique s i j a _ x (rw h);
-  event-item = λ i j a x. event-item-unique s i j a _ x (rw h);
+  patient_item = λ i j a x. patient-item-unique s i j a _ x (rw h);
+  event_item = λ i j a x. event-item-unique s i j a _ x (rw h);
   clock = λ i j a x. clock-unique s i j a _ x (rw h);
   place = λ i j k a x. place-unique s i j k a _ x (rw h);
   track = λ i k a x. track-unique s i k a _ x (rw h);
@@ -163,11 +163,11 @@ tells s b {v} {t} h = record {
   facts = λ i a x. x ∙ facts-told s b h i;
   channel = λ i j a x. rw x (channel-agrees s b h i j);
   texts = λ i j a x. rw x (channel-texts s b h i j);
-  montage-count = λ i a x. x ∙ montage-count-told s b h i;
+  montage_count = λ i a x. x ∙ montage-count-told s b h i;
   montage = λ i j a x. rw x (montage-agrees s b h i j);
   wired = λ i j a x. rw x (montage-wired s b h i j);
-  patient-item = λ i j a x. rw x (item-text s b h i j Holder.Patient);
-  event-item = λ i j a x. rw x (item-text s b h i j Holder.Event);
+  patient_item = λ i j a x. rw x (item-text s b h i j Holder.Patient);
+  event_item = λ i j a x. rw x (item-text s b h i j Holder.Event);
   clock = λ i j a x. x ∙ clock-told s b h i j;
   place = λ i j k a x. rw x (place-samples s b h i j k);
   part = λ file e i j k p x r y. part-is file p r y (rw e b) {v = v} {t = t} (rw e h) i j k (rw e x);
@@ -177,8 +177,8 @@ tells s b {v} {t} h = record {
     answer = x.answer ∙ ap (Runs.counted n (length out)) (run-read s b h c i j k first n);
     buffer = x.buffer ∙ ap (λ (y : Answer (List Value)). Runs.holding c n y out) (run-read s b h c i j k first n);
   };
-  run-number = λ c i j k first n out out' a x m e. run-number x m e;
-  run-entry = run-entry s b h;
+  run_number = λ c i j k first n out out' a x m e. run-number x m e;
+  run_entry = run-entry s b h;
 }
 
 -- the file that `rewrite` wrote, whatever tells its length
@@ -219,9 +219,9 @@ module _ (s : List ℕ) (b : Bytes s) {v : R.File} {t : List Event} (h : Accepte
     answer = room-told s b h;
     enough = rewrite-enough s _ (reserved s b h);
     own = λ k. rewrite-enough s _ (λ to. no_longer s b h to k);
-    boundary-answer = λ a x. x ∙ (rw h);
-    boundary-enough = boundary-suffices _ (reserved s b h);
-    boundary-own = λ k. boundary-suffices _ (λ to. no_longer s b h to k);
+    boundary_answer = λ a x. x ∙ (rw h);
+    boundary_enough = boundary-suffices _ (reserved s b h);
+    boundary_own = λ k. boundary-suffices _ (λ to. no_longer s b h to k);
   }
 
 pub demand-2 : (s : List ℕ) → Bytes s → Demand-2 s
@@ -240,21 +240,21 @@ demand-2 s b = record {
   rewrites = λ v t h order to names free out out' a room x. written-anew s b h order to names free out out' a room x a (rewrite-told s b h order to names free out out' a room x);
   reserved = λ v t h. room-reserved s b h;
   kinds = kinds;
-  boundary-judges = boundary-judges s b;
-  boundary-accepted = boundary-accepted s b;
-  boundary-lists = λ v t h out out' a room x.
+  boundary_judges = boundary-judges s b;
+  boundary_accepted = boundary-accepted s b;
+  boundary_lists = λ v t h out out' a room x.
       let y = table-apart s b out out' a x in
       let z = described s h out out' y.told room y.met in
       record { answer = y.same ∙ ap (λ (c : Listed). counted_rows (Table.meaning c)) z.answer; holds = z.holds };
-  boundary-indexes = λ v t h out out' a room x.
+  boundary_indexes = λ v t h out out' a room x.
       let y = index-apart s b out out' a x in
       let z = indexed s h out out' y.told room y.met in
       record { answer = y.same ∙ ap (λ (c : Indexed). flat_count (Index.meaning c)) z.answer; holds = z.holds };
-  boundary-answers = λ v t h. boundary-tells s b h;
-  boundary-rewrites = λ v t h order to names free out out' a room x.
+  boundary_answers = λ v t h. boundary-tells s b h;
+  boundary_rewrites = λ v t h order to names free out out' a room x.
       let y = rewrite-apart s b order out out' a x in
       written-anew s b h order to names free out out' y.told room y.met a (y.same ∙ ap (λ (c : Written). counted_bytes (Permit.meaning c)) (rewrite-told s b h order to names free out out' y.told room y.met));
-  boundary-kinds = boundary-kinds;
+  boundary_kinds = boundary-kinds;
 }
 
 -- Demand 3
@@ -353,10 +353,10 @@ module _ (s : List ℕ) (b : Bytes s) {v : R.File} {t : List Event} (h : Accepte
             (record { first = refl; second = refl; refusal = refl; position = refl; spelling = refl; version = refl; form = refl; script = refl; recordings = refl });
         facts = λ i a c x y. x ∙ (rw e) ∙ sym y;
         channel = λ i j a c x y. x ∙ (rw e) ∙ sym y;
-        montage-count = λ i a c x y. x ∙ (rw e) ∙ sym y;
+        montage_count = λ i a c x y. x ∙ (rw e) ∙ sym y;
         montage = λ i j a c x y. x ∙ (rw e) ∙ sym y;
-        patient-item = λ i j a c x y. x ∙ (rw e) ∙ sym y;
-        event-item = λ i j a c x y. x ∙ (rw e) ∙ sym y;
+        patient_item = λ i j a c x y. x ∙ (rw e) ∙ sym y;
+        event_item = λ i j a c x y. x ∙ (rw e) ∙ sym y;
         clock = λ i j a c x y. x ∙ (rw e) ∙ sym y;
         place = λ i j k a c x y. x ∙ (rw e) ∙ sym y;
         track = λ i k a c x y. rw (x, y) (boundary-track-same s s' e z.2 i k);
@@ -402,10 +402,10 @@ module _ (s : List ℕ) (b : Bytes s) {v : R.File} {t : List Event} (h : Accepte
         );
         facts = λ i a c x y. facts-unique s i a c x (rw e at y);
         channel = λ i j a c x y. channel-unique s i j a c x (rw e at y);
-        montage-count = λ i a c x y. montage-count-unique s i a c x (rw e at y);
+        montage_count = λ i a c x y. montage-count-unique s i a c x (rw e at y);
         montage = λ i j a c x y. montage-unique s i j a c x (rw e at y);
-        patient-item = λ i j a c x y. patient-item-unique s i j a c x (rw e at y);
-        event-item = λ i j a c x y. event-item-unique s i j a c x (rw e at y);
+        patient_item = λ i j a c x y. patient-item-unique s i j a c x (rw e at y);
+        event_item = λ i j a c x y. event-item-unique s i j a c x (rw e at y);
         clock = λ i j a c x y. clock-unique s i j a c x (rw e at y);
         place = λ i j k a c x y. place-unique s i j k a c x (rw e at y);
         part = λ i j k p u file r file' r' f f' x x'. same_numbers i j k p file r file' r' (rw f b) (rw f' turned-bytes) {v = v} {t = t} (rw f h) (rw f' y.0) (rw f u) (rw (f', e) u) x x';
@@ -427,6 +427,6 @@ pub demand-3 : (s : List ℕ) → Bytes s → Demand-3 s
 demand-3 s b = record {
   answers = λ v t h free out out' a room x. (turn-answers s h free b out out' a room x).0;
   turned = λ v t h free out out' a room x. says-the-same s b h free out out' a room x;
-  boundary-answers = λ v t h free out out' a room x. let y = turn-apart s b out out' a x in y.same ∙ ap (λ (c : Written). counted_bytes (Permit.meaning c)) (turn-answers s h free b out out' y.told room y.met).0;
-  boundary-turned = λ v t h free out out' a room x. let y = turn-apart s b out out' a x in says-the-same s b h free out out' y.told room y.met;
+  boundary_answers = λ v t h free out out' a room x. let y = turn-apart s b out out' a x in y.same ∙ ap (λ (c : Written). counted_bytes (Permit.meaning c)) (turn-answers s h free b out out' y.told room y.met).0;
+  boundary_turned = λ v t h free out out' a room x. let y = turn-apart s b out out' a x in says-the-same s b h free out out' y.told room y.met;
 }

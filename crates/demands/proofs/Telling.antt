@@ -92,7 +92,7 @@ channel-told c p h = record {
   rate = refl;
   calibration = calibrated c.format c.cal c.cal_ad c.offset_ad c.offset_cal h.cal h.cal_ad h.offset_ad h.offset_cal;
   frequency = refl;
-  low-cut = refl;
+  low_cut = refl;
   high_cut = refl;
   sensitivity = refl;
 }

@@ -52,7 +52,7 @@ pub record ChannelIs (s : List ℕ) (sub j : ℕ) (a : Channel) (c : ChannelRead
   pub format : a.format ≡ c.format
   pub rate : a.rate ≡ c.rate
   pub frequency : a.frequency ≡ c.cal_frequency
-  pub low-cut : a.low_cut ≡ c.low_cut
+  pub low_cut : a.low_cut ≡ c.low_cut
   pub high_cut : a.high_cut ≡ c.high_cut
   pub sensitivity : a.sensitivity ≡ c.sensitivity
   pub label : TextIs s (text_at a.label a.label_length) c.label

@@ -231,22 +231,22 @@ pub record Boundary (s : List ℕ) : Type 0 where
   pub judge : (a : Header) → JudgeAnswers s a → TakenApart s (JudgedAs s) Judged.Refused flat_judged of_file 0 a.refusal a.position a
   pub table : (out out' : List ℤ) (a : Counted) → TableAnswers s out out' a →
       TakenApart s (Lists s out out') Listed.Refused (λ b. counted_rows (Table.meaning b)) of_table (4 * length (listed_rows (R.judge s))) a.refusal a.position a
-  pub table-keeps : (out out' : List ℤ) (a : Counted) → TableAnswers s out out' a → KeepsRest stopped_c wrote_c 4 out out' a
+  pub table_keeps : (out out' : List ℤ) (a : Counted) → TableAnswers s out out' a → KeepsRest stopped_c wrote_c 4 out out' a
   pub turn : (out out' : List ℕ) (a : Counted) → TurnAnswers s out out' a → TakenApart s (Turns s out out') Written.Refused (λ b. counted_bytes (Permit.meaning b)) of_turn (length s) a.refusal a.position a
-  pub turn-keeps : (out out' : List ℕ) (a : Counted) → TurnAnswers s out out' a → KeepsRest stopped_c wrote_c 1 out out' a
+  pub turn_keeps : (out out' : List ℕ) (a : Counted) → TurnAnswers s out out' a → KeepsRest stopped_c wrote_c 1 out out' a
   pub rewrite : (order : ℕ) (out out' : List ℕ) (a : Counted) → RewriteAnswers s order out out' a →
       TakenApart s (Rewrites s order out out') Written.Refused (λ b. counted_bytes (Permit.meaning b)) of_rewrite (length (rewritten_in (lettered order) s)) a.refusal a.position a
-  pub rewrite-keeps : (order : ℕ) (out out' : List ℕ) (a : Counted) → RewriteAnswers s order out out' a → KeepsRest stopped_c wrote_c 1 out out' a
+  pub rewrite_keeps : (order : ℕ) (out out' : List ℕ) (a : Counted) → RewriteAnswers s order out out' a → KeepsRest stopped_c wrote_c 1 out out' a
   pub room : (a : Counted) → RoomAnswers s a → TakenApart s (RoomAnswer s) Written.Refused (λ b. counted_bytes (Permit.meaning b)) of_file 0 a.refusal a.position a
   pub header : (a : Heading) → HeaderAnswers s a → TakenApart s (HeaderAnswer s) HeaderTold.Refused (λ b. flat_heading (meaning_h b)) of_file 0 a.refusal a.position a
   pub facts : (i : ℕ) (a : Facts) → FactsAnswers s i a → TakenApart s (FactsAnswer s i) FactsTold.Refused (λ b. flat_facts (meaning_f b)) of_question 0 a.refusal a.position a
   pub channel : (i j : ℕ) (a : Channel) → ChannelAnswers s i j a → TakenApart s (ChannelAnswer s i j) ChannelTold.Refused (λ b. flat_channel (meaning_d b)) of_question 0 a.refusal a.position a
-  pub montage-count : (i : ℕ) (a : Counted) → MontageCountAnswers s i a →
+  pub montage_count : (i : ℕ) (a : Counted) → MontageCountAnswers s i a →
       TakenApart s (MontageCountAnswer s i) MontageCountTold.Refused (λ b. flat_count (meaning_n b)) of_question 0 a.refusal a.position a
   pub montage : (i j : ℕ) (a : Montage) → MontageAnswers s i j a →
       TakenApart s (MontageAnswer s i j) MontageTold.Refused (λ b. flat_montage (meaning_m b)) of_question 0 a.channel.refusal a.channel.position a
-  pub patient-item : (i j : ℕ) (a : Item) → PatientItemAnswers s i j a → TakenApart s (PatientItemAnswer s i j) ItemTold.Refused (λ b. flat_item (meaning_i b)) of_question 0 a.refusal a.position a
-  pub event-item : (i j : ℕ) (a : Item) → EventItemAnswers s i j a → TakenApart s (EventItemAnswer s i j) ItemTold.Refused (λ b. flat_item (meaning_i b)) of_question 0 a.refusal a.position a
+  pub patient_item : (i j : ℕ) (a : Item) → PatientItemAnswers s i j a → TakenApart s (PatientItemAnswer s i j) ItemTold.Refused (λ b. flat_item (meaning_i b)) of_question 0 a.refusal a.position a
+  pub event_item : (i j : ℕ) (a : Item) → EventItemAnswers s i j a → TakenApart s (EventItemAnswer s i j) ItemTold.Refused (λ b. flat_item (meaning_i b)) of_question 0 a.refusal a.position a
   pub clock : (i j : ℕ) (a : Clock) → ClockAnswers s i j a → TakenApart s (ClockAnswer s i j) ClockTold.Refused (λ b. flat_clock (meaning_t b)) of_question 0 a.refusal a.position a
   pub place : (i j k : ℕ) (a : PlaceC.Place) → PlaceAnswers s i j k a →
       TakenApart s (PlaceAnswer s i j k) PlaceTold.Refused (λ b. flat_place (meaning_p b)) of_question 0 a.refusal a.position a
@@ -256,12 +256,12 @@ pub record Boundary (s : List ℕ) : Type 0 where
   pub sample : (i j k n : ℕ) (a : Sample) → SampleAnswers s i j k n a → TakenApart s (SampleAnswer s i j k n) SampleTold.Refused (λ b. flat_sample (meaning_s b)) of_question 0 a.refusal a.position a
   pub run : (b : Sibling) (i j k first n : ℕ) (out out' : List (Element b)) (a : Counted) → RunAnswers b s i j k first n out out' a →
       TakenApart s (RunAnswer b s i j k first n out out') Ran.Refused (λ c. flat_count (Runs.meaning c)) of_run n a.refusal a.position a
-  pub run-keeps : (b : Sibling) (i j k first n : ℕ) (out out' : List (Element b)) (a : Counted) → RunAnswers b s i j k first n out out' a →
+  pub run_keeps : (b : Sibling) (i j k first n : ℕ) (out out' : List (Element b)) (a : Counted) → RunAnswers b s i j k first n out out' a →
       KeepsRest stopped_c wrote_c 1 out out' a
   pub index : (out out' : List ℤ) (a : Counted) → IndexAnswers s out out' a →
       TakenApart s (Indexes s out out') Indexed.Refused (λ b. flat_count (Index.meaning b)) of_table (5 * length (entries_of s (R.judge s))) a.refusal a.position a
-  pub index-keeps : (out out' : List ℤ) (a : Counted) → IndexAnswers s out out' a → KeepsRest stopped_c wrote_c 5 out out' a
-  pub event-kind : (c : ℕ) (a : Kind) → KindAnswers c a → KindTaken c a
+  pub index_keeps : (out out' : List ℤ) (a : Counted) → IndexAnswers s out out' a → KeepsRest stopped_c wrote_c 5 out out' a
+  pub event_kind : (c : ℕ) (a : Kind) → KindAnswers c a → KindTaken c a
 
 -- of the file s: what each public call answers, whatever else it is asked
 pub record Demand-1 (s : List ℕ) : Type 0 where
@@ -269,23 +269,23 @@ pub record Demand-1 (s : List ℕ) : Type 0 where
   pub judge : (a : Judged) → JudgedAs s a → Answered Judged.Refused of_file (length s) 0 a
   -- table: 17 counts in numbers, four a row
   pub table : (out out' : List ℤ) (a : Listed) → Lists s out out' a → Answered Listed.Refused of_table (length s) (4 * length (listed_rows (R.judge s))) a
-  pub table-keeps : (out out' : List ℤ) (a : Listed) → Lists s out out' a → KeepsRest Listed.Refused Listed.Rows 4 out out' a
+  pub table_keeps : (out out' : List ℤ) (a : Listed) → Lists s out out' a → KeepsRest Listed.Refused Listed.Rows 4 out out' a
   -- turn
   pub turn : (out out' : List ℕ) (a : Written) → Turns s out out' a → Answered Written.Refused of_turn (length s) (length s) a
-  pub turn-keeps : (out out' : List ℕ) (a : Written) → Turns s out out' a → KeepsRest Written.Refused Written.Bytes 1 out out' a
+  pub turn_keeps : (out out' : List ℕ) (a : Written) → Turns s out out' a → KeepsRest Written.Refused Written.Bytes 1 out out' a
   -- rewrite, whatever the letter
   pub rewrite : (order : ℕ) (out out' : List ℕ) (a : Written) → Rewrites s order out out' a → Answered Written.Refused of_rewrite (length s) (length (rewritten_in (lettered order) s)) a
-  pub rewrite-keeps : (order : ℕ) (out out' : List ℕ) (a : Written) → Rewrites s order out out' a → KeepsRest Written.Refused Written.Bytes 1 out out' a
+  pub rewrite_keeps : (order : ℕ) (out out' : List ℕ) (a : Written) → Rewrites s order out out' a → KeepsRest Written.Refused Written.Bytes 1 out out' a
   -- the room for it: only the file is refused
   pub room : (a : Written) → RoomAnswer s a → Answered Written.Refused of_file (length s) 0 a
   -- the questions; about the header only the file is refused
   pub header : (a : HeaderTold) → HeaderAnswer s a → Answered HeaderTold.Refused of_file (length s) 0 a
   pub facts : (i : ℕ) (a : FactsTold) → FactsAnswer s i a → Answered FactsTold.Refused of_question (length s) 0 a
   pub channel : (i j : ℕ) (a : ChannelTold) → ChannelAnswer s i j a → Answered ChannelTold.Refused of_question (length s) 0 a
-  pub montage-count : (i : ℕ) (a : MontageCountTold) → MontageCountAnswer s i a → Answered MontageCountTold.Refused of_question (length s) 0 a
+  pub montage_count : (i : ℕ) (a : MontageCountTold) → MontageCountAnswer s i a → Answered MontageCountTold.Refused of_question (length s) 0 a
   pub montage : (i j : ℕ) (a : MontageTold) → MontageAnswer s i j a → Answered MontageTold.Refused of_question (length s) 0 a
-  pub patient-item : (i j : ℕ) (a : ItemTold) → PatientItemAnswer s i j a → Answered ItemTold.Refused of_question (length s) 0 a
-  pub event-item : (i j : ℕ) (a : ItemTold) → EventItemAnswer s i j a → Answered ItemTold.Refused of_question (length s) 0 a
+  pub patient_item : (i j : ℕ) (a : ItemTold) → PatientItemAnswer s i j a → Answered ItemTold.Refused of_question (length s) 0 a
+  pub event_item : (i j : ℕ) (a : ItemTold) → EventItemAnswer s i j a → Answered ItemTold.Refused of_question (length s) 0 a
   pub clock : (i j : ℕ) (a : ClockTold) → ClockAnswer s i j a → Answered ClockTold.Refused of_question (length s) 0 a
   pub place : (i j k : ℕ) (a : PlaceTold) → PlaceAnswer s i j k a → Answered PlaceTold.Refused of_question (length s) 0 a
   pub track : (i k : ℕ) (a : TrackTold) → TrackAnswer s i k a → Answered TrackTold.Refused of_question (length s) 0 a
@@ -295,13 +295,13 @@ pub record Demand-1 (s : List ℕ) : Type 0 where
   -- a run of n samples, by either call: 17 counts the numbers asked for
   pub run : (b : Sibling) (i j k first n : ℕ) (out out' : List (Element b)) (a : Ran) → RunAnswer b s i j k first n out out' a →
       Answered Ran.Refused of_run (length s) n a
-  pub run-keeps : (b : Sibling) (i j k first n : ℕ) (out out' : List (Element b)) (a : Ran) → RunAnswer b s i j k first n out out' a →
+  pub run_keeps : (b : Sibling) (i j k first n : ℕ) (out out' : List (Element b)) (a : Ran) → RunAnswer b s i j k first n out out' a →
       KeepsRest Ran.Refused Ran.Numbers 1 out out' a
   -- index: 17 counts in numbers, five an entry
   pub index : (out out' : List ℤ) (a : Indexed) → Indexes s out out' a → Answered Indexed.Refused of_table (length s) (5 * length (entries_of s (R.judge s))) a
-  pub index-keeps : (out out' : List ℤ) (a : Indexed) → Indexes s out out' a → KeepsRest Indexed.Refused Indexed.Entries 5 out out' a
+  pub index_keeps : (out out' : List ℤ) (a : Indexed) → Indexes s out out' a → KeepsRest Indexed.Refused Indexed.Entries 5 out out' a
   -- the kind of a code, whatever the file is: refused by 19 at 0 alone
-  pub event-kind : (c : ℕ) (a : KindTold) → KindAnswer c a → Answered KindTold.Refused of_code (length s) 0 a
+  pub event_kind : (c : ℕ) (a : KindTold) → KindAnswer c a → Answered KindTold.Refused of_code (length s) 0 a
   -- each call that C links answers the same, taken apart; its number 0 is never a refusal
   pub boundary : Boundary s
 
@@ -335,10 +335,10 @@ pub record HandsUp (s : List ℕ) (n p : ℕ) : Type 0 where
   pub header : (a : HeaderTold) → HeaderAnswer s a → a ≡ HeaderTold.Refused (refusal_of n p)
   pub facts : (i : ℕ) (a : FactsTold) → FactsAnswer s i a → a ≡ FactsTold.Refused (refusal_of n p)
   pub channel : (i j : ℕ) (a : ChannelTold) → ChannelAnswer s i j a → a ≡ ChannelTold.Refused (refusal_of n p)
-  pub montage-count : (i : ℕ) (a : MontageCountTold) → MontageCountAnswer s i a → a ≡ MontageCountTold.Refused (refusal_of n p)
+  pub montage_count : (i : ℕ) (a : MontageCountTold) → MontageCountAnswer s i a → a ≡ MontageCountTold.Refused (refusal_of n p)
   pub montage : (i j : ℕ) (a : MontageTold) → MontageAnswer s i j a → a ≡ MontageTold.Refused (refusal_of n p)
-  pub patient-item : (i j : ℕ) (a : ItemTold) → PatientItemAnswer s i j a → a ≡ ItemTold.Refused (refusal_of n p)
-  pub event-item : (i j : ℕ) (a : ItemTold) → EventItemAnswer s i j a → a ≡ ItemTold.Refused (refusal_of n p)
+  pub patient_item : (i j : ℕ) (a : ItemTold) → PatientItemAnswer s i j a → a ≡ ItemTold.Refused (refusal_of n p)
+  pub event_item : (i j : ℕ) (a : ItemTold) → EventItemAnswer s i j a → a ≡ ItemTold.Refused (refusal_of n p)
   pub clock : (i j : ℕ) (a : ClockTold) → ClockAnswer s i j a → a ≡ ClockTold.Refused (refusal_of n p)
   pub place : (i j k : ℕ) (a : PlaceTold) → PlaceAnswer s i j k a → a ≡ PlaceTold.Refused (refusal_of n p)
   pub track : (i k : ℕ) (a : TrackTold) → TrackAnswer s i k a → a ≡ TrackTold.Refused (refusal_of n p)
@@ -396,7 +396,7 @@ pub record DescriptorTells (c : ChannelReading) (d : Descriptor) : Type 0 where
   pub rate : d.rate ≡ c.rate
   pub calibration : calibrated_by d.calibration ≡ record { cal = c.cal; cal_ad = c.cal_ad; offset_ad = c.offset_ad; offset_cal = c.offset_cal }
   pub frequency : d.frequency ≡ c.cal_frequency
-  pub low-cut : d.low_cut ≡ c.low_cut
+  pub low_cut : d.low_cut ≡ c.low_cut
   pub high_cut : d.high_cut ≡ c.high_cut
   pub sensitivity : d.sensitivity ≡ c.sensitivity
 
@@ -443,12 +443,12 @@ pub record Tells (s : List ℕ) (g : Reading) : Type 0 where
   -- the bytes that a text names lie in the file, and are the reading's text
   pub texts : (i j : ℕ) (a : ChannelTold) → ChannelAnswer s i j a → Alike (TextsAre s) (meaning_d a) (channel_read g i j)
   -- a recording without a 350 has a montage of no channels
-  pub montage-count : (i : ℕ) (a : MontageCountTold) → MontageCountAnswer s i a → meaning_n a ≡ (recording_read g i >>= λ r. value (length r.montage))
+  pub montage_count : (i : ℕ) (a : MontageCountTold) → MontageCountAnswer s i a → meaning_n a ≡ (recording_read g i >>= λ r. value (length r.montage))
   pub montage : (i j : ℕ) (a : MontageTold) → MontageAnswer s i j a → Agree (λ c d. DescriptorTells c d.channel) (montage_read g i j) (meaning_m a)
   -- with its texts and its inputs
   pub wired : (i j : ℕ) (a : MontageTold) → MontageAnswer s i j a → Alike (WiredIs s) (meaning_m a) (montage_read g i j)
-  pub patient-item : (i j : ℕ) (a : ItemTold) → PatientItemAnswer s i j a → Alike (ItemIs s) (meaning_i a) (item_read Holder.Patient g i j)
-  pub event-item : (i j : ℕ) (a : ItemTold) → EventItemAnswer s i j a → Alike (ItemIs s) (meaning_i a) (item_read Holder.Event g i j)
+  pub patient_item : (i j : ℕ) (a : ItemTold) → PatientItemAnswer s i j a → Alike (ItemIs s) (meaning_i a) (item_read Holder.Patient g i j)
+  pub event_item : (i j : ℕ) (a : ItemTold) → EventItemAnswer s i j a → Alike (ItemIs s) (meaning_i a) (item_read Holder.Event g i j)
   pub clock : (i j : ℕ) (a : ClockTold) → ClockAnswer s i j a → meaning_t a ≡ (frame_read g i j >>= λ f. value (time_in f))
   -- the place of a channel's samples: as many as the reading has, of the format's width each; its bytes are the samples
   pub place : (i j k : ℕ) (a : PlaceTold) → PlaceAnswer s i j k a → Alike (PlaceIs s g i k) (meaning_p a) (samples_read g i j k)
@@ -461,9 +461,9 @@ pub record Tells (s : List ℕ) (g : Reading) : Type 0 where
   pub run : (b : Sibling) (i j k first n : ℕ) (out out' : List (Element b)) (a : Ran) → RunAnswer b s i j k first n out out' a →
       RunTells b n (run_read b g i j k first n) out out' (λ x. Runs.meaning a ≡ x)
   -- where it is answered, the answer is the number asked for, and entry q is what the question answers about sample first + q
-  pub run-number : (b : Sibling) (i j k first n : ℕ) (out out' : List (Element b)) (a : Ran) → RunAnswer b s i j k first n out out' a →
+  pub run_number : (b : Sibling) (i j k first n : ℕ) (out out' : List (Element b)) (a : Ran) → RunAnswer b s i j k first n out out' a →
       (m : ℕ) → a ≡ Ran.Numbers m → m ≡ n
-  pub run-entry : (b : Sibling) (i j k first n : ℕ) (out out' : List (Element b)) → RunAnswer b s i j k first n out out' (Ran.Numbers n) →
+  pub run_entry : (b : Sibling) (i j k first n : ℕ) (out out' : List (Element b)) → RunAnswer b s i j k first n out out' (Ran.Numbers n) →
       (q : ℕ) → q < n → (d : SampleTold) → SampleAnswer s i j k (first + q) d → EntryTells b out' q d
 
 -- an answer for C, in which n is the refusal and p its position, and what the reading has: the number 0 and a value of which this holds, or the refusal
@@ -524,11 +524,11 @@ pub record BoundaryTells (s : List ℕ) (g : Reading) : Type 0 where
   pub header : (a : Heading) → HeaderAnswers s a → HeadingIs (R.order_of s) g a
   pub facts : (i : ℕ) (a : Facts) → FactsAnswers s i a → TellsC (FactsAre (counts_c a)) a.refusal a.position (recording_read g i)
   pub channel : (i j : ℕ) (a : Channel) → ChannelAnswers s i j a → TellsC (ChannelIs s (channel_code g) j a) a.refusal a.position (channel_read g i j)
-  pub montage-count : (i : ℕ) (a : Counted) → MontageCountAnswers s i a →
+  pub montage_count : (i : ℕ) (a : Counted) → MontageCountAnswers s i a →
       TellsC (λ r. a.count ≡ length r.montage) a.refusal a.position (recording_read g i)
   pub montage : (i j : ℕ) (a : Montage) → MontageAnswers s i j a → TellsC (MontageIs s j a) a.channel.refusal a.channel.position (montage_read g i j)
-  pub patient-item : (i j : ℕ) (a : Item) → PatientItemAnswers s i j a → TellsC (ItemIs s (entry_c a)) a.refusal a.position (item_read Holder.Patient g i j)
-  pub event-item : (i j : ℕ) (a : Item) → EventItemAnswers s i j a → TellsC (ItemIs s (entry_c a)) a.refusal a.position (item_read Holder.Event g i j)
+  pub patient_item : (i j : ℕ) (a : Item) → PatientItemAnswers s i j a → TellsC (ItemIs s (entry_c a)) a.refusal a.position (item_read Holder.Patient g i j)
+  pub event_item : (i j : ℕ) (a : Item) → EventItemAnswers s i j a → TellsC (ItemIs s (entry_c a)) a.refusal a.position (item_read Holder.Event g i j)
   pub clock : (i j : ℕ) (a : Clock) → ClockAnswers s i j a → TellsC (ClockIs (time_c a)) a.refusal a.position (frame_read g i j)
   pub place : (i j k : ℕ) (a : PlaceC.Place) → PlaceAnswers s i j k a → TellsC (PlaceIs s g i k (place_c a)) a.refusal a.position (samples_read g i j k)
   -- what is seen in the part that is cut at the place that C is told
@@ -586,9 +586,9 @@ pub record Reserved (s : List ℕ) (v : R.File) : Type 0 where
   pub enough : Suffices s (length s + 254 * length v.recordings)
   pub own : ShortAnew v → Suffices s (length s)
   -- and so for C
-  pub boundary-answer : (a : Counted) → RoomAnswers s a → a ≡ wrote_c (length s + 254 * length v.recordings)
-  pub boundary-enough : SufficesC s (length s + 254 * length v.recordings)
-  pub boundary-own : ShortAnew v → SufficesC s (length s)
+  pub boundary_answer : (a : Counted) → RoomAnswers s a → a ≡ wrote_c (length s + 254 * length v.recordings)
+  pub boundary_enough : SufficesC s (length s + 254 * length v.recordings)
+  pub boundary_own : ShortAnew v → SufficesC s (length s)
 
 pub record Demand-2 (s : List ℕ) : Type 0 where
   -- accepted exactly when the rules accept, and refused by every call as they refuse
@@ -611,15 +611,15 @@ pub record Demand-2 (s : List ℕ) : Type 0 where
   -- the kind of a code, whatever the file is
   pub kinds : (c : ℕ) (a : KindTold) → KindAnswer c a → KindTells KindTold.Kind KindTold.Refused c a
   -- what C is answered
-  pub boundary-judges : (a : Header) → JudgeAnswers s a → JudgesByRules header_c refused_c s a
-  pub boundary-accepted : (a : Header) → JudgeAnswers s a → a.refusal ≡ 0 → (h : FileHeader) × AcceptedAs s h × (a ≡ header_c h)
-  pub boundary-lists : (v : R.File) (t : List Event) → Accepted s v t → (out out' : List ℤ) (a : Counted) → 4 * length (rows 0 t) ≤ length out → TableAnswers s out out' a → TableHolds wrote_c (rows 0 t) out' a
-  pub boundary-indexes : (v : R.File) (t : List Event) → Accepted s v t → (out out' : List ℤ) (a : Counted) → 5 * length (entries s (R.contents v)) ≤ length out → IndexAnswers s out out' a →
+  pub boundary_judges : (a : Header) → JudgeAnswers s a → JudgesByRules header_c refused_c s a
+  pub boundary_accepted : (a : Header) → JudgeAnswers s a → a.refusal ≡ 0 → (h : FileHeader) × AcceptedAs s h × (a ≡ header_c h)
+  pub boundary_lists : (v : R.File) (t : List Event) → Accepted s v t → (out out' : List ℤ) (a : Counted) → 4 * length (rows 0 t) ≤ length out → TableAnswers s out out' a → TableHolds wrote_c (rows 0 t) out' a
+  pub boundary_indexes : (v : R.File) (t : List Event) → Accepted s v t → (out out' : List ℤ) (a : Counted) → 5 * length (entries s (R.contents v)) ≤ length out → IndexAnswers s out out' a →
       IndexHolds wrote_c (entries s (R.contents v)) out' a
-  pub boundary-answers : (v : R.File) (t : List Event) → Accepted s v t → BoundaryTells s (reading v)
-  pub boundary-rewrites : (v : R.File) (t : List Event) → Accepted s v t → (order : ℕ) (to : Order) → lettered order ≡ Lettered.Names to → barrier (R.order_of s) to (first_maker (rows 0 t)) ≡ none →
+  pub boundary_answers : (v : R.File) (t : List Event) → Accepted s v t → BoundaryTells s (reading v)
+  pub boundary_rewrites : (v : R.File) (t : List Event) → Accepted s v t → (order : ℕ) (to : Order) → lettered order ≡ Lettered.Names to → barrier (R.order_of s) to (first_maker (rows 0 t)) ≡ none →
       (out out' : List ℕ) (a : Counted) → length (rewritten to s) ≤ length out → RewriteAnswers s order out out' a → WrittenAnew wrote_c (reading v) to out' a
-  pub boundary-kinds : (c : ℕ) (a : Kind) → KindAnswers c a → KindTells kind_c unkind_c c a
+  pub boundary_kinds : (c : ℕ) (a : Kind) → KindAnswers c a → KindTells kind_c unkind_c c a
 
 -- Demand 3: a file and what `turn` wrote of it say the same
 
@@ -697,10 +697,10 @@ pub record BoundarySame (s s' : List ℕ) : Type 0 where
   pub header : (a b : Heading) → HeaderAnswers s a → HeaderAnswers s' b → SameButOrder (R.order_of s) a b
   pub facts : (i : ℕ) (a b : Facts) → FactsAnswers s i a → FactsAnswers s' i b → a ≡ b
   pub channel : (i j : ℕ) (a b : Channel) → ChannelAnswers s i j a → ChannelAnswers s' i j b → a ≡ b
-  pub montage-count : (i : ℕ) (a b : Counted) → MontageCountAnswers s i a → MontageCountAnswers s' i b → a ≡ b
+  pub montage_count : (i : ℕ) (a b : Counted) → MontageCountAnswers s i a → MontageCountAnswers s' i b → a ≡ b
   pub montage : (i j : ℕ) (a b : Montage) → MontageAnswers s i j a → MontageAnswers s' i j b → a ≡ b
-  pub patient-item : (i j : ℕ) (a b : Item) → PatientItemAnswers s i j a → PatientItemAnswers s' i j b → a ≡ b
-  pub event-item : (i j : ℕ) (a b : Item) → EventItemAnswers s i j a → EventItemAnswers s' i j b → a ≡ b
+  pub patient_item : (i j : ℕ) (a b : Item) → PatientItemAnswers s i j a → PatientItemAnswers s' i j b → a ≡ b
+  pub event_item : (i j : ℕ) (a b : Item) → EventItemAnswers s i j a → EventItemAnswers s' i j b → a ≡ b
   pub clock : (i j : ℕ) (a b : Clock) → ClockAnswers s i j a → ClockAnswers s' i j b → a ≡ b
   pub place : (i j k : ℕ) (a b : PlaceC.Place) → PlaceAnswers s i j k a → PlaceAnswers s' i j k b → a ≡ b
   pub track : (i k : ℕ) (a b : TrackC.Track) → TrackAnswers s i k a → TrackAnswers s' i k b → SameTrackButOrder (R.order_of s) a b
@@ -731,10 +731,10 @@ pub record Same (s : List ℕ) (g : Reading) (s' : List ℕ) : Type 0 where
   pub header : (a b : HeaderTold) → HeaderAnswer s a → HeaderAnswer s' b → (h : Asked.Header) × (a ≡ HeaderTold.Header h) × (b ≡ HeaderTold.Header (in_other h))
   pub facts : (i : ℕ) (a b : FactsTold) → FactsAnswer s i a → FactsAnswer s' i b → a ≡ b
   pub channel : (i j : ℕ) (a b : ChannelTold) → ChannelAnswer s i j a → ChannelAnswer s' i j b → a ≡ b
-  pub montage-count : (i : ℕ) (a b : MontageCountTold) → MontageCountAnswer s i a → MontageCountAnswer s' i b → a ≡ b
+  pub montage_count : (i : ℕ) (a b : MontageCountTold) → MontageCountAnswer s i a → MontageCountAnswer s' i b → a ≡ b
   pub montage : (i j : ℕ) (a b : MontageTold) → MontageAnswer s i j a → MontageAnswer s' i j b → a ≡ b
-  pub patient-item : (i j : ℕ) (a b : ItemTold) → PatientItemAnswer s i j a → PatientItemAnswer s' i j b → a ≡ b
-  pub event-item : (i j : ℕ) (a b : ItemTold) → EventItemAnswer s i j a → EventItemAnswer s' i j b → a ≡ b
+  pub patient_item : (i j : ℕ) (a b : ItemTold) → PatientItemAnswer s i j a → PatientItemAnswer s' i j b → a ≡ b
+  pub event_item : (i j : ℕ) (a b : ItemTold) → EventItemAnswer s i j a → EventItemAnswer s' i j b → a ≡ b
   pub clock : (i j : ℕ) (a b : ClockTold) → ClockAnswer s i j a → ClockAnswer s' i j b → a ≡ b
   pub place : (i j k : ℕ) (a b : PlaceTold) → PlaceAnswer s i j k a → PlaceAnswer s' i j k b → a ≡ b
   pub part : (i j k : ℕ) (p : Place) → PlaceAnswer s i j k (PlaceTold.At p) → (file r file' r' : Bor (List ℕ)) → file.now ≡ s → file'.now ≡ s' →
@@ -762,6 +762,6 @@ pub record Demand-3 (s : List ℕ) : Type 0 where
   pub turned : (v : R.File) (t : List Event) → Accepted s v t → first_maker (rows 0 t) ≡ none → (out out' : List ℕ) (a : Written) → length s ≤ length out → Turns s out out' a →
       Same s (reading v) (take (length s) out')
   -- and so does the call that C links
-  pub boundary-answers : (v : R.File) (t : List Event) → Accepted s v t → first_maker (rows 0 t) ≡ none → (out out' : List ℕ) (a : Counted) → length s ≤ length out → TurnAnswers s out out' a → a ≡ wrote_c (length s)
-  pub boundary-turned : (v : R.File) (t : List Event) → Accepted s v t → first_maker (rows 0 t) ≡ none → (out out' : List ℕ) (a : Counted) → length s ≤ length out → TurnAnswers s out out' a →
+  pub boundary_answers : (v : R.File) (t : List Event) → Accepted s v t → first_maker (rows 0 t) ≡ none → (out out' : List ℕ) (a : Counted) → length s ≤ length out → TurnAnswers s out out' a → a ≡ wrote_c (length s)
+  pub boundary_turned : (v : R.File) (t : List Event) → Accepted s v t → first_maker (rows 0 t) ≡ none → (out out' : List ℕ) (a : Counted) → length s ≤ length out → TurnAnswers s out out' a →
       Same s (reading v) (take (length s) out')

@@ -266,15 +266,15 @@ module _ (o : Order) (base : ℕ) (s : List ℕ) where
                   kept = record {
                     basic = g.same;
                     own = first.kept.own;
-                    has-events = third.kept.own;
-                    has-montage = fourth.kept.own;
+                    has_events = third.kept.own;
+                    has_montage = fourth.kept.own;
                     head = fourth.kept.head;
                     room = fourth.kept.room;
                     end = fourth.kept.end;
-                    channels-at = place ∙ placed c.own base (length s) h.at g.next.room (held_at (channels_in before)) u (omega (arith, g.stands.inside)) g.room;
+                    channels_at = place ∙ placed c.own base (length s) h.at g.next.room (held_at (channels_in before)) u (omega (arith, g.stands.inside)) g.room;
                     patient_at = rw second.kept.own (rw ys at second.kept.place ∙ placed p.own base (length s) c.next.at first.value.next.room (held_at (patient_in before)) u (omega (arith, k₁.follows.inside)) first.kept.room);
-                    events-at = third.kept.place ∙ placed e.own base (length s) p.next.at second.value.next.room 0 u (omega (arith, k₂.follows.inside)) second.kept.room;
-                    montage-at = fourth.kept.place ∙ placed m.own base (length s) e.next.at third.value.next.room 0 u (omega (arith, k₃.follows.inside)) third.kept.room;
+                    events_at = third.kept.place ∙ placed e.own base (length s) p.next.at second.value.next.room 0 u (omega (arith, k₂.follows.inside)) second.kept.room;
+                    montage_at = fourth.kept.place ∙ placed m.own base (length s) e.next.at third.value.next.room 0 u (omega (arith, k₃.follows.inside)) third.kept.room;
                     stand = stood;
                   };
                 }

@@ -154,15 +154,15 @@ place_of base n room = base - 16 + (16 + n - room)
 pub record Keeps (o : Order) (file : List ℕ) (base n : ℕ) (before : Before) (t : Described) (x : R.Descriptions) (e : ℕ) : Type 0 where
   pub basic : basic_of x.basic ≡ t.basic
   pub own : x.channels.own ≡ t.own
-  pub has-events : x.events.own ≡ t.has_events
-  pub has-montage : x.montage.own ≡ t.has_montage
+  pub has_events : x.events.own ≡ t.has_events
+  pub has_montage : x.montage.own ≡ t.has_montage
   pub head : x.montage.next.head ≡ head_of t.next
   pub room : x.montage.next.room ≡ n - t.next.at
   pub end : e ≡ base + (t.next.at + 16)
-  pub channels-at : t.channels ≡ pick t.own (place_of base n x.next.room) (held_at (channels_in before))
+  pub channels_at : t.channels ≡ pick t.own (place_of base n x.next.room) (held_at (channels_in before))
   pub patient_at : t.patient ≡ pick x.patient.own (place_of base n x.channels.next.room) (held_at (patient_in before))
-  pub events-at : t.events ≡ pick t.has_events (place_of base n x.patient.next.room) 0
-  pub montage-at : t.montage ≡ pick t.has_montage (place_of base n x.events.next.room) 0
+  pub events_at : t.events ≡ pick t.has_events (place_of base n x.patient.next.room) 0
+  pub montage_at : t.montage ≡ pick t.has_montage (place_of base n x.events.next.room) 0
   pub stand : ChannelsStand o file (subs_at t.channels t.count) x.channels.value
 
 abbrev pub described : Order → Label → List ℕ → ℕ → Option R.Held → List ℕ → Before → DescriptionsJudged → Type 0

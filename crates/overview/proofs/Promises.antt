@@ -338,8 +338,8 @@ module _ (s s' : List ℕ) {v : R.File} {t : List Event} (h : Accepted s v t) (y
         let q = same-range i k first n in
         let w = range_unique s i k first n out out₁ out₂ a b x (record { answer = z.answer ∙ ap (counted n (length out)) q; buffer = z.buffer ∙ ap (λ (u : Answer (List (Option Envelope))). holding n u out) q }) in
         record { answer = w.0; buffer = w.1 };
-    boundary-overview = λ i k e a b x z. x ∙ (ap flat_overview (sym (same-overview i k e)) ∙ sym z);
-    boundary-range = λ i k first n out out₁ out₂ a b x z.
+    boundary_overview = λ i k e a b x z. x ∙ (ap flat_overview (sym (same-overview i k e)) ∙ sym z);
+    boundary_range = λ i k first n out out₁ out₂ a b x z.
         let q = sym (same-range i k first n) in
         record {
           answer = x.answer ∙ (ap (λ (u : Answer (List (Option Envelope))). flat_counted (counted n (length out) u)) q ∙ sym z.answer);
@@ -351,16 +351,16 @@ pub promises : (s : List ℕ) → Bytes s → Promises s
 promises s b = record {
   overview = λ i k e a x r j. overview-refuses s i k e r (ap meaning (sym j) ∙ x);
   range = λ i k first n out out' a x r j. range-refuses s i k first n out out' (meaning_r a) x.answer x.buffer r (ap meaning_r j);
-  range-keeps = λ i k first n out out' a x.
+  range_keeps = λ i k first n out out' a x.
       keeps s i k first n out out' (meaning_r a) x.answer x.buffer RangeTold.Refused RangeTold.Epochs a
       (λ m p j l e c. apart (sym (ap meaning_r c) ∙ e)) (λ j e c. cc (ap meaning_r c, e)) (λ r e c. apart (sym e ∙ ap meaning_r c));
-  overview-handed = λ n p h i k e a x. one_told a (OverviewTold.Refused (refusal_of n p)) x (rw h);
-  range-handed = λ m p h i k first n out out' a x. one-ranged a (RangeTold.Refused (refusal_of m p)) x.answer (rw h);
+  overview_handed = λ n p h i k e a x. one_told a (OverviewTold.Refused (refusal_of n p)) x (rw h);
+  range_handed = λ m p h i k first n out out' a x. one-ranged a (RangeTold.Refused (refusal_of m p)) x.answer (rw h);
   samples = λ i k e x h. in-epoch s i k e h (λ zs j. envelope-is zs x j);
   empty = λ i k e h. in-epoch s i k e h none-there;
-  range-number = λ i k first n out out' a x m j. range-count s i k first n out out' (meaning_r a) x.answer x.buffer m (ap meaning_r j);
+  range_number = λ i k first n out out' a x m j. range-count s i k first n out out' (meaning_r a) x.answer x.buffer m (ap meaning_r j);
   agrees = λ i k first n out out' x. epoch-told s i k first n out out' (value n) x.answer x.buffer refl;
   turned = λ v t h free out out' a room x. same-overviews s (take (length s) out') h ((demand-3 s b).turned v t h free out out' a room x);
-  boundary-turned = λ v t h free out out' a room x. same-overviews s (take (length s) out') h ((demand-3 s b).boundary-turned v t h free out out' a room x);
-  boundary = record { overview = overview-apart s; range = range-apart s; range-keeps = range-apart-keeps s };
+  boundary_turned = λ v t h free out out' a room x. same-overviews s (take (length s) out') h ((demand-3 s b).boundary_turned v t h free out out' a room x);
+  boundary = record { overview = overview-apart s; range = range-apart s; range_keeps = range-apart-keeps s };
 }

@@ -70,15 +70,15 @@ pub record Boundary (s : List ℕ) : Type 0 where
       TakenApart s (OverviewAnswer s i k e) OverviewTold.Refused (λ b. flat_overview (meaning b)) of_question 0 a.refusal a.position a
   pub range : (i k first n : ℕ) (out out' : List ℤ) (a : Counted) → RangeAnswers s i k first n out out' a →
       TakenApart s (RangeAnswer s i k first n out out') RangeTold.Refused (λ b. flat_counted (meaning_r b)) of_run (3 * n) a.refusal a.position a
-  pub range-keeps : (i k first n : ℕ) (out out' : List ℤ) (a : Counted) → RangeAnswers s i k first n out out' a → KeepsRest stopped_c wrote_c 3 out out' a
+  pub range_keeps : (i k first n : ℕ) (out out' : List ℤ) (a : Counted) → RangeAnswers s i k first n out out' a → KeepsRest stopped_c wrote_c 3 out out' a
 
 -- the files s and s' are answered the same, and leave the same buffer; for C too
 pub record SameOverviews (s s' : List ℕ) : Type 0 where
   pub overview : (i k e : ℕ) (a b : OverviewTold) → OverviewAnswer s i k e a → OverviewAnswer s' i k e b → a ≡ b
   pub range : (i k first n : ℕ) (out out₁ out₂ : List ℤ) (a b : RangeTold) →
       RangeAnswer s i k first n out out₁ a → RangeAnswer s' i k first n out out₂ b → SameEnd a b out₁ out₂
-  pub boundary-overview : (i k e : ℕ) (a b : Overviewed) → OverviewAnswers s i k e a → OverviewAnswers s' i k e b → a ≡ b
-  pub boundary-range : (i k first n : ℕ) (out out₁ out₂ : List ℤ) (a b : Counted) →
+  pub boundary_overview : (i k e : ℕ) (a b : Overviewed) → OverviewAnswers s i k e a → OverviewAnswers s' i k e b → a ≡ b
+  pub boundary_range : (i k first n : ℕ) (out out₁ out₂ : List ℤ) (a b : Counted) →
       RangeAnswers s i k first n out out₁ a → RangeAnswers s' i k first n out out₂ b → SameEnd a b out₁ out₂
 
 -- of the file s, whatever is asked
@@ -88,25 +88,25 @@ pub record Promises (s : List ℕ) : Type 0 where
   pub range : (i k first n : ℕ) (out out' : List ℤ) (a : RangeTold) → RangeAnswer s i k first n out out' a →
       Answered RangeTold.Refused of_run (length s) (3 * n) a
   -- a buffer keeps what the answer does not state
-  pub range-keeps : (i k first n : ℕ) (out out' : List ℤ) (a : RangeTold) → RangeAnswer s i k first n out out' a →
+  pub range_keeps : (i k first n : ℕ) (out out' : List ℤ) (a : RangeTold) → RangeAnswer s i k first n out out' a →
       KeepsRest RangeTold.Refused RangeTold.Epochs 3 out out' a
   -- the rules' refusal is handed up
-  pub overview-handed : (n p : ℕ) → R.judge s ≡ refused n p → (i k e : ℕ) (a : OverviewTold) → OverviewAnswer s i k e a →
+  pub overview_handed : (n p : ℕ) → R.judge s ≡ refused n p → (i k e : ℕ) (a : OverviewTold) → OverviewAnswer s i k e a →
       a ≡ OverviewTold.Refused (refusal_of n p)
-  pub range-handed : (m p : ℕ) → R.judge s ≡ refused m p → (i k first n : ℕ) (out out' : List ℤ) (a : RangeTold) →
+  pub range_handed : (m p : ℕ) → R.judge s ≡ refused m p → (i k first n : ℕ) (out out' : List ℤ) (a : RangeTold) →
       RangeAnswer s i k first n out out' a → a ≡ RangeTold.Refused (refusal_of m p)
   -- an envelope is that of the reading's samples, and an epoch is empty where there are none
   pub samples : (i k e : ℕ) (x : Envelope) → OverviewAnswer s i k e (OverviewTold.Samples x) → InEpoch s i k e (λ zs. EnvelopeIs zs x)
   pub empty : (i k e : ℕ) → OverviewAnswer s i k e OverviewTold.Empty → InEpoch s i k e (λ zs. zs ≡ [])
   -- where a range is answered, the answer is the number asked for, and epoch q of the buffer is what the overview answers about epoch first + q
-  pub range-number : (i k first n : ℕ) (out out' : List ℤ) (a : RangeTold) → RangeAnswer s i k first n out out' a →
+  pub range_number : (i k first n : ℕ) (out out' : List ℤ) (a : RangeTold) → RangeAnswer s i k first n out out' a →
       (m : ℕ) → a ≡ RangeTold.Epochs m → m ≡ n
   pub agrees : (i k first n : ℕ) (out out' : List ℤ) → RangeAnswer s i k first n out out' (RangeTold.Epochs n) →
       (q : ℕ) → q < n → (d : OverviewTold) → OverviewAnswer s i k (first + q) d → EpochTells out' q d
   -- an accepted file without makers' records, and what `turn` wrote of it with room, are answered the same; so what C's call wrote
   pub turned : (v : R.File) (t : List Event) → Accepted s v t → first_maker (rows 0 t) ≡ none →
       (out out' : List ℕ) (a : Written) → length s ≤ length out → Turns s out out' a → SameOverviews s (take (length s) out')
-  pub boundary-turned : (v : R.File) (t : List Event) → Accepted s v t → first_maker (rows 0 t) ≡ none →
+  pub boundary_turned : (v : R.File) (t : List Event) → Accepted s v t → first_maker (rows 0 t) ≡ none →
       (out out' : List ℕ) (a : Library.Counted) → length s ≤ length out → TurnAnswers s out out' a → SameOverviews s (take (length s) out')
   -- what C is answered
   pub boundary : Boundary s
