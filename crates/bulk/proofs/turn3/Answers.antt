@@ -9,13 +9,11 @@ use lib.Seq.{length-take-le}
 use borrow.Author.Rules.{rules}
 use Rattle.bulk.proofs.Loops.{turning-none, turning-more, turning-within, turning-all, turning-rest}
 use Rattle.bulk.proofs.turn3.Goals as goal
+use Rattle.bulk.proofs.turn3.Goals.{Else-n-eq0}
 
 -- there is a first number
-first : (c : goal.Else-n-eq0) (s : List ℕ) → length s ≡ c.args.n * 3 → length (take 3 s) ≡ 3
+first : (c : Else-n-eq0) (s : List ℕ) → length s ≡ c.args.n * 3 → length (take 3 s) ≡ 3
 first c s h = length-take-le 3 s (omega (arith, c.if-n-eq0.false))
-
-first-2 : (c : goal.After-one_of_3-arg-1) (s : List ℕ) → length s ≡ c.args.n * 3 → length (take 3 s) ≡ 3
-first-2 c s h = length-take-le 3 s (omega (arith, c.if-n-eq0.false))
 
 pub returns-then-n-eq0 : goal.returns-then-n-eq0
 returns-then-n-eq0 c = turning-all (turning-none c.requires) (omega (arith, c.if-n-eq0.true))
@@ -24,11 +22,11 @@ pub slice_bounds-one_of_3-end : goal.slice_bounds-one_of_3-end
 slice_bounds-one_of_3-end c = sym (first c c.args.src.now c.requires.source)
 
 pub slice_bounds-one_of_3-end-3 : goal.slice_bounds-one_of_3-end-3
-slice_bounds-one_of_3-end-3 c = sym (first-2 c c.args.dst.now c.requires.room)
+slice_bounds-one_of_3-end-3 c = sym (first (goal.at.slice_bounds-one_of_3-end-3 c).Else-n-eq0 c.args.dst.now c.requires.room)
 
 pub one_of_3-requires : goal.one_of_3-requires
 one_of_3-requires c =
-    record { source = first-2 c c.args.src.now c.requires.source; room = first-2 c c.args.dst.now c.requires.room }
+    record { source = first (goal.at.one_of_3-requires c).Else-n-eq0 c.args.src.now c.requires.source; room = first (goal.at.one_of_3-requires c).Else-n-eq0 c.args.dst.now c.requires.room }
 
 pub loop-i-init : goal.loop-i-init
 loop-i-init c =

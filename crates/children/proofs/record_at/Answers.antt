@@ -16,6 +16,7 @@ use Rattle.records.proofs.Laws.{admitted-at}
 use Rattle.children.specs.Children.{Heads, RecordAt, NoRecord}
 use Rattle.children.proofs.Visiting.{none-headless, none-delimiter, none-refused}
 use Rattle.children.proofs.record_at.Goals as goal
+use Rattle.children.proofs.record_at.Goals.{In-At}
 
 -- the head h stands at byte p of the part s
 record There (o : Order) (b : ℕ) (s : List ℕ) (p : ℕ) (h : Head) : Type 0 where
@@ -49,42 +50,27 @@ module _ {o : Order} {b : ℕ} {s : List ℕ} {p : ℕ} {h : Head} where
       }
 
 -- the head that was found
-found : (x : goal.Then-h-eq-CODE) →
+found : (x : In-At) →
     let a = x.args in
     There a.o a.base a.s.now a.p x.in-At.h
 found x = there x.in-At.is x.head_at-found.ensures
-
-found-2 : (x : goal.Else-h-eq-CODE) →
-    let a = x.args in
-    There a.o a.base a.s.now a.p x.in-At.h
-found-2 x = there x.in-At.is x.head_at-found.ensures
-
-found-3 : (x : goal.In_default-room) →
-    let a = x.args in
-    There a.o a.base a.s.now a.p x.in-At.h
-found-3 x = there x.in-At.is x.head_at-found.ensures
-
-found-4 : (x : goal.In-On) →
-    let a = x.args in
-    There a.o a.base a.s.now a.p x.in-At.h
-found-4 x = there x.in-At.is x.head_at-found.ensures
 
 pub returns-in_default : goal.returns-in_default
 returns-in_default c =
     none-headless (rw c.in_default.is at c.head_at-found.ensures.seen)
 
 pub returns-then-h-eq-CODE : goal.returns-then-h-eq-CODE
-returns-then-h-eq-CODE c = none-delimiter (found c).heads c.if-h-eq-CODE.true
+returns-then-h-eq-CODE c = none-delimiter (found (goal.at.returns-then-h-eq-CODE c).In-At).heads c.if-h-eq-CODE.true
 
 pub admit-room-requires : goal.admit-room-requires
 admit-room-requires c =
-    let t = found-2 c in
+    let t = found (goal.at.admit-room-requires c).In-At in
     record { low = omega (arith, t.place, t.inside); short = omega (arith, t.place, t.inside) }
 
 pub returns-in_default-room : goal.returns-in_default-room
 returns-in_default-room c =
-    refused (found-3 c) c.in_default-room.is c.admit-room.ensures
+    refused (found (goal.at.returns-in_default-room c).In-At) c.in_default-room.is c.admit-room.ensures
 
 pub returns : goal.returns
 returns c =
-    admitted (found-4 c) c.if-h-eq-CODE.false c.in-On.is c.admit-room.ensures
+    admitted (found (goal.at.returns c).In-At) c.if-h-eq-CODE.false c.in-On.is c.admit-room.ensures

@@ -13,51 +13,34 @@ use Rattle.descriptions.proofs.Parts.{judges-absent, judges-stop, judges-behind,
 use Rattle.descriptions.proofs.Stands.{group-is, owned}
 use borrow.Author.Rules.{rules}
 use Rattle.descriptions.proofs.channels_part.Goals as goal
+use Rattle.descriptions.proofs.channels_part.Goals.{After-has_code}
 
 -- the group, as the rules have it
-abbrev group : goal.After-absent → R.Group
+abbrev group : After-has_code → R.Group
 group x = R.channels_group x.args.label x.args.channels
 
-abbrev group-2 : goal.After-of_step → R.Group
-group-2 x = R.channels_group x.args.label x.args.channels
-
-abbrev group-3 : goal.After-behind → R.Group
-group-3 x = R.channels_group x.args.label x.args.channels
-
-grouped : (x : goal.After-absent) → group_of x.group_for-g.result ≡ group x
+grouped : (x : After-has_code) → group_of x.group_for-g.result ≡ group x
 grouped x = ap group_of x.group_for-g.ensures ∙ group-is x.args.label x.args.channels
 
-grouped-2 : (x : goal.After-of_step) → group_of x.group_for-g.result ≡ group-2 x
-grouped-2 x = ap group_of x.group_for-g.ensures ∙ group-is x.args.label x.args.channels
-
-grouped-3 : (x : goal.After-behind) → group_of x.group_for-g.result ≡ group-3 x
-grouped-3 x = ap group_of x.group_for-g.ensures ∙ group-is x.args.label x.args.channels
-
 -- the test of the code
-coded : (x : goal.After-absent) → eqb x.args.h.code (group x).code ≡ x.has_code.result
+coded : (x : After-has_code) → eqb x.args.h.code (group x).code ≡ x.has_code.result
 coded x = sym (x.has_code.ensures ∙ ap (eqb x.args.h.code) (x.group_code.ensures ∙ ap (λ (g : R.Group). g.code) (grouped x)))
-
-coded-2 : (x : goal.After-of_step) → eqb x.args.h.code (group-2 x).code ≡ x.has_code.result
-coded-2 x = sym (x.has_code.ensures ∙ ap (eqb x.args.h.code) (x.group_code.ensures ∙ ap (λ (g : R.Group). g.code) (grouped-2 x)))
-
-coded-3 : (x : goal.After-behind) → eqb x.args.h.code (group-3 x).code ≡ x.has_code.result
-coded-3 x = sym (x.has_code.ensures ∙ ap (eqb x.args.h.code) (x.group_code.ensures ∙ ap (λ (g : R.Group). g.code) (grouped-3 x)))
 
 pub returns-then-not-has_code : goal.returns-then-not-has_code
 returns-then-not-has_code c =
     let a = c.args in
-    let other = coded c ∙ c.if-not-has_code.true in
+    let other = coded (goal.at.returns-then-not-has_code c).After-has_code ∙ c.if-not-has_code.true in
     rw c.absent.ensures (record {
-      told = judges-absent a.o a.label a.base a.s.now (group c).code (R.channels (group c)) (Owned a.o a.s.now a.h.at a.channels) a.h a.held other;
+      told = judges-absent a.o a.label a.base a.s.now (group (goal.at.returns-then-not-has_code c).After-has_code).code (R.channels (group (goal.at.returns-then-not-has_code c).After-has_code)) (Owned a.o a.s.now a.h.at a.channels) a.h a.held other;
       follows = follows-lacking a.base (length a.s.now) a.h a.held c.requires.inside;
     })
 
 pub returns-in_default : goal.returns-in_default
 returns-in_default c =
     let a = c.args in
-    let same = coded-2 c ∙ c.if-not-has_code.false in
+    let same = coded (goal.at.returns-in_default c).After-has_code ∙ c.if-not-has_code.false in
     simp (c.of_step.ensures, c.in_default.is) (record {
-      told = judges-stop a.o a.label a.base a.s.now (group-2 c).code (R.channels (group-2 c)) (Owned a.o a.s.now a.h.at a.channels) a.h a.held same _ (rw (grouped-2 c, c.in_default.is) at c.channels_at-step.ensures.seen);
+      told = judges-stop a.o a.label a.base a.s.now (group (goal.at.returns-in_default c).After-has_code).code (R.channels (group (goal.at.returns-in_default c).After-has_code)) (Owned a.o a.s.now a.h.at a.channels) a.h a.held same _ (rw (grouped (goal.at.returns-in_default c).After-has_code, c.in_default.is) at c.channels_at-step.ensures.seen);
       follows = tt;
     })
 
@@ -70,11 +53,11 @@ pub returns : goal.returns
 returns c =
     let a = c.args in
     let s = a.s.now in
-    let same = coded-3 c ∙ c.if-not-has_code.false in
+    let same = coded (goal.at.returns c).After-has_code ∙ c.if-not-has_code.false in
     let q = c.in-On.end in
     let w = rw c.in-On.is at c.channels_at-step.ensures.stands in
     record {
-      told = judges-behind a.o a.label a.base s (group-3 c).code (R.channels (group-3 c)) (Owned a.o s a.h.at a.channels) a.h a.held same (stays-channels_rest (group-3 c)) q c.requires.inside w.inside
-          (rw (grouped-3 c, c.in-On.is) at c.channels_at-step.ensures.seen) (owned a.o a.base s a.label _ _ a.h.at q a.channels w.inside) c.behind.result c.behind.ensures;
+      told = judges-behind a.o a.label a.base s (group (goal.at.returns c).After-has_code).code (R.channels (group (goal.at.returns c).After-has_code)) (Owned a.o s a.h.at a.channels) a.h a.held same (stays-channels_rest (group (goal.at.returns c).After-has_code)) q c.requires.inside w.inside
+          (rw (grouped (goal.at.returns c).After-has_code, c.in-On.is) at c.channels_at-step.ensures.seen) (owned a.o a.base s a.label _ _ a.h.at q a.channels w.inside) c.behind.result c.behind.ensures;
       follows = follows-stood (a.base + a.h.at) a.h.at q (length s) c.behind.result (omega arith) c.behind.ensures.stands;
     }

@@ -13,21 +13,16 @@ use Rattle.descriptions.specs.DescriptionsJudged.{code_of}
 use Rattle.descriptions.proofs.Parts.{judges-absent, judges-stop, judges-behind, follows-lacking, follows-stood}
 use borrow.Author.Rules.{rules}
 use Rattle.descriptions.proofs.items_part.Goals as goal
+use Rattle.descriptions.proofs.items_part.Goals.{After-has_code}
 
 -- what the test of the code says
-coded : (x : goal.After-absent) → eqb x.args.h.code (code_of x.args.k) ≡ x.has_code.result
+coded : (x : After-has_code) → eqb x.args.h.code (code_of x.args.k) ≡ x.has_code.result
 coded x = sym (x.has_code.ensures ∙ ap (λ (k : Kind). (rule_of k).code x.args.h.code) x.kind_of.ensures)
-
-coded-2 : (x : goal.After-of_step) → eqb x.args.h.code (code_of x.args.k) ≡ x.has_code.result
-coded-2 x = sym (x.has_code.ensures ∙ ap (λ (k : Kind). (rule_of k).code x.args.h.code) x.kind_of.ensures)
-
-coded-3 : (x : goal.After-behind) → eqb x.args.h.code (code_of x.args.k) ≡ x.has_code.result
-coded-3 x = sym (x.has_code.ensures ∙ ap (λ (k : Kind). (rule_of k).code x.args.h.code) x.kind_of.ensures)
 
 pub returns-then-not-has_code : goal.returns-then-not-has_code
 returns-then-not-has_code c =
     let a = c.args in
-    let other = coded c ∙ c.if-not-has_code.true in
+    let other = coded (goal.at.returns-then-not-has_code c).After-has_code ∙ c.if-not-has_code.true in
     rw c.absent.ensures (record {
       told = judges-absent a.o a.label a.base a.s.now (code_of a.k) (R.items (ok_of a.k)) (λ _. Unit {0}) a.h a.held other;
       follows = follows-lacking a.base (length a.s.now) a.h a.held c.requires.inside;
@@ -36,7 +31,7 @@ returns-then-not-has_code c =
 pub returns-in_default : goal.returns-in_default
 returns-in_default c =
     let a = c.args in
-    let same = coded-2 c ∙ c.if-not-has_code.false in
+    let same = coded (goal.at.returns-in_default c).After-has_code ∙ c.if-not-has_code.false in
     simp (c.of_step.ensures, c.in_default.is) (record {
       told = judges-stop a.o a.label a.base a.s.now (code_of a.k) (R.items (ok_of a.k)) (λ _. Unit {0}) a.h a.held same _ (rw c.in_default.is at c.items_at-step.ensures.seen);
       follows = tt;
@@ -51,7 +46,7 @@ pub returns : goal.returns
 returns c =
     let a = c.args in
     let s = a.s.now in
-    let same = coded-3 c ∙ c.if-not-has_code.false in
+    let same = coded (goal.at.returns c).After-has_code ∙ c.if-not-has_code.false in
     let q = c.in-On.end in
     let w = rw c.in-On.is at c.items_at-step.ensures.stands in
     record {

@@ -7,16 +7,11 @@ use borrow.Author.Rules.{rules}
 use Rattle.records.specs.Says.{subs_at, ChannelsIn}
 use Rattle.index.proofs.Recorded.{framed-none, framed-start, framed-ahead, framed-more, framed-all}
 use Rattle.index.proofs.recording_entries.Goals as goal
+use Rattle.index.proofs.recording_entries.Goals.{After-struct_known-1}
 
 -- the channels have room in the file
-room : (b : goal.After-struct_known-1) → ChannelsIn (length b.args.file.now) (subs_at b.args.q.channels b.args.q.count)
+room : (b : After-struct_known-1) → ChannelsIn (length b.args.file.now) (subs_at b.args.q.channels b.args.q.count)
 room b = b.requires.found.owned.room
-
-room-2 : (b : goal.After-first_events-first) → ChannelsIn (length b.args.file.now) (subs_at b.args.q.channels b.args.q.count)
-room-2 b = b.requires.found.owned.room
-
-room-3 : (b : goal.Else-end-first) → ChannelsIn (length b.args.file.now) (subs_at b.args.q.channels b.args.q.count)
-room-3 b = b.requires.found.owned.room
 
 pub overflow_add-subs : goal.overflow_add-subs
 overflow_add-subs c = record { fits = omega (arith, room c, c.well_formed) }
@@ -25,7 +20,7 @@ pub first_events-first-requires : goal.first_events-first-requires
 first_events-first-requires c = record { inside = omega (arith, room c); short = omega (arith, c.well_formed) }
 
 pub behind_events-end-requires : goal.behind_events-end-requires
-behind_events-end-requires c = record { inside = omega (arith, room-2 c); short = omega (arith, c.well_formed) }
+behind_events-end-requires c = record { inside = omega (arith, room (goal.at.behind_events-end-requires c).After-struct_known-1); short = omega (arith, c.well_formed) }
 
 pub returns-then-end-first : goal.returns-then-end-first
 returns-then-end-first c =
@@ -33,7 +28,7 @@ returns-then-end-first c =
 
 pub sample_bytes-before-requires : goal.sample_bytes-before-requires
 sample_bytes-before-requires c = record {
-  channels = record { inside = omega (arith, room-3 c, c.first_events-first.ensures.inside); few = omega (arith, room-3 c, c.first_events-first.ensures.inside) };
+  channels = record { inside = omega (arith, room (goal.at.sample_bytes-before-requires c).After-struct_known-1, c.first_events-first.ensures.inside); few = omega (arith, room (goal.at.sample_bytes-before-requires c).After-struct_known-1, c.first_events-first.ensures.inside) };
   hour = c.requires.found.seconds;
 }
 

@@ -10,20 +10,15 @@ use Rattle.words.specs.declared.Order.TheVariants.{Little}
 use Rattle.walk.proofs.Seen.{part-number}
 use Rattle.index.proofs.Pairs.{same_none, same_more}
 use Rattle.index.proofs.same_eights.Goals as goal
+use Rattle.index.proofs.same_eights.Goals.{In-loop-i}
 
 -- sixteen bytes of a list
 part-long : (s : List ℕ) (a : ℕ) → a + 16 ≤ length s → length (take (a + 16 - a) (drop a s)) ≡ 16
 part-long s a h = length-take-le (a + 16 - a) (drop a s) (rw length-drop (omega arith)) ∙ omega arith
 
 -- the bytes of eight samples are in the part
-room : (c : goal.In-loop-i) → 2 * c.loop-i.i + 16 ≤ length c.args.s.now
+room : (c : In-loop-i) → 2 * c.loop-i.i + 16 ≤ length c.args.s.now
 room c = omega (arith, c.requires.long, c.loop-i-test.true)
-
-room-2 : (c : goal.After-eight_same-arg-1) → 2 * c.loop-i.i + 16 ≤ length c.args.s.now
-room-2 c = omega (arith, c.requires.long, c.loop-i-test.true)
-
-room-3 : (c : goal.Else-not-eight_same) → 2 * c.loop-i.i + 16 ≤ length c.args.s.now
-room-3 c = omega (arith, c.requires.long, c.loop-i-test.true)
 
 pub loop-i-init : goal.loop-i-init
 loop-i-init c = same_none c.requires.inside
@@ -44,13 +39,13 @@ pub slice_bounds-eight_same-end : goal.slice_bounds-eight_same-end
 slice_bounds-eight_same-end c = room c
 
 pub eight_same-requires : goal.eight_same-requires
-eight_same-requires c = record { long = part-long c.args.s.now (2 * c.loop-i.i) (room-2 c); small = c.requires.small }
+eight_same-requires c = record { long = part-long c.args.s.now (2 * c.loop-i.i) (room (goal.at.eight_same-requires c).In-loop-i); small = c.requires.small }
 
 pub returns-then-not-eight_same : goal.returns-then-not-eight_same
 returns-then-not-eight_same c = c.loop-i.invariant
 
 pub overflow_add-i-in-loop-i : goal.overflow_add-i-in-loop-i
-overflow_add-i-in-loop-i c = record { fits = omega (arith, room-3 c, c.well_formed) }
+overflow_add-i-in-loop-i c = record { fits = omega (arith, room (goal.at.overflow_add-i-in-loop-i c).In-loop-i, c.well_formed) }
 
 pub loop-i-smaller : goal.loop-i-smaller
 loop-i-smaller c = omega (arith, c.loop-i-test.true)

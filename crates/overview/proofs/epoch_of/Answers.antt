@@ -13,43 +13,29 @@ use Rattle.overview.proofs.Epochs.{count_low, epoch-none, epoch-some}
 use Rattle.overview.proofs.Foremost.{recast}
 use Rattle.overview.proofs.Seconds.{seconds-low, started-few}
 use Rattle.overview.proofs.epoch_of.Goals as goal
+use Rattle.overview.proofs.epoch_of.Goals.{After-of_frames-x, Else-end-first}
 
 started : (c : goal.After-struct_known-4-1) → c.started_by-first.result ≡ started_by c.args.t (30 * c.args.epoch)
 started c = c.started_by-first.ensures
 
-ended : (c : goal.Else-end-first) → c.started_by-end.result ≡ started_by c.args.t (30 * c.args.epoch + 30)
+ended : (c : Else-end-first) → c.started_by-end.result ≡ started_by c.args.t (30 * c.args.epoch + 30)
 ended c = c.started_by-end.ensures
 
-ended-2 : (c : goal.After-struct_known-4-1) → c.started_by-end.result ≡ started_by c.args.t (30 * c.args.epoch + 30)
-ended-2 c = c.started_by-end.ensures
-
-samples : (c : goal.Else-end-first) → 1 ≤ c.args.t.first.count
+samples : (c : Else-end-first) → 1 ≤ c.args.t.first.count
 samples c = omega (arith, c.if-place-eq0.false)
 
-samples-2 : (c : goal.After-struct_known-4-1) → 1 ≤ c.args.t.first.count
-samples-2 c = omega (arith, c.if-place-eq0.false)
-
-last : (c : goal.Else-end-first) → c.started_by-end.result ≤ c.args.t.frames
+last : (c : Else-end-first) → c.started_by-end.result ≤ c.args.t.frames
 last c = omega (arith, ended c, started-few c.args.t (30 * c.args.epoch + 30))
-
-last-2 : (c : goal.After-struct_known-4-1) → c.started_by-end.result ≤ c.args.t.frames
-last-2 c = omega (arith, ended-2 c, started-few c.args.t (30 * c.args.epoch + 30))
 
 frames-fit : (z : goal.After-struct_known-4-1) → z.args.t.frames < 2 ^ 32
 frames-fit z = search rules
 
 -- the answer of the frames, in 64 bits
-smallest-fits : (c : goal.After-struct_told-1) → SFits w32 c.of_frames-x.result.smallest
+smallest-fits : (c : After-of_frames-x) → SFits w32 c.of_frames-x.result.smallest
 smallest-fits c = search rules
 
-smallest-fits-2 : (c : goal.After-struct_known-4-1) → SFits w32 c.of_frames-x.result.smallest
-smallest-fits-2 c = search rules
-
-largest-fits : (c : goal.After-struct_told-2-1) → SFits w32 c.of_frames-x.result.largest
+largest-fits : (c : After-of_frames-x) → SFits w32 c.of_frames-x.result.largest
 largest-fits c = search rules
-
-largest-fits-2 : (c : goal.After-struct_known-4-1) → SFits w32 c.of_frames-x.result.largest
-largest-fits-2 c = search rules
 
 pub overflow_mul-second : goal.overflow_mul-second
 overflow_mul-second c = record { fits = omega (arith, seconds-low c.args.t (search rules) (search rules), c.requires.there) }
@@ -80,18 +66,18 @@ pub of_frames-x-requires : goal.of_frames-x-requires
 of_frames-x-requires c = record { tracked = c.requires.tracked; samples = samples c; first = c.if-end-first.false; last = last c }
 
 pub overflow_cast-result : goal.overflow_cast-result
-overflow_cast-result c = let f = smallest-fits c in rw (to_z-of_z f) (sfits_widen tt f)
+overflow_cast-result c = let f = smallest-fits (goal.at.overflow_cast-result c).After-of_frames-x in rw (to_z-of_z f) (sfits_widen tt f)
 
 pub overflow_cast-result-2 : goal.overflow_cast-result-2
-overflow_cast-result-2 c = let f = largest-fits c in rw (to_z-of_z f) (sfits_widen tt f)
+overflow_cast-result-2 c = let f = largest-fits (goal.at.overflow_cast-result-2 c).After-of_frames-x in rw (to_z-of_z f) (sfits_widen tt f)
 
 pub overflow_mul-result : goal.overflow_mul-result
 overflow_mul-result c =
     let m : ℕ = c.started_by-end.result - c.started_by-first.result in
-    record { fits = omega (arith, count_low c.args.t.first.count m c.requires.tracked.few (omega (arith, last-2 c, frames-fit c))) }
+    record { fits = omega (arith, count_low c.args.t.first.count m c.requires.tracked.few (omega (arith, last (goal.at.overflow_mul-result c).Else-end-first, frames-fit c))) }
 
 pub returns : goal.returns
 returns c =
-    let f = smallest-fits-2 c in
-    let g = largest-fits-2 c in
-    epoch-some _ _ _ _ _ (started c) (ended-2 c) (samples-2 c) c.if-end-first.false c.requires.tracked.few (frames-fit c) c.of_frames-x.result c.of_frames-x.ensures _ (recast f) (recast g) refl
+    let f = smallest-fits (goal.at.returns c).After-of_frames-x in
+    let g = largest-fits (goal.at.returns c).After-of_frames-x in
+    epoch-some _ _ _ _ _ (started c) (ended (goal.at.returns c).Else-end-first) (samples (goal.at.returns c).Else-end-first) c.if-end-first.false c.requires.tracked.few (frames-fit c) c.of_frames-x.result c.of_frames-x.ensures _ (recast f) (recast g) refl

@@ -11,30 +11,16 @@ use Rattle.samples.specs.declared.TrackTold.TheVariants as TrackTold
 use Rattle.overview.proofs.Seconds.{seconds-low}
 use Rattle.overview.proofs.Told.{bytes, range-refused, range-unserved, range-outside}
 use Rattle.overview.proofs.epochs_asked.Goals as goal
+use Rattle.overview.proofs.epochs_asked.Goals.{After-is_inside, After-is_whole}
 
-file-bytes : (x : goal.Then-not-is_whole) → Bytes x.args.file.now
+file-bytes : (x : After-is_whole) → Bytes x.args.file.now
 file-bytes x = bytes x.args.file.now (λ i. (x.type_inv.file i).fits)
 
-file-bytes-2 : (x : goal.Then-not-is_inside) → Bytes x.args.file.now
-file-bytes-2 x = bytes x.args.file.now (λ i. (x.type_inv.file i).fits)
-
-file-bytes-3 : (x : goal.Else-not-is_inside) → Bytes x.args.file.now
-file-bytes-3 x = bytes x.args.file.now (λ i. (x.type_inv.file i).fits)
-
-known : (x : goal.Then-not-is_whole) → TrackAnswer x.args.file.now x.args.recording x.args.channel (TrackTold.At x.in-At.t)
+known : (x : After-is_whole) → TrackAnswer x.args.file.now x.args.recording x.args.channel (TrackTold.At x.in-At.t)
 known x = rw x.in-At.is at x.track-told.ensures
 
-known-2 : (x : goal.Then-not-is_inside) → TrackAnswer x.args.file.now x.args.recording x.args.channel (TrackTold.At x.in-At.t)
-known-2 x = rw x.in-At.is at x.track-told.ensures
-
-known-3 : (x : goal.Else-not-is_inside) → TrackAnswer x.args.file.now x.args.recording x.args.channel (TrackTold.At x.in-At.t)
-known-3 x = rw x.in-At.is at x.track-told.ensures
-
-whole : (c : goal.Then-not-is_inside) → R.between 1 3 c.in-At.t.format ≡ true
+whole : (c : After-is_inside) → R.between 1 3 c.in-At.t.format ≡ true
 whole c = sym c.is_whole.ensures ∙ c.if-not-is_whole.false
-
-whole-2 : (c : goal.Else-not-is_inside) → R.between 1 3 c.in-At.t.format ≡ true
-whole-2 c = sym c.is_whole.ensures ∙ c.if-not-is_whole.false
 
 pub returns-in_default : goal.returns-in_default
 returns-in_default c =
@@ -45,12 +31,12 @@ returns-in_default c =
 pub returns-then-not-is_whole : goal.returns-then-not-is_whole
 returns-then-not-is_whole c =
     let a = c.args in
-    sym (range-unserved _ (file-bytes c) _ _ _ (known c) a.first a.number (sym c.is_whole.ensures ∙ c.if-not-is_whole.true))
+    sym (range-unserved _ (file-bytes (goal.at.returns-then-not-is_whole c).After-is_whole) _ _ _ (known (goal.at.returns-then-not-is_whole c).After-is_whole) a.first a.number (sym c.is_whole.ensures ∙ c.if-not-is_whole.true))
 
 pub returns-then-not-is_inside : goal.returns-then-not-is_inside
 returns-then-not-is_inside c =
     let a = c.args in
-    sym (range-outside _ (file-bytes-2 c) _ _ _ (known-2 c) (whole c) a.first a.number (sym c.is_inside.ensures ∙ c.if-not-is_inside.true))
+    sym (range-outside _ (file-bytes (goal.at.returns-then-not-is_inside c).After-is_whole) _ _ _ (known (goal.at.returns-then-not-is_inside c).After-is_whole) (whole (goal.at.returns-then-not-is_inside c).After-is_inside) a.first a.number (sym c.is_inside.ensures ∙ c.if-not-is_inside.true))
 
 pub returns : goal.returns
 returns c =
@@ -58,9 +44,9 @@ returns c =
     let f : t.frames < 2 ^ 32 = search rules in
     let s : t.seconds < 2 ^ 32 = search rules in
     record {
-      bytes = file-bytes-3 c;
-      answer = known-3 c;
-      whole = whole-2 c;
+      bytes = file-bytes (goal.at.returns c).After-is_whole;
+      answer = known (goal.at.returns c).After-is_whole;
+      whole = whole (goal.at.returns c).After-is_inside;
       inside = sym c.is_inside.ensures ∙ c.if-not-is_inside.false;
       low = seconds-low t f s;
     }

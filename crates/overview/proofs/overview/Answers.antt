@@ -7,23 +7,14 @@ use Rattle.overview.specs.Steps.{epoch_numbers, EpochsIn}
 use Rattle.overview.proofs.Epochs.{told_none, told-some}
 use Rattle.overview.proofs.Told.{epoch-there, tracked, one-refused, overview-told}
 use Rattle.overview.proofs.overview.Goals as goal
+use Rattle.overview.proofs.overview.Goals.{After-epoch_of-x, In-At}
 
-known : (x : goal.In-At) → EpochsIn x.args.file.now x.args.recording x.args.channel x.args.epoch 1 x.in-At.t
+known : (x : In-At) → EpochsIn x.args.file.now x.args.recording x.args.channel x.args.epoch 1 x.in-At.t
 known x = rw x.in-At.is at x.epochs_asked-found.ensures
 
-known-2 : (x : goal.Then-x-eq0) → EpochsIn x.args.file.now x.args.recording x.args.channel x.args.epoch 1 x.in-At.t
-known-2 x = rw x.in-At.is at x.epochs_asked-found.ensures
-
-known-3 : (x : goal.Else-x-eq0) → EpochsIn x.args.file.now x.args.recording x.args.channel x.args.epoch 1 x.in-At.t
-known-3 x = rw x.in-At.is at x.epochs_asked-found.ensures
-
-told : (x : goal.Then-x-eq0) →
+told : (x : After-epoch_of-x) →
     value (envelope_of (epoch_numbers x.args.file.now x.in-At.t x.args.epoch)) ≡ overview_of x.args.file.now x.args.recording x.args.channel x.args.epoch
-told x = let y = known-2 x in overview-told _ y.bytes _ _ _ y.answer y.whole _ y.inside
-
-told-2 : (x : goal.Else-x-eq0) →
-    value (envelope_of (epoch_numbers x.args.file.now x.in-At.t x.args.epoch)) ≡ overview_of x.args.file.now x.args.recording x.args.channel x.args.epoch
-told-2 x = let y = known-3 x in overview-told _ y.bytes _ _ _ y.answer y.whole _ y.inside
+told x = let y = known (goal.at.After-epoch_of-x x).In-At in overview-told _ y.bytes _ _ _ y.answer y.whole _ y.inside
 
 pub returns-in_default : goal.returns-in_default
 returns-in_default c =
@@ -34,7 +25,7 @@ pub epoch_of-x-requires : goal.epoch_of-x-requires
 epoch_of-x-requires c = let y = known c in record { tracked = tracked _ y.bytes _ _ _ y.answer; there = epoch-there _ _ y.inside }
 
 pub returns-then-x-eq0 : goal.returns-then-x-eq0
-returns-then-x-eq0 c = told_none _ _ _ _ c.epoch_of-x.ensures c.if-x-eq0.true ∙ told c
+returns-then-x-eq0 c = told_none _ _ _ _ c.epoch_of-x.ensures c.if-x-eq0.true ∙ told (goal.at.returns-then-x-eq0 c).After-epoch_of-x
 
 pub returns : goal.returns
-returns c = told-some _ _ _ _ c.epoch_of-x.ensures c.if-x-eq0.false ∙ told-2 c
+returns c = told-some _ _ _ _ c.epoch_of-x.ensures c.if-x-eq0.false ∙ told (goal.at.returns c).After-epoch_of-x

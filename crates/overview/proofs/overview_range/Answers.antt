@@ -14,37 +14,18 @@ use Rattle.overview.proofs.Seconds.{within-few}
 use Rattle.overview.proofs.Told.{epochs-there, tracked, range-told}
 use Rattle.overview.proofs.Writing.{range-stopped, range-short, range-written}
 use Rattle.overview.proofs.overview_range.Goals as goal
+use Rattle.overview.proofs.overview_range.Goals.{In-At}
 
-known : (x : goal.In-At) →
+known : (x : In-At) →
     let a = x.args in
     EpochsIn a.file.now a.recording a.channel a.first a.number x.in-At.t
 known x = rw x.in-At.is at x.epochs_asked-found.ensures
 
-known-2 : (x : goal.Then-out-need) →
-    let a = x.args in
-    EpochsIn a.file.now a.recording a.channel a.first a.number x.in-At.t
-known-2 x = rw x.in-At.is at x.epochs_asked-found.ensures
-
-known-3 : (x : goal.After-put_all-arg-1) →
-    let a = x.args in
-    EpochsIn a.file.now a.recording a.channel a.first a.number x.in-At.t
-known-3 x = rw x.in-At.is at x.epochs_asked-found.ensures
-
-known-4 : (x : goal.After-out-1) →
-    let a = x.args in
-    EpochsIn a.file.now a.recording a.channel a.first a.number x.in-At.t
-known-4 x = rw x.in-At.is at x.epochs_asked-found.ensures
-
 -- what the reading has of them
-told : (x : goal.Then-out-need) →
+told : (x : In-At) →
     let a = x.args in
     (xs : List (Option Envelope)) × (range_of a.file.now a.recording a.channel a.first a.number ≡ value xs) × (flat numbers xs ≡ epochs_numbers a.file.now x.in-At.t a.first a.number)
-told x = let y = known-2 x in range-told _ y.bytes _ _ _ y.answer y.whole _ _ y.inside
-
-told-2 : (x : goal.After-out-1) →
-    let a = x.args in
-    (xs : List (Option Envelope)) × (range_of a.file.now a.recording a.channel a.first a.number ≡ value xs) × (flat numbers xs ≡ epochs_numbers a.file.now x.in-At.t a.first a.number)
-told-2 x = let y = known-4 x in range-told _ y.bytes _ _ _ y.answer y.whole _ _ y.inside
+told x = let y = known x in range-told _ y.bytes _ _ _ y.answer y.whole _ _ y.inside
 
 pub returns-in_default : goal.returns-in_default
 returns-in_default c =
@@ -58,14 +39,14 @@ overflow_mul-need c =
     record { fits = omega (arith, y.low, within-few (t.frames * t.seconds) c.args.first c.args.number y.inside) }
 
 pub returns-then-out-need : goal.returns-then-out-need
-returns-then-out-need c = range-short _ _ _ _ _ _ (told c).1 c.if-out-need.true
+returns-then-out-need c = range-short _ _ _ _ _ _ (told (goal.at.returns-then-out-need c).In-At).1 c.if-out-need.true
 
 pub put_all-requires : goal.put_all-requires
 put_all-requires c =
-    let y = known-3 c in
+    let y = known (goal.at.put_all-requires c).In-At in
     record { tracked = tracked _ y.bytes _ _ _ y.answer; there = epochs-there _ _ _ y.inside; room = c.if-out-need.false }
 
 pub returns : goal.returns
 returns c =
-    let y = told-2 c in
+    let y = told (goal.at.returns c).In-At in
     range-written _ _ _ _ _ _ y.1 c.in-At.t y.2 c.if-out-need.false _ c.put_all.ensures

@@ -12,34 +12,25 @@ use Rattle.recordings.specs.Found.{RecordingFoundAs}
 use Rattle.recordings.specs.declared.RecordingFound.TheVariants as RecordingFound
 use Rattle.questions.proofs.Replies.{channel-refused, channel-outside, channel-told}
 use Rattle.questions.proofs.channel.Goals as goal
+use Rattle.questions.proofs.channel.Goals.{After-struct_known-1, After-within, Else-not-within}
 
 -- the recording found
-known : (x : goal.Then-not-within) → RecordingFoundAs x.args.file.now x.args.recording (RecordingFound.At x.in-At.order x.in-At.q)
+known : (x : After-within) → RecordingFoundAs x.args.file.now x.args.recording (RecordingFound.At x.in-At.order x.in-At.q)
 known x = rw x.in-At.is at x.recording_asked-found.ensures
 
-known-2 : (x : goal.After-struct_known-1) → RecordingFoundAs x.args.file.now x.args.recording (RecordingFound.At x.in-At.order x.in-At.q)
-known-2 x = rw x.in-At.is at x.recording_asked-found.ensures
-
-known-3 : (x : goal.After-descriptor_at) → RecordingFoundAs x.args.file.now x.args.recording (RecordingFound.At x.in-At.order x.in-At.q)
-known-3 x = rw x.in-At.is at x.recording_asked-found.ensures
-
 -- the channel's number is inside its range
-ranged : (c : goal.After-struct_known-1) →
+ranged : (c : Else-not-within) →
     R.between 1 c.in-At.q.count c.args.channel ≡ true
 ranged c = sym c.within.ensures ∙ c.if-not-within.false
 
-ranged-2 : (c : goal.After-descriptor_at) →
-    R.between 1 c.in-At.q.count c.args.channel ≡ true
-ranged-2 c = sym c.within.ensures ∙ c.if-not-within.false
-
 -- the channels have room in the file, and the one asked for is among them
-roomy : (c : goal.After-struct_known-1) →
+roomy : (c : After-struct_known-1) →
     let x = c in
     let z = x in
     ChannelsIn (length z.args.file.now) (subs_at x.in-At.q.channels x.in-At.q.count) × (1 ≤ z.args.channel) × (z.args.channel ≤ x.in-At.q.count)
 roomy c =
-    let y = known-2 c in
-    let l = between_in _ _ _ (ranged c) in
+    let y = known (goal.at.After-struct_known-1 c).After-within in
+    let l = between_in _ _ _ (ranged (goal.at.After-struct_known-1 c).Else-not-within) in
     (y.1.owned.room, l.0, l.1)
 
 pub returns-in_default : goal.returns-in_default
@@ -49,7 +40,7 @@ returns-in_default c =
 
 pub returns-then-not-within : goal.returns-then-not-within
 returns-then-not-within c =
-    let y = known c in
+    let y = known (goal.at.returns-then-not-within c).After-within in
     channel-outside y.1 _ (sym c.within.ensures ∙ c.if-not-within.true)
 
 pub overflow_add-at : goal.overflow_add-at
@@ -69,5 +60,5 @@ descriptor_at-requires c = omega (arith, roomy c)
 
 pub returns : goal.returns
 returns c =
-    let y = known-3 c in
-    channel-told y.1 _ (ranged-2 c) _ c.descriptor_at.ensures
+    let y = known (goal.at.returns c).After-within in
+    channel-told y.1 _ (ranged (goal.at.returns c).Else-not-within) _ c.descriptor_at.ensures

@@ -11,22 +11,13 @@ use Rattle.runs.specs.declared.RunFound.TheVariants as RunFound
 use Rattle.runs.specs.declared.Sibling.TheVariants as Sibling
 use Rattle.runs.proofs.Told.{runs-refused, bytes-long, runs-told}
 use Rattle.runs.proofs.run.Goals as goal
+use Rattle.runs.proofs.run.Goals.{After-part}
 
 -- the run found
-known : (x : goal.After-part) →
+known : (x : After-part) →
     let a = x.args in
     RunFoundAs Sibling.Whole a.file.now a.recording a.frame a.channel a.first a.number (length a.out.now) (RunFound.At x.in-At.order x.in-At.format x.in-At.place)
 known x = rw x.in-At.is at x.run_asked-found.ensures
-
-known-2 : (x : goal.After-numbers-arg-1) →
-    let a = x.args in
-    RunFoundAs Sibling.Whole a.file.now a.recording a.frame a.channel a.first a.number (length a.out.now) (RunFound.At x.in-At.order x.in-At.format x.in-At.place)
-known-2 x = rw x.in-At.is at x.run_asked-found.ensures
-
-known-3 : (x : goal.After-out-1) →
-    let a = x.args in
-    RunFoundAs Sibling.Whole a.file.now a.recording a.frame a.channel a.first a.number (length a.out.now) (RunFound.At x.in-At.order x.in-At.format x.in-At.place)
-known-3 x = rw x.in-At.is at x.run_asked-found.ensures
 
 pub returns-in_default : goal.returns-in_default
 returns-in_default c =
@@ -38,14 +29,14 @@ pub slice_bounds-numbers-end : goal.slice_bounds-numbers-end
 slice_bounds-numbers-end c = omega (arith, (known c).room)
 
 pub slice_bounds-numbers-end-2 : goal.slice_bounds-numbers-end-2
-slice_bounds-numbers-end-2 c = sym (length-take-le _ _ (known-2 c).room)
+slice_bounds-numbers-end-2 c = sym (length-take-le _ _ (known (goal.at.slice_bounds-numbers-end-2 c).After-part).room)
 
 pub numbers-requires : goal.numbers-requires
 numbers-requires c =
-    let f = known-2 c in
+    let f = known (goal.at.numbers-requires c).After-part in
     bytes-long f c.args.out.now refl _ c.part.ensures.bytes _ refl
 
 pub returns : goal.returns
 returns c =
-    let f = known-3 c in
+    let f = known (goal.at.returns c).After-part in
     runs-told f c.args.out.now refl _ c.part.ensures.bytes _ refl (whole (pos 0)) _ c.numbers.ensures

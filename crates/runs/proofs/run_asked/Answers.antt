@@ -9,52 +9,20 @@ use Rattle.samples.specs.declared.SamplesFound.TheVariants as SamplesFound
 use Rattle.runs.specs.Runs.{serves}
 use Rattle.runs.proofs.Asked.{run-refused, run-unserved, run-outside, run_short, run-within, run-found}
 use Rattle.runs.proofs.run_asked.Goals as goal
+use Rattle.runs.proofs.run_asked.Goals.{After-fits, After-format_served, Else-not-fits}
 
 -- the samples found
-known : (x : goal.Then-not-format_served) →
+known : (x : After-format_served) →
     SamplesFoundAs x.args.file.now x.args.recording x.args.frame x.args.channel (SamplesFound.At x.in-At.order x.in-At.field-1 x.in-At.run')
 known x = rw x.in-At.is at x.samples_asked-found.ensures
 
-known-2 : (x : goal.Then-not-fits) →
-    SamplesFoundAs x.args.file.now x.args.recording x.args.frame x.args.channel (SamplesFound.At x.in-At.order x.in-At.field-1 x.in-At.run')
-known-2 x = rw x.in-At.is at x.samples_asked-found.ensures
-
-known-3 : (x : goal.Then-room-number) →
-    SamplesFoundAs x.args.file.now x.args.recording x.args.frame x.args.channel (SamplesFound.At x.in-At.order x.in-At.field-1 x.in-At.run')
-known-3 x = rw x.in-At.is at x.samples_asked-found.ensures
-
-known-4 : (x : goal.Else-room-number) →
-    SamplesFoundAs x.args.file.now x.args.recording x.args.frame x.args.channel (SamplesFound.At x.in-At.order x.in-At.field-1 x.in-At.run')
-known-4 x = rw x.in-At.is at x.samples_asked-found.ensures
-
-known-5 : (x : goal.After-place_from-from) →
-    SamplesFoundAs x.args.file.now x.args.recording x.args.frame x.args.channel (SamplesFound.At x.in-At.order x.in-At.field-1 x.in-At.run')
-known-5 x = rw x.in-At.is at x.samples_asked-found.ensures
-
 -- the two tests passed
-served : (c : goal.Then-not-fits) → serves c.args.b c.in-At.run'.format ≡ true
+served : (c : After-fits) → serves c.args.b c.in-At.run'.format ≡ true
 served c = sym c.format_served.ensures ∙ c.if-not-format_served.false
 
-served-2 : (c : goal.Then-room-number) → serves c.args.b c.in-At.run'.format ≡ true
-served-2 c = sym c.format_served.ensures ∙ c.if-not-format_served.false
-
-served-3 : (c : goal.Else-room-number) → serves c.args.b c.in-At.run'.format ≡ true
-served-3 c = sym c.format_served.ensures ∙ c.if-not-format_served.false
-
-served-4 : (c : goal.After-place_from-from) → serves c.args.b c.in-At.run'.format ≡ true
-served-4 c = sym c.format_served.ensures ∙ c.if-not-format_served.false
-
-inside : (c : goal.Then-room-number) →
+inside : (c : Else-not-fits) →
     leb (c.args.first + c.args.number) c.in-At.run'.place.count ≡ true
 inside c = sym c.fits.ensures ∙ c.if-not-fits.false
-
-inside-2 : (c : goal.Else-room-number) →
-    leb (c.args.first + c.args.number) c.in-At.run'.place.count ≡ true
-inside-2 c = sym c.fits.ensures ∙ c.if-not-fits.false
-
-inside-3 : (c : goal.After-place_from-from) →
-    leb (c.args.first + c.args.number) c.in-At.run'.place.count ≡ true
-inside-3 c = sym c.fits.ensures ∙ c.if-not-fits.false
 
 pub returns-in_default : goal.returns-in_default
 returns-in_default c =
@@ -65,24 +33,24 @@ returns-in_default c =
 pub returns-then-not-format_served : goal.returns-then-not-format_served
 returns-then-not-format_served c =
     let a = c.args in
-    run-unserved (known c).1 a.b a.first a.number a.room (sym c.format_served.ensures ∙ c.if-not-format_served.true)
+    run-unserved (known (goal.at.returns-then-not-format_served c).After-format_served).1 a.b a.first a.number a.room (sym c.format_served.ensures ∙ c.if-not-format_served.true)
 
 pub returns-then-not-fits : goal.returns-then-not-fits
 returns-then-not-fits c =
     let a = c.args in
-    run-outside (known-2 c).1 a.b a.first a.number a.room (served c) (sym c.fits.ensures ∙ c.if-not-fits.true)
+    run-outside (known (goal.at.returns-then-not-fits c).After-format_served).1 a.b a.first a.number a.room (served (goal.at.returns-then-not-fits c).After-fits) (sym c.fits.ensures ∙ c.if-not-fits.true)
 
 pub returns-then-room-number : goal.returns-then-room-number
 returns-then-room-number c =
     let a = c.args in
-    run_short (known-3 c).1 a.b a.first a.number a.room (served-2 c) (inside c) c.if-room-number.true
+    run_short (known (goal.at.returns-then-room-number c).After-format_served).1 a.b a.first a.number a.room (served (goal.at.returns-then-room-number c).After-fits) (inside (goal.at.returns-then-room-number c).Else-not-fits) c.if-room-number.true
 
 pub place_from-from-requires : goal.place_from-from-requires
 place_from-from-requires c =
     let a = c.args in
-    run-within (known-4 c).1 a.b a.first a.number a.room (served-3 c) (inside-2 c)
+    run-within (known (goal.at.place_from-from-requires c).After-format_served).1 a.b a.first a.number a.room (served (goal.at.place_from-from-requires c).After-fits) (inside (goal.at.place_from-from-requires c).Else-not-fits)
 
 pub returns : goal.returns
 returns c =
     let a = c.args in
-    run-found (known-5 c).1 a.b a.first a.number a.room (served-4 c) (inside-3 c) c.if-room-number.false _ c.place_from-from.ensures
+    run-found (known (goal.at.returns c).After-format_served).1 a.b a.first a.number a.room (served (goal.at.returns c).After-fits) (inside (goal.at.returns c).Else-not-fits) c.if-room-number.false _ c.place_from-from.ensures

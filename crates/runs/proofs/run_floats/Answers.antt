@@ -10,22 +10,13 @@ use Rattle.runs.specs.declared.RunFound.TheVariants as RunFound
 use Rattle.runs.specs.declared.Sibling.TheVariants as Sibling
 use Rattle.runs.proofs.Told.{runs-refused, bytes-long, runs-told, floats-wide}
 use Rattle.runs.proofs.run_floats.Goals as goal
+use Rattle.runs.proofs.run_floats.Goals.{After-part}
 
 -- the run found
-known : (x : goal.After-part) →
+known : (x : After-part) →
     let a = x.args in
     RunFoundAs Sibling.Floats a.file.now a.recording a.frame a.channel a.first a.number (length a.out.now) (RunFound.At x.in-At.order x.in-At.field-1 x.in-At.place)
 known x = rw x.in-At.is at x.run_asked-found.ensures
-
-known-2 : (x : goal.After-patterns-arg-1) →
-    let a = x.args in
-    RunFoundAs Sibling.Floats a.file.now a.recording a.frame a.channel a.first a.number (length a.out.now) (RunFound.At x.in-At.order x.in-At.field-1 x.in-At.place)
-known-2 x = rw x.in-At.is at x.run_asked-found.ensures
-
-known-3 : (x : goal.After-slice_known-2-1) →
-    let a = x.args in
-    RunFoundAs Sibling.Floats a.file.now a.recording a.frame a.channel a.first a.number (length a.out.now) (RunFound.At x.in-At.order x.in-At.field-1 x.in-At.place)
-known-3 x = rw x.in-At.is at x.run_asked-found.ensures
 
 pub returns-in_default : goal.returns-in_default
 returns-in_default c =
@@ -37,14 +28,14 @@ pub slice_bounds-patterns-end : goal.slice_bounds-patterns-end
 slice_bounds-patterns-end c = omega (arith, (known c).room)
 
 pub slice_bounds-patterns-end-2 : goal.slice_bounds-patterns-end-2
-slice_bounds-patterns-end-2 c = sym (length-take-le _ _ (known-2 c).room)
+slice_bounds-patterns-end-2 c = sym (length-take-le _ _ (known (goal.at.slice_bounds-patterns-end-2 c).After-part).room)
 
 pub patterns-requires : goal.patterns-requires
 patterns-requires c =
-    let f = known-2 c in
+    let f = known (goal.at.patterns-requires c).After-part in
     bytes-long f c.args.out.now refl _ c.part.ensures.bytes _ (floats-wide _ f.served)
 
 pub returns : goal.returns
 returns c =
-    let f = known-3 c in
+    let f = known (goal.at.returns c).After-part in
     runs-told f c.args.out.now refl _ c.part.ensures.bytes _ (floats-wide _ f.served) (float 0) _ c.patterns.ensures

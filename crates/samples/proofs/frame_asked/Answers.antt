@@ -12,44 +12,26 @@ use Rattle.recordings.specs.Found.{RecordingFoundAs}
 use Rattle.recordings.specs.declared.RecordingFound.TheVariants as RecordingFound
 use Rattle.samples.proofs.Framing.{frame_refused, frame-outside, frame-found-at}
 use Rattle.samples.proofs.frame_asked.Goals as goal
+use Rattle.samples.proofs.frame_asked.Goals.{After-less-before, After-within}
 
 -- the recording found
-known : (x : goal.Then-not-within) → RecordingFoundAs x.args.file.now x.args.recording (RecordingFound.At x.in-At.order x.in-At.q)
+known : (x : After-within) → RecordingFoundAs x.args.file.now x.args.recording (RecordingFound.At x.in-At.order x.in-At.q)
 known x = rw x.in-At.is at x.recording_asked-found.ensures
 
-known-2 : (x : goal.After-struct_known-1) → RecordingFoundAs x.args.file.now x.args.recording (RecordingFound.At x.in-At.order x.in-At.q)
-known-2 x = rw x.in-At.is at x.recording_asked-found.ensures
-
-known-3 : (x : goal.After-struct_known-2-1) → RecordingFoundAs x.args.file.now x.args.recording (RecordingFound.At x.in-At.order x.in-At.q)
-known-3 x = rw x.in-At.is at x.recording_asked-found.ensures
-
 -- its number is inside its range
-ranged : (c : goal.After-struct_known-1) →
+ranged : (c : After-less-before) →
     R.between 1 c.in-At.q.total c.args.frame ≡ true
 ranged c = sym c.within.ensures ∙ c.if-not-within.false
 
-ranged-2 : (c : goal.After-struct_known-2-1) →
-    R.between 1 c.in-At.q.total c.args.frame ≡ true
-ranged-2 c = sym c.within.ensures ∙ c.if-not-within.false
-
 -- the frame, where the code looks for it
-framed : (c : goal.After-struct_known-1) →
+framed : (c : After-less-before) →
     let x = c in
     let z = x in
     FrameFoundAs z.args.file.now z.args.recording z.args.frame
     (FrameFound.At x.in-At.order x.in-At.q (x.in-At.q.frames + 32 + x.in-At.q.frame * (z.args.frame - 1)))
 framed c =
-    let y = known-2 c in
+    let y = known (goal.at.After-less-before c).After-within in
     frame-found-at y.1 _ (ranged c)
-
-framed-2 : (c : goal.After-struct_known-2-1) →
-    let x = c in
-    let z = x in
-    FrameFoundAs z.args.file.now z.args.recording z.args.frame
-    (FrameFound.At x.in-At.order x.in-At.q (x.in-At.q.frames + 32 + x.in-At.q.frame * (z.args.frame - 1)))
-framed-2 c =
-    let y = known-3 c in
-    frame-found-at y.1 _ (ranged-2 c)
 
 -- the frames that the code passes are no more than those before it
 passed : (c : goal.After-struct_known-2-1) →
@@ -64,17 +46,17 @@ returns-in_default c =
 
 pub returns-then-not-within : goal.returns-then-not-within
 returns-then-not-within c =
-    let y = known c in
+    let y = known (goal.at.returns-then-not-within c).After-within in
     frame-outside y.1 _ (sym c.within.ensures ∙ c.if-not-within.true)
 
 pub overflow_add-at : goal.overflow_add-at
-overflow_add-at c = record { fits = omega (arith, (framed c).1.inside, c.well_formed) }
+overflow_add-at c = record { fits = omega (arith, (framed (goal.at.overflow_add-at c).After-less-before).1.inside, c.well_formed) }
 
 pub overflow_mul-at : goal.overflow_mul-at
-overflow_mul-at c = record { fits = omega (arith, passed c, (framed-2 c).1.inside, c.well_formed) }
+overflow_mul-at c = record { fits = omega (arith, passed c, (framed (goal.at.overflow_mul-at c).After-less-before).1.inside, c.well_formed) }
 
 pub overflow_add-at-2 : goal.overflow_add-at-2
-overflow_add-at-2 c = record { fits = omega (arith, passed c, (framed-2 c).1.inside, c.well_formed) }
+overflow_add-at-2 c = record { fits = omega (arith, passed c, (framed (goal.at.overflow_add-at-2 c).After-less-before).1.inside, c.well_formed) }
 
 pub returns : goal.returns
-returns c = rw c.less-before.ensures (framed-2 c)
+returns c = rw c.less-before.ensures (framed (goal.at.returns c).After-less-before)

@@ -5,22 +5,17 @@ use Prim.Native.Nat.{ℕ, ◌-◌, ◌*◌, ◌≤◌}
 use native.Mathlib.Omega.{arith}
 use Rattle.samples.proofs.Placing.{tested-out, tested-in, part-inside, part-outside}
 use Rattle.samples.proofs.part_in.Goals as goal
+use Rattle.samples.proofs.part_in.Goals.{After-samples_fit, After-struct_known-3-1}
 
 -- the bytes of the place, and the room behind its position
-abbrev taken : goal.Then-not-samples_fit → ℕ
+abbrev taken : After-samples_fit → ℕ
 taken z = z.args.place.width * z.args.place.count
 
-abbrev taken-2 : goal.After-struct_known-3-1 → ℕ
-taken-2 z = z.args.place.width * z.args.place.count
-
-abbrev room : goal.Then-not-samples_fit → ℕ
+abbrev room : After-samples_fit → ℕ
 room z = z.args.bytes - z.args.place.position
 
-abbrev room-2 : goal.After-struct_known-3-1 → ℕ
-room-2 z = z.args.bytes - z.args.place.position
-
-inside : (c : goal.After-struct_known-3-1) → taken-2 c ≤ room-2 c
-inside c = tested-in (taken-2 c) (room-2 c) c.samples_fit.ensures c.if-not-samples_fit.false
+inside : (c : After-struct_known-3-1) → taken (goal.at.After-struct_known-3-1 c).After-samples_fit ≤ room (goal.at.After-struct_known-3-1 c).After-samples_fit
+inside c = tested-in (taken (goal.at.After-struct_known-3-1 c).After-samples_fit) (room (goal.at.After-struct_known-3-1 c).After-samples_fit) c.samples_fit.ensures c.if-not-samples_fit.false
 
 pub returns-then-bytes-place : goal.returns-then-bytes-place
 returns-then-bytes-place c =
@@ -29,7 +24,7 @@ returns-then-bytes-place c =
 
 pub returns-then-not-samples_fit : goal.returns-then-not-samples_fit
 returns-then-not-samples_fit c =
-    sym (part-outside c.args.bytes c.args.place (omega (arith, tested-out (taken c) (room c) c.samples_fit.ensures c.if-not-samples_fit.true, c.if-bytes-place.false)))
+    sym (part-outside c.args.bytes c.args.place (omega (arith, tested-out (taken (goal.at.returns-then-not-samples_fit c).After-samples_fit) (room (goal.at.returns-then-not-samples_fit c).After-samples_fit) c.samples_fit.ensures c.if-not-samples_fit.true, c.if-bytes-place.false)))
 
 pub overflow_mul-result : goal.overflow_mul-result
 overflow_mul-result c = record { fits = omega (arith, inside c) }

@@ -7,22 +7,17 @@ use Rattle.records.proofs.Facts.{bytes-short}
 use Rattle.samples.proofs.Placing.{tested-out, tested-in}
 use Rattle.samples.proofs.Stretch.{run-found, run-outside}
 use Rattle.samples.proofs.run_at.Goals as goal
+use Rattle.samples.proofs.run_at.Goals.{After-fits, Else-not-fits}
 
 -- the bytes before and its own, and the room that there is
-abbrev taken : goal.Then-not-fits → ℕ
+abbrev taken : After-fits → ℕ
 taken w = w.sample_bytes-before.result + w.width-width.result * w.samples_in-count.result
 
-abbrev taken-2 : goal.Else-not-fits → ℕ
-taken-2 w = w.sample_bytes-before.result + w.width-width.result * w.samples_in-count.result
-
-abbrev room : goal.Then-not-fits → ℕ
+abbrev room : After-fits → ℕ
 room w = let a = w.args in length a.s.now - (a.at + 24)
 
-abbrev room-2 : goal.Else-not-fits → ℕ
-room-2 w = let a = w.args in length a.s.now - (a.at + 24)
-
-inside : (c : goal.Else-not-fits) → taken-2 c ≤ room-2 c
-inside c = tested-in (taken-2 c) (room-2 c) c.fits.ensures c.if-not-fits.false
+inside : (c : Else-not-fits) → taken (goal.at.Else-not-fits c).After-fits ≤ room (goal.at.Else-not-fits c).After-fits
+inside c = tested-in (taken (goal.at.Else-not-fits c).After-fits) (room (goal.at.Else-not-fits c).After-fits) c.fits.ensures c.if-not-fits.false
 
 pub overflow_mul-bytes : goal.overflow_mul-bytes
 overflow_mul-bytes c =
@@ -32,7 +27,7 @@ overflow_mul-bytes c =
 pub returns-then-not-fits : goal.returns-then-not-fits
 returns-then-not-fits c =
     run-outside _ _ _ _ _ _ _ _ _ _ _ _ c.sample_bytes-before.ensures c.number4-flags.ensures.0 c.number4-format.ensures.0 c.number4-rate.ensures.0 c.samples_in-count.ensures.0 c.width-width.ensures.0
-    (omega arith) (omega (arith, tested-out (taken c) (room c) c.fits.ensures c.if-not-fits.true))
+    (omega arith) (omega (arith, tested-out (taken (goal.at.returns-then-not-fits c).After-fits) (room (goal.at.returns-then-not-fits c).After-fits) c.fits.ensures c.if-not-fits.true))
 
 pub overflow_add-place : goal.overflow_add-place
 overflow_add-place c = record { fits = omega (arith, inside c) }

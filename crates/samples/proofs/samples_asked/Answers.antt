@@ -12,37 +12,26 @@ use Rattle.samples.specs.Asked.{FrameFoundAs}
 use Rattle.samples.specs.declared.FrameFound.TheVariants as FrameFound
 use Rattle.samples.proofs.Sampling.{samples-refused, samples-outside, samples-found-at}
 use Rattle.samples.proofs.samples_asked.Goals as goal
+use Rattle.samples.proofs.samples_asked.Goals.{After-struct_known-1, After-within, Else-not-within}
 
 -- the frame found
-known : (x : goal.Then-not-within) →
+known : (x : After-within) →
     FrameFoundAs x.args.file.now x.args.recording x.args.frame (FrameFound.At x.in-At.order x.in-At.q x.in-At.at)
 known x = rw x.in-At.is at x.frame_asked-framed.ensures
 
-known-2 : (x : goal.After-struct_known-1) →
-    FrameFoundAs x.args.file.now x.args.recording x.args.frame (FrameFound.At x.in-At.order x.in-At.q x.in-At.at)
-known-2 x = rw x.in-At.is at x.frame_asked-framed.ensures
-
-known-3 : (x : goal.After-run_at) →
-    FrameFoundAs x.args.file.now x.args.recording x.args.frame (FrameFound.At x.in-At.order x.in-At.q x.in-At.at)
-known-3 x = rw x.in-At.is at x.frame_asked-framed.ensures
-
 -- the channel's number is inside its range
-ranged : (c : goal.After-struct_known-1) →
+ranged : (c : Else-not-within) →
     R.between 1 c.in-At.q.count c.args.channel ≡ true
 ranged c = sym c.within.ensures ∙ c.if-not-within.false
 
-ranged-2 : (c : goal.After-run_at) →
-    R.between 1 c.in-At.q.count c.args.channel ≡ true
-ranged-2 c = sym c.within.ensures ∙ c.if-not-within.false
-
 -- the channels have room in the file, and the one asked for is among them
-roomy : (c : goal.After-struct_known-1) →
+roomy : (c : After-struct_known-1) →
     let x = c in
     let z = x in
     ChannelsIn (length z.args.file.now) (subs_at x.in-At.q.channels x.in-At.q.count) × (1 ≤ z.args.channel) × (z.args.channel ≤ x.in-At.q.count)
 roomy c =
-    let y = known-2 c in
-    let l = between_in _ _ _ (ranged c) in
+    let y = known (goal.at.After-struct_known-1 c).After-within in
+    let l = between_in _ _ _ (ranged (goal.at.After-struct_known-1 c).Else-not-within) in
     (y.1.found.owned.room, l.0, l.1)
 
 pub returns-in_default : goal.returns-in_default
@@ -52,7 +41,7 @@ returns-in_default c =
 
 pub returns-then-not-within : goal.returns-then-not-within
 returns-then-not-within c =
-    let y = known c in
+    let y = known (goal.at.returns-then-not-within c).After-within in
     samples-outside y.1 _ (sym c.within.ensures ∙ c.if-not-within.true)
 
 pub overflow_add-subs : goal.overflow_add-subs
@@ -66,10 +55,10 @@ overflow_cast-c c = record { fits = omega (arith, roomy c) }
 
 pub run_at-requires : goal.run_at-requires
 run_at-requires c =
-    let y = known-2 c in
+    let y = known (goal.at.run_at-requires c).After-within in
     record { described = omega (arith, roomy c); channels = omega (arith, roomy c); seconds = y.1.found.seconds; frame = omega (arith, y.1.inside) }
 
 pub returns : goal.returns
 returns c =
-    let y = known-3 c in
-    samples-found-at y.1 _ (ranged-2 c) _ c.run_at.ensures
+    let y = known (goal.at.returns c).After-within in
+    samples-found-at y.1 _ (ranged (goal.at.returns c).Else-not-within) _ c.run_at.ensures

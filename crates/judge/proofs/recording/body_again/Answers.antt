@@ -6,22 +6,13 @@ use Rattle.descriptions.specs.DescriptionsJudged.{DescriptionsOf}
 use Rattle.descriptions.specs.declared.DescriptionsJudged.TheVariants as DescriptionsJudged
 use Rattle.judge.proofs.Recorded.{again-stops, again-short, again-holds}
 use Rattle.judge.proofs.recording.body_again.Goals as goal
+use Rattle.judge.proofs.recording.body_again.Goals.{In-On}
 
 -- the descriptions that passed
-described : (x : goal.After-next-1) →
+described : (x : In-On) →
     let a = x.args in
     DescriptionsOf a.o a.label (a.at + 16) a.s.now a.before (DescriptionsJudged.On x.in-On.t)
 described x = rw x.in-On.is at x.judge_descriptions-described.ensures
-
-described-2 : (x : goal.Then-s-p) →
-    let a = x.args in
-    DescriptionsOf a.o a.label (a.at + 16) a.s.now a.before (DescriptionsJudged.On x.in-On.t)
-described-2 x = rw x.in-On.is at x.judge_descriptions-described.ensures
-
-described-3 : (x : goal.After-places_for) →
-    let a = x.args in
-    DescriptionsOf a.o a.label (a.at + 16) a.s.now a.before (DescriptionsJudged.On x.in-On.t)
-described-3 x = rw x.in-On.is at x.judge_descriptions-described.ensures
 
 pub returns-in_default : goal.returns-in_default
 returns-in_default c =
@@ -29,17 +20,17 @@ returns-in_default c =
     simp (c.of_descriptions.ensures, c.in_default.is) (again-stops a.o a.label a.s.now a.at a.before (rw c.in_default.is at c.judge_descriptions-described.ensures))
 
 pub overflow_add-place : goal.overflow_add-place
-overflow_add-place c = omega (arith, (described c).bounds.fits, c.requires)
+overflow_add-place c = omega (arith, (described (goal.at.overflow_add-place c).In-On).bounds.fits, c.requires)
 
 pub overflow_add-p : goal.overflow_add-p
-overflow_add-p c = omega (arith, (described c).bounds.fits, c.requires)
+overflow_add-p c = omega (arith, (described (goal.at.overflow_add-p c).In-On).bounds.fits, c.requires)
 
 pub returns-then-s-p : goal.returns-then-s-p
 returns-then-s-p c =
     let a = c.args in
-    again-short a.o a.label a.s.now a.at a.before (described-2 c) c.if-s-p.true
+    again-short a.o a.label a.s.now a.at a.before (described (goal.at.returns-then-s-p c).In-On) c.if-s-p.true
 
 pub returns : goal.returns
 returns c =
     let a = c.args in
-    rw c.places_for.ensures (again-holds a.o a.label a.s.now a.at a.before (described-3 c) c.number4-seconds.ensures.0 c.number4-frame.ensures.0)
+    rw c.places_for.ensures (again-holds a.o a.label a.s.now a.at a.before (described (goal.at.returns c).In-On) c.number4-seconds.ensures.0 c.number4-frame.ensures.0)

@@ -9,37 +9,20 @@ use Rattle.records.specs.declared.kinds.Opened.TheVariants as Opened
 use Rattle.judge.specs.Recorded.{BodyIn}
 use Rattle.judge.proofs.Recorded.{body-asked, again-refused, again-body}
 use Rattle.judge.proofs.recording.recording_again.Goals as goal
+use Rattle.judge.proofs.recording.recording_again.Goals.{In-On}
 
 -- the head that passed, and what its body is
-begun : (x : goal.In-On) →
+begun : (x : In-On) →
     let a = x.args in
     OpenAt a.o 0 a.file.now a.p Kind.Any (Opened.On x.in-On.field-0 x.in-On.end)
 begun x = rw x.in-On.is at x.open-opened.ensures
 
-begun-2 : (x : goal.After-body_again-arg-1) →
-    let a = x.args in
-    OpenAt a.o 0 a.file.now a.p Kind.Any (Opened.On x.in-On.field-0 x.in-On.end)
-begun-2 x = rw x.in-On.is at x.open-opened.ensures
-
-begun-3 : (x : goal.After-body_again) →
-    let a = x.args in
-    OpenAt a.o 0 a.file.now a.p Kind.Any (Opened.On x.in-On.field-0 x.in-On.end)
-begun-3 x = rw x.in-On.is at x.open-opened.ensures
-
-asked : (x : goal.After-body_again-arg-1) →
+asked : (x : In-On) →
     let a = x.args in
     let q = x.in-On.end in
     BodyIn a.file.now (take (q - (a.p + 16)) (drop (a.p + 16) a.file.now)) a.p a.before
 asked x =
-    let st = (begun-2 x).stands in
-    body-asked x.args.file.now x.args.p x.in-On.end (omega arith) st.inside x.requires
-
-asked-2 : (x : goal.After-body_again) →
-    let a = x.args in
-    let q = x.in-On.end in
-    BodyIn a.file.now (take (q - (a.p + 16)) (drop (a.p + 16) a.file.now)) a.p a.before
-asked-2 x =
-    let st = (begun-3 x).stands in
+    let st = (begun x).stands in
     body-asked x.args.file.now x.args.p x.in-On.end (omega arith) st.inside x.requires
 
 pub returns-in_default : goal.returns-in_default
@@ -56,8 +39,8 @@ pub slice_bounds-body_again-end : goal.slice_bounds-body_again-end
 slice_bounds-body_again-end c = (begun c).stands.inside
 
 pub body_again-requires : goal.body_again-requires
-body_again-requires c = let b = asked c in omega (arith, b.inside, b.short)
+body_again-requires c = let b = asked (goal.at.body_again-requires c).In-On in omega (arith, b.inside, b.short)
 
 pub returns : goal.returns
 returns c =
-    again-body (begun-3 c) (asked-2 c) c.body_again.ensures
+    again-body (begun (goal.at.returns c).In-On) (asked (goal.at.returns c).In-On) c.body_again.ensures

@@ -6,22 +6,13 @@ use Rattle.records.specs.Says.{OpenAt}
 use Rattle.records.specs.declared.kinds.Opened.TheVariants as Opened
 use Rattle.judge.proofs.Recorded.{body-asked, at_stops, at_body}
 use Rattle.judge.proofs.recording.recording_at.Goals as goal
+use Rattle.judge.proofs.recording.recording_at.Goals.{In-On}
 
 -- the head that passed
-begun : (x : goal.In-On) →
+begun : (x : In-On) →
     let a = x.args in
     OpenAt a.o 0 a.file.now a.p (Kind.Recording a.label a.i) (Opened.On x.in-On.h x.in-On.end)
 begun x = rw x.in-On.is at x.open-opened.ensures
-
-begun-2 : (x : goal.After-recording_body-arg-1) →
-    let a = x.args in
-    OpenAt a.o 0 a.file.now a.p (Kind.Recording a.label a.i) (Opened.On x.in-On.h x.in-On.end)
-begun-2 x = rw x.in-On.is at x.open-opened.ensures
-
-begun-3 : (x : goal.After-recording_body) →
-    let a = x.args in
-    OpenAt a.o 0 a.file.now a.p (Kind.Recording a.label a.i) (Opened.On x.in-On.h x.in-On.end)
-begun-3 x = rw x.in-On.is at x.open-opened.ensures
 
 pub returns-in_default : goal.returns-in_default
 returns-in_default c =
@@ -38,8 +29,8 @@ slice_bounds-recording_body-end c = (begun c).stands.inside
 
 pub recording_body-requires : goal.recording_body-requires
 recording_body-requires c =
-    let st = (begun-2 c).stands in
+    let st = (begun (goal.at.recording_body-requires c).In-On).stands in
     body-asked c.args.file.now c.args.p c.in-On.end (omega arith) st.inside c.requires
 
 pub returns : goal.returns
-returns c = at_body (begun-3 c) c.recording_body.ensures
+returns c = at_body (begun (goal.at.returns c).In-On) c.recording_body.ensures

@@ -3,13 +3,11 @@
 use mathlib.Core.Path.{◌≡◌}
 use native.Mathlib.Omega.{arith}
 use Rattle.overview.proofs.extremes.of_width.Goals as goal
+use Rattle.overview.proofs.extremes.of_width.Goals.{Else-width-eq3}
 
 -- the width that is left
-four : (c : goal.Else-width-eq3) → c.args.width ≡ 4
+four : (c : Else-width-eq3) → c.args.width ≡ 4
 four c = let p = c.requires in omega (arith, c.if-width-eq3.false, c.if-width-eq2.false, p.wide.least, p.wide.most)
-
-four-2 : (c : goal.After-of_longs-2) → c.args.width ≡ 4
-four-2 c = let p = c.requires in omega (arith, c.if-width-eq3.false, c.if-width-eq2.false, p.wide.least, p.wide.most)
 
 pub of_shorts-requires : goal.of_shorts-requires
 of_shorts-requires c = rw c.if-width-eq2.true at c.requires
@@ -27,4 +25,4 @@ pub of_longs-requires-2 : goal.of_longs-requires-2
 of_longs-requires-2 c = rw (four c) at c.requires
 
 pub returns : goal.returns
-returns c = rw (four-2 c) c.of_longs-2.ensures
+returns c = rw (four (goal.at.returns c).Else-width-eq3) c.of_longs-2.ensures

@@ -5,16 +5,11 @@ use Rattle.recordings.specs.Found.{RecordingFoundAs}
 use Rattle.recordings.specs.declared.RecordingFound.TheVariants as RecordingFound
 use Rattle.questions.proofs.Owners.{asked-refused, asked-nothing, asked-inside, asked-item}
 use Rattle.questions.proofs.items.item_asked.Goals as goal
+use Rattle.questions.proofs.items.item_asked.Goals.{After-holding-held}
 
 -- the recording found
-known : (x : goal.In-At-held) → RecordingFoundAs x.args.file.now x.args.recording (RecordingFound.At x.in-At.order x.in-At.q)
+known : (x : After-holding-held) → RecordingFoundAs x.args.file.now x.args.recording (RecordingFound.At x.in-At.order x.in-At.q)
 known x = rw x.in-At.is at x.recording_asked-found.ensures
-
-known-2 : (x : goal.In-Nothing) → RecordingFoundAs x.args.file.now x.args.recording (RecordingFound.At x.in-At.order x.in-At.q)
-known-2 x = rw x.in-At.is at x.recording_asked-found.ensures
-
-known-3 : (x : goal.After-item_in) → RecordingFoundAs x.args.file.now x.args.recording (RecordingFound.At x.in-At.order x.in-At.q)
-known-3 x = rw x.in-At.is at x.recording_asked-found.ensures
 
 pub returns-in_default : goal.returns-in_default
 returns-in_default c =
@@ -25,17 +20,17 @@ returns-in_default c =
 pub item_in-requires : goal.item_in-requires
 item_in-requires c =
     let a = c.args in
-    let f = known c in
+    let f = known (goal.at.item_in-requires c).After-holding-held in
     asked-inside f.1 a.k _ (sym c.holding-held.ensures ∙ c.in-At-held.is)
 
 pub returns-in-Nothing : goal.returns-in-Nothing
 returns-in-Nothing c =
     let a = c.args in
-    let f = known-2 c in
+    let f = known (goal.at.returns-in-Nothing c).After-holding-held in
     asked-nothing f.1 a.k a.item (sym c.holding-held.ensures ∙ c.in-Nothing.is)
 
 pub returns-in-At-held : goal.returns-in-At-held
 returns-in-At-held c =
     let a = c.args in
-    let f = known-3 c in
+    let f = known (goal.at.returns-in-At-held c).After-holding-held in
     asked-item f.1 a.k _ a.item _ (sym c.holding-held.ensures ∙ c.in-At-held.is) c.item_in.ensures

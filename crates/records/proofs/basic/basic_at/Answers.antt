@@ -11,16 +11,11 @@ use Rattle.rules.specs.declared.Kind.TheVariants as Kind
 use Rattle.records.specs.Says.{basic_of, Reaches}
 use Rattle.records.proofs.Bodies.{fixed-opened, body-asked, body-seen}
 use Rattle.records.proofs.basic.basic_at.Goals as goal
+use Rattle.records.proofs.basic.basic_at.Goals.{In-On}
 
 -- the record that was opened: where it stands, and where it stops
-reached : (x : goal.In-On) → Reaches x.args.p Kind.Basic (length x.args.s.now) x.in-On.field-0 x.in-On.end
+reached : (x : In-On) → Reaches x.args.p Kind.Basic (length x.args.s.now) x.in-On.field-0 x.in-On.end
 reached x = rw x.in-On.is at x.open-opened.ensures.stands
-
-reached-2 : (x : goal.After-body-1) → Reaches x.args.p Kind.Basic (length x.args.s.now) x.in-On.field-0 x.in-On.end
-reached-2 x = rw x.in-On.is at x.open-opened.ensures.stands
-
-reached-3 : (x : goal.After-basic_body) → Reaches x.args.p Kind.Basic (length x.args.s.now) x.in-On.field-0 x.in-On.end
-reached-3 x = rw x.in-On.is at x.open-opened.ensures.stands
 
 pub returns-in_default : goal.returns-in_default
 returns-in_default c = simp (fixed-opened, walks, c.of_open.ensures, c.in_default.is, c.open-opened.ensures.seen)
@@ -36,12 +31,12 @@ slice_bounds-body-end c = let v = reached c in omega (arith, v.inside)
 
 pub basic_body-requires : goal.basic_body-requires
 basic_body-requires c =
-    let v = reached-2 c in
+    let v = reached (goal.at.basic_body-requires c).In-On in
     body-asked c.args.base c.args.p c.in-On.end 112 c.args.s.now (omega (arith, v.end, v.spans)) v.inside c.requires.short
 
 pub returns : goal.returns
 returns c =
-    let v = reached-3 c in
+    let v = reached (goal.at.returns c).In-On in
     let o = c.args.o in
     let s = c.args.s.now in
     let b = c.args.base in

@@ -13,6 +13,7 @@ use Rattle.dates.specs.declared.DateJudged.{DateJudged}
 use Rattle.records.specs.Says.{resumed, date_tested}
 use Rattle.records.specs.declared.Tested.{Tested}
 use Rattle.records.proofs.basic.date_ok.Goals as goal
+use Rattle.records.proofs.basic.date_ok.Goals.{After-judge_date-judged}
 
 -- the refusal of each fault, in the 100 at this place
 abbrev refused : ℕ → DateJudged → Tested
@@ -34,34 +35,19 @@ told : (o : Order) (s : List ℕ) (at : ℕ) {y m d : ℕ} {v x : DateJudged} �
     (K : Verdict R.Basic) → date_tested o s at K ≡ resumed (refused at x) K
 told o s at e₁ e₂ e₃ is e K = rw (← e₁, ← e₂, ← e₃) (gated at _ _ _ K ∙ ap (λ (z : DateJudged). resumed (refused at z) K) (sym is ∙ e))
 
-found : (x : goal.In-Fine) {v : DateJudged} → x.judge_date-judged.result ≡ v →
+found : (x : After-judge_date-judged) {v : DateJudged} → x.judge_date-judged.result ≡ v →
     let a = x.args in
     (K : Verdict R.Basic) → date_tested a.o a.s.now a.at K ≡ resumed (refused a.at v) K
 found x e = told _ _ _ x.field-year.ensures.0 x.field-month.ensures.0 x.field-day.ensures.0 x.judge_date-judged.ensures e
 
-found-2 : (x : goal.In-WrongYear) {v : DateJudged} → x.judge_date-judged.result ≡ v →
-    let a = x.args in
-    (K : Verdict R.Basic) → date_tested a.o a.s.now a.at K ≡ resumed (refused a.at v) K
-found-2 x e = told _ _ _ x.field-year.ensures.0 x.field-month.ensures.0 x.field-day.ensures.0 x.judge_date-judged.ensures e
-
-found-3 : (x : goal.In-WrongMonth) {v : DateJudged} → x.judge_date-judged.result ≡ v →
-    let a = x.args in
-    (K : Verdict R.Basic) → date_tested a.o a.s.now a.at K ≡ resumed (refused a.at v) K
-found-3 x e = told _ _ _ x.field-year.ensures.0 x.field-month.ensures.0 x.field-day.ensures.0 x.judge_date-judged.ensures e
-
-found-4 : (x : goal.In-WrongDay) {v : DateJudged} → x.judge_date-judged.result ≡ v →
-    let a = x.args in
-    (K : Verdict R.Basic) → date_tested a.o a.s.now a.at K ≡ resumed (refused a.at v) K
-found-4 x e = told _ _ _ x.field-year.ensures.0 x.field-month.ensures.0 x.field-day.ensures.0 x.judge_date-judged.ensures e
-
 pub returns-in-Fine : goal.returns-in-Fine
-returns-in-Fine c = found c c.in-Fine.is
+returns-in-Fine c = found (goal.at.returns-in-Fine c).After-judge_date-judged c.in-Fine.is
 
 pub returns-in-WrongYear : goal.returns-in-WrongYear
-returns-in-WrongYear c = found-2 c c.in-WrongYear.is
+returns-in-WrongYear c = found (goal.at.returns-in-WrongYear c).After-judge_date-judged c.in-WrongYear.is
 
 pub returns-in-WrongMonth : goal.returns-in-WrongMonth
-returns-in-WrongMonth c = found-3 c c.in-WrongMonth.is
+returns-in-WrongMonth c = found (goal.at.returns-in-WrongMonth c).After-judge_date-judged c.in-WrongMonth.is
 
 pub returns-in-WrongDay : goal.returns-in-WrongDay
-returns-in-WrongDay c = found-4 c c.in-WrongDay.is
+returns-in-WrongDay c = found (goal.at.returns-in-WrongDay c).After-judge_date-judged c.in-WrongDay.is

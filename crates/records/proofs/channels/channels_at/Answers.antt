@@ -12,16 +12,11 @@ use Rattle.records.specs.Says.{group_of, Admits}
 use Rattle.records.proofs.Steps.{channels-split}
 use Rattle.records.proofs.Bodies.{body-asked, body-held, ended-beyond}
 use Rattle.records.proofs.channels.channels_at.Goals as goal
+use Rattle.records.proofs.channels.channels_at.Goals.{In-On}
 
 -- the record that was admitted: where it stops
-reached : (x : goal.In-On) → Admits x.args.h (Kind.Channels x.group_code.result) (length x.args.s.now) (Step.On x.in-On.end)
+reached : (x : In-On) → Admits x.args.h (Kind.Channels x.group_code.result) (length x.args.s.now) (Step.On x.in-On.end)
 reached x = rw x.in-On.is at x.admit-room.ensures.stands
-
-reached-2 : (x : goal.After-body-1) → Admits x.args.h (Kind.Channels x.group_code.result) (length x.args.s.now) (Step.On x.in-On.end)
-reached-2 x = rw x.in-On.is at x.admit-room.ensures.stands
-
-reached-3 : (x : goal.After-stops_at) → Admits x.args.h (Kind.Channels x.group_code.result) (length x.args.s.now) (Step.On x.in-On.end)
-reached-3 x = rw x.in-On.is at x.admit-room.ensures.stands
 
 pub returns-in_default : goal.returns-in_default
 returns-in_default c = record { seen = simp (channels-split, walks, c.in_default.is, c.admit-room.ensures.seen); stands = simp c.in_default.is tt }
@@ -37,12 +32,12 @@ slice_bounds-body-end c = let v = reached c in omega arith
 
 pub channels_body-requires : goal.channels_body-requires
 channels_body-requires c =
-    let v = reached-2 c in
+    let v = reached (goal.at.channels_body-requires c).In-On in
     body-asked c.args.base c.args.h.at c.in-On.end 16 c.args.s.now (omega (arith, v.0, v.2)) v.1 c.requires.short
 
 pub returns : goal.returns
 returns c =
-    let v = reached-3 c in
+    let v = reached (goal.at.returns c).In-On in
     let o = c.args.o in
     let s = c.args.s.now in
     let b = c.args.base in

@@ -10,16 +10,11 @@ use Rattle.rules.specs.declared.Kind.TheVariants as Kind
 use Rattle.records.specs.Says.{Reaches}
 use Rattle.records.proofs.Bodies.{frame_opened, body-asked, body-held, ended-advances}
 use Rattle.records.proofs.frames.frame_at.Goals as goal
+use Rattle.records.proofs.frames.frame_at.Goals.{In-On}
 
 -- the record that was opened: where it stands, and where it stops
-reached : (x : goal.In-On) → Reaches x.args.p (Kind.Frame x.args.label x.args.size x.args.filled x.args.i) (length x.args.s.now) x.in-On.field-0 x.in-On.end
+reached : (x : In-On) → Reaches x.args.p (Kind.Frame x.args.label x.args.size x.args.filled x.args.i) (length x.args.s.now) x.in-On.field-0 x.in-On.end
 reached x = rw x.in-On.is at x.open-opened.ensures.stands
-
-reached-2 : (x : goal.After-body-1) → Reaches x.args.p (Kind.Frame x.args.label x.args.size x.args.filled x.args.i) (length x.args.s.now) x.in-On.field-0 x.in-On.end
-reached-2 x = rw x.in-On.is at x.open-opened.ensures.stands
-
-reached-3 : (x : goal.After-stops_at) → Reaches x.args.p (Kind.Frame x.args.label x.args.size x.args.filled x.args.i) (length x.args.s.now) x.in-On.field-0 x.in-On.end
-reached-3 x = rw x.in-On.is at x.open-opened.ensures.stands
 
 pub returns-in_default : goal.returns-in_default
 returns-in_default c = record { seen = (λ t cs e. simp (frame_opened, ← e, walks, c.of_open.ensures, c.in_default.is, c.open-opened.ensures.seen)); stands = tt }
@@ -35,7 +30,7 @@ slice_bounds-body-end c = let v = reached c in omega (arith, v.inside)
 
 pub frame_body-requires : goal.frame_body-requires
 frame_body-requires c =
-    let v = reached-2 c in
+    let v = reached (goal.at.frame_body-requires c).In-On in
     let q = c.in-On.end in
     let b = body-asked c.args.base c.args.p q (c.args.filled - 16) c.args.s.now (omega (arith, v.end, v.spans, c.requires.timed, c.requires.inside)) v.inside c.requires.part.short in
     record { timed = c.requires.timed; inside = omega (arith, b.long, c.requires.timed); short = b.short }
@@ -44,7 +39,7 @@ pub returns : goal.returns
 returns c =
     let t = c in
     let z = t in
-    let v = reached-3 t in
+    let v = reached (goal.at.returns t).In-On in
     let o = z.args.o in
     let s = z.args.s.now in
     let b = z.args.base in

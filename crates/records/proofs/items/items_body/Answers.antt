@@ -11,23 +11,15 @@ use Rattle.records.proofs.Steps.{items-many, items-stop, items-end}
 use native.Mathlib.Omega.{arith}
 use borrow.Author.Tests.{eq-eqb}
 use Rattle.records.proofs.items.items_body.Goals as goal
+use Rattle.records.proofs.items.items_body.Goals.{In-On}
 
 -- the items are as many as the count says: what their end decides
-passed : (x : goal.Then-q-s) →
+passed : (x : In-On) →
     let a = x.args in
     let s = a.s.now in
     let q = x.in-On.q in
     ends (see a.o (a.at + 16) s (a.at + 16) (items_body (ok_of a.k) (16 + length s))) ≡ gate (eqb q (length s)) (goes tt (a.at + 16 + q)) 14 (a.at + 16)
 passed x =
-    let n = x.field-count.ensures.0 in
-    items-end _ _ _ _ _ (simp (tests, ← n, x.if-count-gt-MOST.false)) x.requires.long (rw (x.in-On.is, n) at x.items_from-taken.ensures.seen)
-
-passed-2 : (x : goal.Else-q-s) →
-    let a = x.args in
-    let s = a.s.now in
-    let q = x.in-On.q in
-    ends (see a.o (a.at + 16) s (a.at + 16) (items_body (ok_of a.k) (16 + length s))) ≡ gate (eqb q (length s)) (goes tt (a.at + 16 + q)) 14 (a.at + 16)
-passed-2 x =
     let n = x.field-count.ensures.0 in
     items-end _ _ _ _ _ (simp (tests, ← n, x.if-count-gt-MOST.false)) x.requires.long (rw (x.in-On.is, n) at x.items_from-taken.ensures.seen)
 
@@ -40,7 +32,7 @@ returns-in_default c =
     simp (c.of_step.ensures, c.in_default.is) (items-stop _ _ _ _ (simp (tests, ← n, c.if-count-gt-MOST.false)) (rw (c.in_default.is, n) at c.items_from-taken.ensures.seen))
 
 pub returns-then-q-s : goal.returns-then-q-s
-returns-then-q-s c = passed c ∙ simp (gates, tests, c.if-q-s.true)
+returns-then-q-s c = passed (goal.at.returns-then-q-s c).In-On ∙ simp (gates, tests, c.if-q-s.true)
 
 pub returns : goal.returns
-returns c = passed-2 c ∙ simp (gates, tests, eq-eqb _ _ c.if-q-s.false) (ap (λ (x : ℕ). goes tt x) (omega arith))
+returns c = passed (goal.at.returns c).In-On ∙ simp (gates, tests, eq-eqb _ _ c.if-q-s.false) (ap (λ (x : ℕ). goes tt x) (omega arith))

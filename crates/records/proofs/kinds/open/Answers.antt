@@ -7,19 +7,11 @@ use Rattle.records.proofs.Laws.{admitted-at}
 use native.Mathlib.Omega.{arith}
 use borrow.Author.Rules.{rules}
 use Rattle.records.proofs.kinds.open.Goals as goal
+use Rattle.records.proofs.kinds.open.Goals.{After-has_code}
 
 -- the head that was read: where it stands
-placed : (x : goal.Then-not-has_code) → HeadPlaced x.args.p (length x.args.s.now) (Headed.At x.in-At.h)
+placed : (x : After-has_code) → HeadPlaced x.args.p (length x.args.s.now) (Headed.At x.in-At.h)
 placed x = rw x.in-At.is at x.head_at-found.ensures.stands
-
-placed-2 : (x : goal.Else-not-has_code) → HeadPlaced x.args.p (length x.args.s.now) (Headed.At x.in-At.h)
-placed-2 x = rw x.in-At.is at x.head_at-found.ensures.stands
-
-placed-3 : (x : goal.After-of_step) → HeadPlaced x.args.p (length x.args.s.now) (Headed.At x.in-At.h)
-placed-3 x = rw x.in-At.is at x.head_at-found.ensures.stands
-
-placed-4 : (x : goal.In-On) → HeadPlaced x.args.p (length x.args.s.now) (Headed.At x.in-At.h)
-placed-4 x = rw x.in-At.is at x.head_at-found.ensures.stands
 
 pub returns-in_default : goal.returns-in_default
 unfolding opened
@@ -28,25 +20,25 @@ returns-in_default c = record { seen = simp (walks, tests, c.of_head.ensures, c.
 pub returns-then-not-has_code : goal.returns-then-not-has_code
 unfolding opened
 returns-then-not-has_code c =
-    let w = placed c in
+    let w = placed (goal.at.returns-then-not-has_code c).After-has_code in
     record { seen = simp (walks, tests, w.0, c.if-not-has_code.true, ← c.has_code.ensures, c.in-At.is, c.head_at-found.ensures.seen); stands = tt }
 
 pub admit-room-requires : goal.admit-room-requires
 admit-room-requires c =
-    let w = placed-2 c in
+    let w = placed (goal.at.admit-room-requires c).After-has_code in
     search rules
 
 pub returns-in_default-room : goal.returns-in_default-room
 unfolding opened
 returns-in_default-room c =
-    let w = placed-3 c in
+    let w = placed (goal.at.returns-in_default-room c).After-has_code in
     let a = admitted-at w.0 c.admit-room.ensures c.args.o c.args.base c.args.s.now in
     record { seen = simp (walks, tests, w.0, c.of_step.ensures, c.in_default-room.is, a, c.if-not-has_code.false, ← c.has_code.ensures, c.in-At.is, c.head_at-found.ensures.seen); stands = tt }
 
 pub returns : goal.returns
 unfolding opened
 returns c =
-    let w = placed-4 c in
+    let w = placed (goal.at.returns c).After-has_code in
     let a = admitted-at w.0 c.admit-room.ensures c.args.o c.args.base c.args.s.now in
     let v = rw c.in-On.is at c.admit-room.ensures.stands in record {
       seen = simp (walks, tests, w.0, c.in-On.is, a, c.if-not-has_code.false, ← c.has_code.ensures, c.in-At.is, c.head_at-found.ensures.seen);

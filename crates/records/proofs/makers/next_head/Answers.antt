@@ -11,41 +11,20 @@ use Prim.Native.Nat.{◌-◌, ◌+◌}
 use native.Mathlib.Omega.{arith}
 use borrow.Author.Rules.{rules}
 use Rattle.records.proofs.makers.next_head.Goals as goal
+use Rattle.records.proofs.makers.next_head.Goals.{After-admit-room, After-maker_code}
 
 -- the head that was read: where it stands, and what the walk comes to there
-placed : (x : goal.Then-not-maker_code) → HeadPlaced x.loop-h.p (length x.args.s.now) (Headed.At x.in-At.h)
+placed : (x : After-maker_code) → HeadPlaced x.loop-h.p (length x.args.s.now) (Headed.At x.in-At.h)
 placed x = rw x.in-At.is at x.head_at-found.ensures.stands
 
-placed-2 : (x : goal.Else-not-maker_code) → HeadPlaced x.loop-h.p (length x.args.s.now) (Headed.At x.in-At.h)
-placed-2 x = rw x.in-At.is at x.head_at-found.ensures.stands
-
-placed-3 : (x : goal.After-of_step) → HeadPlaced x.loop-h.p (length x.args.s.now) (Headed.At x.in-At.h)
-placed-3 x = rw x.in-At.is at x.head_at-found.ensures.stands
-
-placed-4 : (x : goal.In-On) → HeadPlaced x.loop-h.p (length x.args.s.now) (Headed.At x.in-At.h)
-placed-4 x = rw x.in-At.is at x.head_at-found.ensures.stands
-
-read : (x : goal.Then-not-maker_code) →
+read : (x : After-maker_code) →
     let a = x.args in
     see a.o a.base a.s.now (a.base + x.loop-h.p) (head (length a.s.now - x.loop-h.p)) ≡ headed a.base (Headed.At x.in-At.h)
 read x = rw x.in-At.is at x.head_at-found.ensures.seen
 
-read-2 : (x : goal.After-of_step) →
-    let a = x.args in
-    see a.o a.base a.s.now (a.base + x.loop-h.p) (head (length a.s.now - x.loop-h.p)) ≡ headed a.base (Headed.At x.in-At.h)
-read-2 x = rw x.in-At.is at x.head_at-found.ensures.seen
-
-read-3 : (x : goal.In-On) →
-    let a = x.args in
-    see a.o a.base a.s.now (a.base + x.loop-h.p) (head (length a.s.now - x.loop-h.p)) ≡ headed a.base (Headed.At x.in-At.h)
-read-3 x = rw x.in-At.is at x.head_at-found.ensures.seen
-
 -- it is a maker's
-made : (y : goal.After-of_step) → maker_code y.in-At.h.code ≡ true
+made : (y : After-admit-room) → maker_code y.in-At.h.code ≡ true
 made y = sym y.maker_code.ensures ∙ y.if-not-maker_code.false
-
-made-2 : (y : goal.In-On) → maker_code y.in-At.h.code ≡ true
-made-2 y = sym y.maker_code.ensures ∙ y.if-not-maker_code.false
 
 pub loop-h-init : goal.loop-h-init
 loop-h-init c = (search rules, c.requires.low, λ fuel h. record { left = fuel; enough = h; same = refl })
@@ -55,23 +34,23 @@ returns-in_default c = simp c.in_default.is (record { seen = (λ fuel h. fueled-
 
 pub returns-then-not-maker_code : goal.returns-then-not-maker_code
 returns-then-not-maker_code c =
-    let w = placed c in
+    let w = placed (goal.at.returns-then-not-maker_code c).After-maker_code in
     let inv = c.loop-h.invariant in
-    record { seen = (λ fuel h. fueled-done (inv.2 fuel h) inv.1 (read c) _ w.0 (sym c.maker_code.ensures ∙ (c.if-not-maker_code.true))); stands = record { low = omega arith; inside = omega arith } }
+    record { seen = (λ fuel h. fueled-done (inv.2 fuel h) inv.1 (read (goal.at.returns-then-not-maker_code c).After-maker_code) _ w.0 (sym c.maker_code.ensures ∙ (c.if-not-maker_code.true))); stands = record { low = omega arith; inside = omega arith } }
 
 pub admit-room-requires : goal.admit-room-requires
-admit-room-requires c = let w = placed-2 c in search rules
+admit-room-requires c = let w = placed (goal.at.admit-room-requires c).After-maker_code in search rules
 
 pub returns-in_default-room : goal.returns-in_default-room
 returns-in_default-room c =
     let a = c.args in
     let inv = c.loop-h.invariant in
     simp (c.of_step.ensures, c.in_default-room.is)
-    (record { seen = (λ fuel h. fueled-refused (inv.2 fuel h) inv.1 (read-2 c) _ (placed-3 c).0 (made c) (rw c.in_default-room.is at (c.admit-room.ensures.seen a.o a.base a.s.now))); stands = tt })
+    (record { seen = (λ fuel h. fueled-refused (inv.2 fuel h) inv.1 (read (goal.at.returns-in_default-room c).After-maker_code) _ (placed (goal.at.returns-in_default-room c).After-maker_code).0 (made (goal.at.returns-in_default-room c).After-admit-room) (rw c.in_default-room.is at (c.admit-room.ensures.seen a.o a.base a.s.now))); stands = tt })
 
 pub loop-h-smaller : goal.loop-h-smaller
 loop-h-smaller c =
-    let w = placed-4 c in
+    let w = placed (goal.at.loop-h-smaller c).After-maker_code in
     let v = rw c.in-On.is at c.admit-room.ensures.stands in
     omega arith
 
@@ -79,6 +58,6 @@ pub loop-h-preserved : goal.loop-h-preserved
 loop-h-preserved c =
     let a = c.args in
     let inv = c.loop-h.invariant in
-    let w = placed-4 c in
+    let w = placed (goal.at.loop-h-preserved c).After-maker_code in
     let v = rw c.in-On.is at c.admit-room.ensures.stands in
-    (omega arith, omega arith, λ fuel h. fueled-more (inv.2 fuel h) inv.1 (read-3 c) _ w.0 (made-2 c) (rw c.in-On.is at (c.admit-room.ensures.seen a.o a.base a.s.now)) _ (omega arith) (omega arith) v.2)
+    (omega arith, omega arith, λ fuel h. fueled-more (inv.2 fuel h) inv.1 (read (goal.at.loop-h-preserved c).After-maker_code) _ w.0 (made (goal.at.loop-h-preserved c).After-admit-room) (rw c.in-On.is at (c.admit-room.ensures.seen a.o a.base a.s.now)) _ (omega arith) (omega arith) v.2)

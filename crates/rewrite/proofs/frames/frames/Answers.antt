@@ -6,18 +6,16 @@ use Rattle.words.specs.Numbers.{Bytes}
 use Rattle.words.proofs.Words.{bytes}
 use Rattle.rewrite.proofs.Bodied.{signals-full, signals-written}
 use Rattle.rewrite.proofs.frames.frames.Goals as goal
+use Rattle.rewrite.proofs.frames.frames.Goals.{After-struct_known-1}
 
-is-bytes : (c : goal.Then-out-k) → Bytes c.args.s.now
+is-bytes : (c : After-struct_known-1) → Bytes c.args.s.now
 is-bytes c = bytes c.args.s.now (λ i. (c.type_inv.s i).fits)
 
-is-bytes-2 : (c : goal.After-slice_known-3-1) → Bytes c.args.s.now
-is-bytes-2 c = bytes c.args.s.now (λ i. (c.type_inv.s i).fits)
-
 pub returns-then-out-k : goal.returns-then-out-k
-returns-then-out-k c = signals-full _ _ _ _ _ _ _ (is-bytes c) c.requires.target c.if-out-k.true
+returns-then-out-k c = signals-full _ _ _ _ _ _ _ (is-bytes (goal.at.returns-then-out-k c).After-struct_known-1) c.requires.target c.if-out-k.true
 
 pub returns : goal.returns
 returns c =
     let a = c.args in
-    signals-written a.w a.file.now a.s.now a.cs a.f a.out.now _ _ a.k (a.k + 16 - a.k) (a.k + a.f.signals.length - (a.k + 16)) (is-bytes-2 c) (omega arith) (omega (arith, c.requires.bounds.signals)) (omega (arith, c.if-out-k.false, c.requires.target))
+    signals-written a.w a.file.now a.s.now a.cs a.f a.out.now _ _ a.k (a.k + 16 - a.k) (a.k + a.f.signals.length - (a.k + 16)) (is-bytes (goal.at.returns c).After-struct_known-1) (omega arith) (omega (arith, c.requires.bounds.signals)) (omega (arith, c.if-out-k.false, c.requires.target))
     c.out-1.given.1 c.put_head.ensures c.frames_body.ensures

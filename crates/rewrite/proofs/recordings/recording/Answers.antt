@@ -10,49 +10,14 @@ use Rattle.measures.specs.declared.Measured.TheVariants as Measured
 use Rattle.rewrite.specs.RecordingsAnew.{MeasuredAt}
 use Rattle.rewrite.proofs.Placed.{recording-length, room-behind, recording-written}
 use Rattle.rewrite.proofs.recordings.recording.Goals as goal
+use Rattle.rewrite.proofs.recordings.recording.Goals.{In-On}
 
 -- the measure, and what is known of it
-abbrev measure : goal.Then-out-k → Measure
+abbrev measure : In-On → Measure
 measure c = c.in-On.f
 
-abbrev measure-2 : goal.After-struct_known-2-1 → Measure
-measure-2 c = c.in-On.f
-
-abbrev measure-3 : goal.After-struct_known-3-1 → Measure
-measure-3 c = c.in-On.f
-
-abbrev measure-4 : goal.After-slice_known-2-1 → Measure
-measure-4 c = c.in-On.f
-
-abbrev measure-5 : goal.After-body-arg-1 → Measure
-measure-5 c = c.in-On.f
-
-abbrev measure-6 : goal.After-body-arg-2-1 → Measure
-measure-6 c = c.in-On.f
-
-abbrev measure-7 : goal.After-slice_known-3-1 → Measure
-measure-7 c = c.in-On.f
-
-known : (c : goal.Then-out-k) → let a = c.args in MeasuredAt a.w.from a.w.label a.file.now a.p a.q (Measured.On (measure c))
+known : (c : In-On) → let a = c.args in MeasuredAt a.w.from a.w.label a.file.now a.p a.q (Measured.On (measure c))
 known c = rw c.in-On.is at c.measure_at-measured.ensures
-
-known-2 : (c : goal.After-struct_known-2-1) → let a = c.args in MeasuredAt a.w.from a.w.label a.file.now a.p a.q (Measured.On (measure-2 c))
-known-2 c = rw c.in-On.is at c.measure_at-measured.ensures
-
-known-3 : (c : goal.After-struct_known-3-1) → let a = c.args in MeasuredAt a.w.from a.w.label a.file.now a.p a.q (Measured.On (measure-3 c))
-known-3 c = rw c.in-On.is at c.measure_at-measured.ensures
-
-known-4 : (c : goal.After-slice_known-2-1) → let a = c.args in MeasuredAt a.w.from a.w.label a.file.now a.p a.q (Measured.On (measure-4 c))
-known-4 c = rw c.in-On.is at c.measure_at-measured.ensures
-
-known-5 : (c : goal.After-body-arg-1) → let a = c.args in MeasuredAt a.w.from a.w.label a.file.now a.p a.q (Measured.On (measure-5 c))
-known-5 c = rw c.in-On.is at c.measure_at-measured.ensures
-
-known-6 : (c : goal.After-body-arg-2-1) → let a = c.args in MeasuredAt a.w.from a.w.label a.file.now a.p a.q (Measured.On (measure-6 c))
-known-6 c = rw c.in-On.is at c.measure_at-measured.ensures
-
-known-7 : (c : goal.After-slice_known-3-1) → let a = c.args in MeasuredAt a.w.from a.w.label a.file.now a.p a.q (Measured.On (measure-7 c))
-known-7 c = rw c.in-On.is at c.measure_at-measured.ensures
 
 pub returns-in_default : goal.returns-in_default
 returns-in_default c =
@@ -64,49 +29,49 @@ returns-then-out-k c =
     let a = c.args in
     record {
       inside = c.requires.target;
-      wrote = λ clear held x v room. absurd (omega (arith, c.if-out-k.true, room, recording-length a.w.to a.w.label a.i x.recording (measure c).whole ((known c).told held a.i x v).whole));
+      wrote = λ clear held x v room. absurd (omega (arith, c.if-out-k.true, room, recording-length a.w.to a.w.label a.i x.recording (measure (goal.at.returns-then-out-k c).In-On).whole ((known (goal.at.returns-then-out-k c).In-On).told held a.i x v).whole));
     }
 
 pub overflow_add-from : goal.overflow_add-from
-overflow_add-from c = omega (arith, (known-2 c).bounds.whole, c.if-out-k.false, c)
+overflow_add-from c = omega (arith, (known (goal.at.overflow_add-from c).In-On).bounds.whole, c.if-out-k.false, c)
 
 pub overflow_add-end : goal.overflow_add-end
 overflow_add-end c = omega (arith, c.if-out-k.false, c)
 
 pub slice_bounds-put_head-end : goal.slice_bounds-put_head-end
 slice_bounds-put_head-end c =
-    omega (arith, (known-3 c).bounds.whole, c.if-out-k.false, c.requires.target)
+    omega (arith, (known (goal.at.slice_bounds-put_head-end c).In-On).bounds.whole, c.if-out-k.false, c.requires.target)
 
 pub slice_bounds-body-count : goal.slice_bounds-body-count
-slice_bounds-body-count c = let t = (known-4 c).bounds in omega (arith, t.frames, t.end, t.last)
+slice_bounds-body-count c = let t = (known (goal.at.slice_bounds-body-count c).In-On).bounds in omega (arith, t.frames, t.end, t.last)
 
 pub slice_bounds-body-start : goal.slice_bounds-body-start
-slice_bounds-body-start c = let t = (known-4 c).bounds in omega (arith, t.frames, t.end, t.last)
+slice_bounds-body-start c = let t = (known (goal.at.slice_bounds-body-start c).In-On).bounds in omega (arith, t.frames, t.end, t.last)
 
 pub slice_bounds-body-count-2 : goal.slice_bounds-body-count-2
-slice_bounds-body-count-2 c = omega (arith, (known-5 c).bounds.whole)
+slice_bounds-body-count-2 c = omega (arith, (known (goal.at.slice_bounds-body-count-2 c).In-On).bounds.whole)
 
 pub slice_bounds-body-start-2 : goal.slice_bounds-body-start-2
-slice_bounds-body-start-2 c = omega (arith, (known-5 c).bounds.whole)
+slice_bounds-body-start-2 c = omega (arith, (known (goal.at.slice_bounds-body-start-2 c).In-On).bounds.whole)
 
 pub body-requires : goal.body-requires
 body-requires c =
     let a = c.args in
     let n = a.q.end - (a.p + 16) in
-    let t = (known-6 c).bounds in
+    let t = (known (goal.at.body-requires c).In-On).bounds in
     let l : length (take n (drop (a.p + 16) a.file.now)) ≡ n = length-take-le n (drop (a.p + 16) a.file.now) (rw length-drop (omega (arith, c.requires.source.end))) in
     record {
       channels = c.requires.source.room;
       short = rw l (omega (arith, c.requires.source.short, c.requires.source.end, t.frames, t.end, t.last));
       bounds = rw l t;
-      room = room-behind _ a.k (measure-6 c).whole.length (omega (arith, t.whole)) (omega (arith, c.out-1.given.1, c.if-out-k.false, c.requires.target));
+      room = room-behind _ a.k (measure (goal.at.body-requires c).In-On).whole.length (omega (arith, t.whole)) (omega (arith, c.out-1.given.1, c.if-out-k.false, c.requires.target));
     }
 
 pub returns : goal.returns
 returns c =
-    let f = measure-7 c in
+    let f = measure (goal.at.returns c).In-On in
     let a = c.args in
-    let t = known-7 c in
+    let t = known (goal.at.returns c).In-On in
     record {
       inside = omega (arith, c.if-out-k.false, c.requires.target);
       wrote =

@@ -10,42 +10,18 @@ use Rattle.records.specs.Says.{AdmittedBy}
 use Rattle.records.specs.declared.Step.TheVariants as Step
 use Rattle.signals.proofs.Answers.{at-refused, at-uncounted, at-stop, at_on}
 use Rattle.signals.proofs.frames.frames_at.Goals as goal
+use Rattle.signals.proofs.frames.frames_at.Goals.{After-count_ok, After-frames_body-held}
 
 -- the head is admitted, and the channels are as many as 100 says
-admits : (r : goal.Then-not-count_ok) →
+admits : (r : After-count_ok) →
     let a = r.args in
     AdmittedBy a.h a.base (length a.s.now) (Kind.Frames a.label) (Step.On r.in-On.end)
 admits r = rw r.in-On.is at r.admit-room.ensures
 
-admits-2 : (r : goal.Else-not-count_ok) →
-    let a = r.args in
-    AdmittedBy a.h a.base (length a.s.now) (Kind.Frames a.label) (Step.On r.in-On.end)
-admits-2 r = rw r.in-On.is at r.admit-room.ensures
-
-admits-3 : (r : goal.After-body-1) →
-    let a = r.args in
-    AdmittedBy a.h a.base (length a.s.now) (Kind.Frames a.label) (Step.On r.in-On.end)
-admits-3 r = rw r.in-On.is at r.admit-room.ensures
-
-admits-4 : (r : goal.In_default-held) →
-    let a = r.args in
-    AdmittedBy a.h a.base (length a.s.now) (Kind.Frames a.label) (Step.On r.in-On.end)
-admits-4 r = rw r.in-On.is at r.admit-room.ensures
-
-admits-5 : (r : goal.In-On-held) →
-    let a = r.args in
-    AdmittedBy a.h a.base (length a.s.now) (Kind.Frames a.label) (Step.On r.in-On.end)
-admits-5 r = rw r.in-On.is at r.admit-room.ensures
-
-agrees : (x : goal.In_default-held) →
+agrees : (x : After-frames_body-held) →
     let a = x.args in
     a.own || eqb a.cs.count a.b.channels ≡ true
 agrees x = sym x.count_ok.ensures ∙ x.if-not-count_ok.false
-
-agrees-2 : (x : goal.In-On-held) →
-    let a = x.args in
-    a.own || eqb a.cs.count a.b.channels ≡ true
-agrees-2 x = sym x.count_ok.ensures ∙ x.if-not-count_ok.false
 
 pub returns-in_default : goal.returns-in_default
 returns-in_default c =
@@ -56,21 +32,21 @@ returns-in_default c =
 pub returns-then-not-count_ok : goal.returns-then-not-count_ok
 returns-then-not-count_ok c =
     let a = c.args in
-    at-uncounted a.o a.label a.file.now a.cs a.own a.b a.h a.base a.s.now (admits c)
+    at-uncounted a.o a.label a.file.now a.cs a.own a.b a.h a.base a.s.now (admits (goal.at.returns-then-not-count_ok c).After-count_ok)
     (sym c.count_ok.ensures ∙ c.if-not-count_ok.true) c.requires.head.low
 
 pub slice_bounds-body-count : goal.slice_bounds-body-count
-slice_bounds-body-count c = let v = (admits-2 c).stands in omega arith
+slice_bounds-body-count c = let v = (admits (goal.at.slice_bounds-body-count c).After-count_ok).stands in omega arith
 
 pub slice_bounds-body-start : goal.slice_bounds-body-start
-slice_bounds-body-start c = let v = (admits-2 c).stands in omega arith
+slice_bounds-body-start c = let v = (admits (goal.at.slice_bounds-body-start c).After-count_ok).stands in omega arith
 
 pub slice_bounds-body-end : goal.slice_bounds-body-end
-slice_bounds-body-end c = let v = (admits-2 c).stands in omega arith
+slice_bounds-body-end c = let v = (admits (goal.at.slice_bounds-body-end c).After-count_ok).stands in omega arith
 
 pub frames_body-held-requires : goal.frames_body-held-requires
 frames_body-held-requires c =
-    let v = (admits-3 c).stands in
+    let v = (admits (goal.at.frames_body-held-requires c).After-count_ok).stands in
     record {
       body = record { fields = record { long = simp (length-take, length-drop) (omega arith); short = simp (length-take, length-drop) (omega (arith, c.requires.body.short)) }; few = c.requires.few };
       channels = c.requires.channels;
@@ -80,9 +56,9 @@ pub returns-in_default-held : goal.returns-in_default-held
 returns-in_default-held c =
     let a = c.args in
     simp c.in_default-held.is
-    (at-stop a.o a.label a.file.now a.cs a.own a.b a.h a.base a.s.now (admits-4 c) (agrees c) (rw c.in_default-held.is at c.frames_body-held.ensures))
+    (at-stop a.o a.label a.file.now a.cs a.own a.b a.h a.base a.s.now (admits (goal.at.returns-in_default-held c).After-count_ok) (agrees (goal.at.returns-in_default-held c).After-frames_body-held) (rw c.in_default-held.is at c.frames_body-held.ensures))
 
 pub returns : goal.returns
 returns c =
     let a = c.args in
-    at_on a.o a.label a.file.now a.cs a.own a.b a.h a.base a.s.now (admits-5 c) (agrees-2 c) (rw c.in-On-held.is at c.frames_body-held.ensures)
+    at_on a.o a.label a.file.now a.cs a.own a.b a.h a.base a.s.now (admits (goal.at.returns c).After-count_ok) (agrees (goal.at.returns c).After-frames_body-held) (rw c.in-On-held.is at c.frames_body-held.ensures)

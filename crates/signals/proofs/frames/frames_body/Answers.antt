@@ -4,17 +4,13 @@ use Rattle.signals.specs.Shaped.{FieldsTested}
 use Rattle.signals.specs.declared.frames.Shaped.TheVariants as Shaped
 use Rattle.signals.proofs.FramesBody.{body-stop, body-on}
 use Rattle.signals.proofs.frames.frames_body.Goals as goal
+use Rattle.signals.proofs.frames.frames_body.Goals.{In-On}
 
 -- the fields that passed
-shape : (x : goal.In-On) →
+shape : (x : In-On) →
     let a = x.args in
     FieldsTested a.o a.file.now a.cs a.at a.s.now a.total a.multiplier (Shaped.On x.in-On.f)
 shape x = rw x.in-On.is at x.read_shape-shaped.ensures
-
-shape-2 : (x : goal.After-frames_rest) →
-    let a = x.args in
-    FieldsTested a.o a.file.now a.cs a.at a.s.now a.total a.multiplier (Shaped.On x.in-On.f)
-shape-2 x = rw x.in-On.is at x.read_shape-shaped.ensures
 
 pub returns-in_default : goal.returns-in_default
 returns-in_default c =
@@ -31,7 +27,7 @@ returns c =
     let a = c.args in
     record {
       seen = λ b ch h w.
-          let k = (shape-2 c).told ch w.channels in
+          let k = (shape (goal.at.returns c).In-On).told ch w.channels in
           body-on a.o a.label a.at a.s.now ch w k ∙ c.frames_rest.ensures.seen ch k.fields.filled;
       fills = c.frames_rest.ensures.fills;
     }

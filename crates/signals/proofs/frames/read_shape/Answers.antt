@@ -13,72 +13,22 @@ use Rattle.signals.proofs.FramesBody.{size_fits}
 use Rattle.signals.proofs.Answers.{stops-seconds, stops-periods, stops-size, stops-count, stops-room, shape-holds}
 use borrow.Author.Rules.{rules}
 use Rattle.signals.proofs.frames.read_shape.Goals as goal
+use Rattle.signals.proofs.frames.read_shape.Goals.{After-size_ok, Else-not-between, Else-not-size_ok}
 
 -- what the tests say
-timed : (x : goal.Else-not-between) → R.between 1 3600 x.field-t.result ≡ true
+timed : (x : Else-not-between) → R.between 1 3600 x.field-t.result ≡ true
 timed x = sym x.between.ensures ∙ x.if-not-between.false
 
-timed-2 : (x : goal.Then-not-all_sampled) → R.between 1 3600 x.field-t.result ≡ true
-timed-2 x = sym x.between.ensures ∙ x.if-not-between.false
-
-timed-3 : (x : goal.Else-not-all_sampled) → R.between 1 3600 x.field-t.result ≡ true
-timed-3 x = sym x.between.ensures ∙ x.if-not-between.false
-
-timed-4 : (x : goal.Then-not-size_ok) → R.between 1 3600 x.field-t.result ≡ true
-timed-4 x = sym x.between.ensures ∙ x.if-not-between.false
-
-timed-5 : (x : goal.Then-n-total) → R.between 1 3600 x.field-t.result ≡ true
-timed-5 x = sym x.between.ensures ∙ x.if-not-between.false
-
-timed-6 : (x : goal.Then-not-room_ok) → R.between 1 3600 x.field-t.result ≡ true
-timed-6 x = sym x.between.ensures ∙ x.if-not-between.false
-
-timed-7 : (x : goal.Else-not-room_ok) → R.between 1 3600 x.field-t.result ≡ true
-timed-7 x = sym x.between.ensures ∙ x.if-not-between.false
-
-sampled : (x : goal.Then-not-size_ok) →
+sampled : (x : After-size_ok) →
     let a = x.args in
     (ch : List R.Channel) → ChannelsStand a.o a.file.now a.cs ch → R.all (R.sampled x.field-t.result) ch ≡ true
 sampled x ch st = sym (x.all_sampled.ensures ch st) ∙ x.if-not-all_sampled.false
 
-sampled-2 : (x : goal.Then-n-total) →
-    let a = x.args in
-    (ch : List R.Channel) → ChannelsStand a.o a.file.now a.cs ch → R.all (R.sampled x.field-t.result) ch ≡ true
-sampled-2 x ch st = sym (x.all_sampled.ensures ch st) ∙ x.if-not-all_sampled.false
-
-sampled-3 : (x : goal.Then-not-room_ok) →
-    let a = x.args in
-    (ch : List R.Channel) → ChannelsStand a.o a.file.now a.cs ch → R.all (R.sampled x.field-t.result) ch ≡ true
-sampled-3 x ch st = sym (x.all_sampled.ensures ch st) ∙ x.if-not-all_sampled.false
-
-sampled-4 : (x : goal.Else-not-room_ok) →
-    let a = x.args in
-    (ch : List R.Channel) → ChannelsStand a.o a.file.now a.cs ch → R.all (R.sampled x.field-t.result) ch ≡ true
-sampled-4 x ch st = sym (x.all_sampled.ensures ch st) ∙ x.if-not-all_sampled.false
-
-filled : (x : goal.Then-n-total) →
+filled : (x : Else-not-size_ok) →
     let bytes = x.sample_bytes-bytes.result in
     let size = x.field-size.result in
     R.between (24 + bytes) (24 + bytes + 127) size && ltb size R.limit ≡ true
 filled x = sym x.size_ok.ensures ∙ x.if-not-size_ok.false
-
-filled-2 : (x : goal.Else-n-total) →
-    let bytes = x.sample_bytes-bytes.result in
-    let size = x.field-size.result in
-    R.between (24 + bytes) (24 + bytes + 127) size && ltb size R.limit ≡ true
-filled-2 x = sym x.size_ok.ensures ∙ x.if-not-size_ok.false
-
-filled-3 : (x : goal.Then-not-room_ok) →
-    let bytes = x.sample_bytes-bytes.result in
-    let size = x.field-size.result in
-    R.between (24 + bytes) (24 + bytes + 127) size && ltb size R.limit ≡ true
-filled-3 x = sym x.size_ok.ensures ∙ x.if-not-size_ok.false
-
-filled-4 : (x : goal.Else-not-room_ok) →
-    let bytes = x.sample_bytes-bytes.result in
-    let size = x.field-size.result in
-    R.between (24 + bytes) (24 + bytes + 127) size && ltb size R.limit ≡ true
-filled-4 x = sym x.size_ok.ensures ∙ x.if-not-size_ok.false
 
 pub returns-then-not-between : goal.returns-then-not-between
 returns-then-not-between c =
@@ -92,43 +42,43 @@ all_sampled-requires c = let h = between_in 1 3600 _ (timed c) in search rules
 pub returns-then-not-all_sampled : goal.returns-then-not-all_sampled
 returns-then-not-all_sampled c =
     let a = c.args in
-    stops-periods a.o a.file.now a.cs a.at a.s.now a.total a.multiplier c.field-t.ensures.0 c.field-size.ensures.0 c.field-n.ensures.0 (timed-2 c)
+    stops-periods a.o a.file.now a.cs a.at a.s.now a.total a.multiplier c.field-t.ensures.0 c.field-size.ensures.0 c.field-n.ensures.0 (timed (goal.at.returns-then-not-all_sampled c).Else-not-between)
     (λ ch st. sym (c.all_sampled.ensures ch st) ∙ c.if-not-all_sampled.true)
 
 pub sample_bytes-bytes-requires : goal.sample_bytes-bytes-requires
-sample_bytes-bytes-requires c = let h = between_in 1 3600 _ (timed-3 c) in search rules
+sample_bytes-bytes-requires c = let h = between_in 1 3600 _ (timed (goal.at.sample_bytes-bytes-requires c).Else-not-between) in search rules
 
 pub returns-then-not-size_ok : goal.returns-then-not-size_ok
 returns-then-not-size_ok c =
     let a = c.args in
-    stops-size a.o a.file.now a.cs a.at a.s.now a.total a.multiplier c.field-t.ensures.0 c.field-size.ensures.0 c.field-n.ensures.0 (timed-4 c) (sampled c)
+    stops-size a.o a.file.now a.cs a.at a.s.now a.total a.multiplier c.field-t.ensures.0 c.field-size.ensures.0 c.field-n.ensures.0 (timed (goal.at.returns-then-not-size_ok c).Else-not-between) (sampled (goal.at.returns-then-not-size_ok c).After-size_ok)
     (λ ch st. c.sample_bytes-bytes.ensures ch st.count st.kept)
     (sym c.size_ok.ensures ∙ c.if-not-size_ok.true)
 
 pub returns-then-n-total : goal.returns-then-n-total
 returns-then-n-total c =
     let a = c.args in
-    stops-count a.o a.file.now a.cs a.at a.s.now a.total a.multiplier c.field-t.ensures.0 c.field-size.ensures.0 c.field-n.ensures.0 (timed-5 c) (sampled-2 c)
-    (λ ch st. c.sample_bytes-bytes.ensures ch st.count st.kept) (filled c) c.if-n-total.true
+    stops-count a.o a.file.now a.cs a.at a.s.now a.total a.multiplier c.field-t.ensures.0 c.field-size.ensures.0 c.field-n.ensures.0 (timed (goal.at.returns-then-n-total c).Else-not-between) (sampled (goal.at.returns-then-n-total c).After-size_ok)
+    (λ ch st. c.sample_bytes-bytes.ensures ch st.count st.kept) (filled (goal.at.returns-then-n-total c).Else-not-size_ok) c.if-n-total.true
 
 pub room_ok-requires : goal.room_ok-requires
 room_ok-requires c =
-    let l = size_fits _ _ (filled-2 c) in
+    let l = size_fits _ _ (filled (goal.at.room_ok-requires c).Else-not-size_ok) in
     record { few = omega arith; short = l.1 }
 
 pub returns-then-not-room_ok : goal.returns-then-not-room_ok
 returns-then-not-room_ok c =
     let a = c.args in
-    stops-room a.o a.file.now a.cs a.at a.s.now a.total a.multiplier c.field-t.ensures.0 c.field-size.ensures.0 c.field-n.ensures.0 (timed-6 c) (sampled-3 c)
-    (λ ch st. c.sample_bytes-bytes.ensures ch st.count st.kept) (filled-3 c) c.if-n-total.false
+    stops-room a.o a.file.now a.cs a.at a.s.now a.total a.multiplier c.field-t.ensures.0 c.field-size.ensures.0 c.field-n.ensures.0 (timed (goal.at.returns-then-not-room_ok c).Else-not-between) (sampled (goal.at.returns-then-not-room_ok c).After-size_ok)
+    (λ ch st. c.sample_bytes-bytes.ensures ch st.count st.kept) (filled (goal.at.returns-then-not-room_ok c).Else-not-size_ok) c.if-n-total.false
     (sym c.room_ok.ensures ∙ c.if-not-room_ok.true)
 
 pub overflow_add-result-2 : goal.overflow_add-result-2
-overflow_add-result-2 c = let l = size_fits _ _ (filled-4 c) in omega arith
+overflow_add-result-2 c = let l = size_fits _ _ (filled (goal.at.overflow_add-result-2 c).Else-not-size_ok) in omega arith
 
 pub returns : goal.returns
 returns c =
     let a = c.args in
-    shape-holds a.o a.file.now a.cs a.at a.s.now a.total a.multiplier c.field-t.ensures.0 c.field-size.ensures.0 c.field-n.ensures.0 (timed-7 c) (sampled-4 c)
-    (λ ch st. c.sample_bytes-bytes.ensures ch st.count st.kept) (filled-4 c) c.if-n-total.false
+    shape-holds a.o a.file.now a.cs a.at a.s.now a.total a.multiplier c.field-t.ensures.0 c.field-size.ensures.0 c.field-n.ensures.0 (timed (goal.at.returns c).Else-not-between) (sampled (goal.at.returns c).After-size_ok)
+    (λ ch st. c.sample_bytes-bytes.ensures ch st.count st.kept) (filled (goal.at.returns c).Else-not-size_ok) c.if-n-total.false
     (sym c.room_ok.ensures ∙ c.if-not-room_ok.false)

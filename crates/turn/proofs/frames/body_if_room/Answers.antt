@@ -13,9 +13,10 @@ use Rattle.bodies.specs.Copy.{copy}
 use Rattle.bodies.proofs.Copying.{pastes-whole, pastes-full}
 use Rattle.turn.proofs.Turning.{FramesTurned, framed, framed-length, framed-fits}
 use Rattle.turn.proofs.frames.body_if_room.Goals as goal
+use Rattle.turn.proofs.frames.body_if_room.Goals.{After-field-count, Else-out-k}
 
 -- what an accepted body says of its numbers
-told : (x : goal.Then-t-gt-MOST_SECONDS) →
+told : (x : After-field-count) →
     let a = x.args in
     let s = a.s.now in
     (b : ℕ) (c : R.Basic) (ch : List R.Channel) (hd : R.Head) (f : R.Frames) (e : ℕ) → R.span hd ≡ 16 + length s → see a.w.from b s b (R.frames_body a.w.label c ch hd) ≡ goes f e →
@@ -24,28 +25,15 @@ told x b c ch hd f e fills g =
     let a = x.args in
     framed a.w b a.s.now c ch hd fills g _ _ _ (sym x.field-t.ensures.0) (sym x.field-size.ensures.0) (sym x.field-count.ensures.0)
 
-told-2 : (x : goal.Then-not-fits) →
-    let a = x.args in
-    let s = a.s.now in
-    (b : ℕ) (c : R.Basic) (ch : List R.Channel) (hd : R.Head) (f : R.Frames) (e : ℕ) → R.span hd ≡ 16 + length s → see a.w.from b s b (R.frames_body a.w.label c ch hd) ≡ goes f e →
-    FramesTurned a.w b s ch x.field-t.result x.field-size.result x.field-count.result (copy a.w b s b (R.frames_body a.w.label c ch hd))
-told-2 x b c ch hd f e fills g =
-    let a = x.args in
-    framed a.w b a.s.now c ch hd fills g _ _ _ (sym x.field-t.ensures.0) (sym x.field-size.ensures.0) (sym x.field-count.ensures.0)
-
 -- what the code's test of them says
-fitted : (c : goal.Else-out-k) →
+fitted : (c : Else-out-k) →
     (24 + c.sample_bytes-bytes.result ≤ c.field-size.result) × (16 + c.field-size.result * c.field-count.result ≤ length c.args.s.now)
 fitted c = let r = c.fits in both_true _ _ _ _ r.result r.ensures (c.if-not-fits.false)
-
-fitted-2 : (c : goal.After-frames_body-arg-1) →
-    (24 + c.sample_bytes-bytes.result ≤ c.field-size.result) × (16 + c.field-size.result * c.field-count.result ≤ length c.args.s.now)
-fitted-2 c = let r = c.fits in both_true _ _ _ _ r.result r.ensures (c.if-not-fits.false)
 
 pub returns-then-t-gt-MOST_SECONDS : goal.returns-then-t-gt-MOST_SECONDS
 returns-then-t-gt-MOST_SECONDS c = record {
   inside = c.requires.target;
-  wrote = λ b k ch hd f e st fills g. absurd (omega (arith, c.if-t-gt-MOST_SECONDS.true, (told c b k ch hd f e fills g).short));
+  wrote = λ b k ch hd f e st fills g. absurd (omega (arith, c.if-t-gt-MOST_SECONDS.true, (told (goal.at.returns-then-t-gt-MOST_SECONDS c).After-field-count b k ch hd f e fills g).short));
 }
 
 pub returns-then-not-fits : goal.returns-then-not-fits
@@ -54,7 +42,7 @@ returns-then-not-fits c =
     let m = c.sample_bytes-bytes in
     record {
       inside = c.requires.target;
-      wrote = λ b k ch hd f e st fills g. absurd (framed-fits (told-2 c b k ch hd f e fills g) m.result r.result (m.ensures ch st.count st.kept) r.ensures (c.if-not-fits.true));
+      wrote = λ b k ch hd f e st fills g. absurd (framed-fits (told (goal.at.returns-then-not-fits c).After-field-count b k ch hd f e fills g) m.result r.result (m.ensures ch st.count st.kept) r.ensures (c.if-not-fits.true));
     }
 
 pub returns-then-out-k : goal.returns-then-out-k
@@ -73,7 +61,7 @@ pub frames_body-requires : goal.frames_body-requires
 frames_body-requires c =
     let a = c.args in
     let l = length a.s.now in
-    let t = fitted-2 c in
+    let t = fitted (goal.at.frames_body-requires c).Else-out-k in
     let e : a.k + l - a.k ≡ l = omega arith in
     record { channels = c.requires.channels.inside; seconds = omega (arith, c.if-t-gt-MOST_SECONDS.false); least = omega arith; fits = t.0; part = record { least = t.1; room = length-take-le (a.k + l - a.k) (drop a.k a.out.now) (rw length-drop (omega (arith, c.if-out-k.false))) ∙ e } }
 

@@ -10,26 +10,13 @@ use Rattle.rows.proofs.Written.{series-reach}
 use Rattle.turn.proofs.Turning.{framed, framing-start, framing-more, framing-end}
 use borrow.Author.Rules.{rules}
 use Rattle.turn.proofs.frames.frames_body.Goals as goal
+use Rattle.turn.proofs.frames.frames_body.Goals.{In-loop-i}
 
 -- the frame that a turn writes ends in the body
-reach : (c : goal.In-loop-i) →
+reach : (c : In-loop-i) →
     let a = c.args in
     c.loop-i.k + a.size ≤ length a.s.now
 reach c =
-    let a = c.args in
-    omega (arith, series-reach c.loop-i.i a.count 16 a.size (omega arith))
-
-reach-2 : (c : goal.After-frame-arg-1) →
-    let a = c.args in
-    c.loop-i.k + a.size ≤ length a.s.now
-reach-2 c =
-    let a = c.args in
-    omega (arith, series-reach c.loop-i.i a.count 16 a.size (omega arith))
-
-reach-3 : (c : goal.After-slice_known-in-loop-i-1) →
-    let a = c.args in
-    c.loop-i.k + a.size ≤ length a.s.now
-reach-3 c =
     let a = c.args in
     omega (arith, series-reach c.loop-i.i a.count 16 a.size (omega arith))
 
@@ -63,7 +50,7 @@ pub slice_bounds-frame-end : goal.slice_bounds-frame-end
 slice_bounds-frame-end c = omega (arith, reach c)
 
 pub slice_bounds-frame-end-in-loop-i : goal.slice_bounds-frame-end-in-loop-i
-slice_bounds-frame-end-in-loop-i c = omega (arith, reach-2 c)
+slice_bounds-frame-end-in-loop-i c = omega (arith, reach (goal.at.slice_bounds-frame-end-in-loop-i c).In-loop-i)
 
 pub frame-requires : goal.frame-requires
 frame-requires c =
@@ -71,7 +58,7 @@ frame-requires c =
 
 pub overflow_add-from-in-loop-i : goal.overflow_add-from-in-loop-i
 overflow_add-from-in-loop-i c =
-    omega (arith, reach-3 c, c.well_formed)
+    omega (arith, reach (goal.at.overflow_add-from-in-loop-i c).In-loop-i, c.well_formed)
 
 pub loop-i-preserved : goal.loop-i-preserved
 loop-i-preserved c =
@@ -80,11 +67,11 @@ loop-i-preserved c =
     let m : l.k + a.size - l.k ≡ a.size = omega arith in (
       search rules,
       omega (arith, mul-add a.size l.i 1),
-      reach-3 c,
+      reach (goal.at.loop-i-preserved c).In-loop-i,
       c.d-in-loop-i-1.given.1 ∙ l.invariant.3,
       omega arith,
       λ b k ch hd f e st j e₁ e₂ e₃ q v.
-          framing-more (l.invariant.5 b k ch hd f e st j e₁ e₂ e₃ q v) (l.k + a.size - l.k) (l.k + a.size - l.k) _ c.loop-i-test.true (reach-3 c) m m
+          framing-more (l.invariant.5 b k ch hd f e st j e₁ e₂ e₃ q v) (l.k + a.size - l.k) (l.k + a.size - l.k) _ c.loop-i-test.true (reach (goal.at.loop-i-preserved c).In-loop-i) m m
           (rw l.invariant.4 at (c.frame.ensures (b + l.k) (length a.s.now - l.k) (l.i + 1) ch st j)),
     )
 

@@ -10,16 +10,11 @@ use Rattle.children.proofs.Again.{along-start, along-stop, along-fits, along-nex
 use Rattle.bodies.specs.declared.Way.{Way}
 use Rattle.turn.proofs.Sent.{whole-file, sent-first, sent-next, sent-length, header-first}
 use Rattle.turn.proofs.recordings.file_turned.Goals as goal
+use Rattle.turn.proofs.recordings.file_turned.Goals.{After-header}
 
 -- the way from order to order
-abbrev way : goal.After-slice_known-2-1 → Way
+abbrev way : After-header → Way
 way c = record { from = c.args.o; label = c.args.label; to = c.other.result; keep = true }
-
-abbrev way-2 : goal.After-slice_known-in-loop-i-1 → Way
-way-2 c = record { from = c.args.o; label = c.args.label; to = c.other.result; keep = true }
-
-abbrev way-3 : goal.After-loop-i → Way
-way-3 c = record { from = c.args.o; label = c.args.label; to = c.other.result; keep = true }
 
 pub slice_bounds-header-end : goal.slice_bounds-header-end
 slice_bounds-header-end c = sym (length-take-le 32 c.args.file.now (omega arith))
@@ -32,7 +27,7 @@ header-requires c = record { source = length-take-le 32 c.args.file.now (omega a
 
 pub loop-i-init : goal.loop-i-init
 loop-i-init c =
-    record { room = omega (arith, c.out-1.given.1, c.requires.room); same = refl; along = along-start c.requires.headed.header (sent-first (way c) _) }
+    record { room = omega (arith, c.out-1.given.1, c.requires.room); same = refl; along = along-start c.requires.headed.header (sent-first (way (goal.at.loop-i-init c).After-header) _) }
 
 pub returns-in_default : goal.returns-in_default
 returns-in_default c =
@@ -50,7 +45,7 @@ loop-i-preserved c =
     record {
       room = i.room;
       same = c.out-in-loop-i-1.given ∙ i.same;
-      along = along-next i.along c.loop-i-test.true _ r.ensures c.in-On.is (λ held done m x many n h. sent-next (way-2 c) i.along.inside n m _ c.recording.ensures h);
+      along = along-next i.along c.loop-i-test.true _ r.ensures c.in-On.is (λ held done m x many n h. sent-next (way (goal.at.loop-i-preserved c).After-header) i.along.inside n m _ c.recording.ensures h);
     }
 
 pub returns : goal.returns
@@ -58,5 +53,5 @@ unfolding said
 returns c =
     let s = c.args.file.now in
     λ f ps e h g. rw (← c.other.ensures)
-    (whole-file (along-end c.loop-i.invariant.along c.loop-i-test.false ps e g) c.args.out.now _ _ (omega (arith, c.requires.headed.header, c.requires.room)) (header-first (way-3 c) s (length s) _ c.requires.headed.header h c.header.ensures) c.out-1.given.1 refl
-    (omega (arith, c.requires.room, sent-length (way-3 c) s c.args.count c.requires.headed.header g)))
+    (whole-file (along-end c.loop-i.invariant.along c.loop-i-test.false ps e g) c.args.out.now _ _ (omega (arith, c.requires.headed.header, c.requires.room)) (header-first (way (goal.at.returns c).After-header) s (length s) _ c.requires.headed.header h c.header.ensures) c.out-1.given.1 refl
+    (omega (arith, c.requires.room, sent-length (way (goal.at.returns c).After-header) s c.args.count c.requires.headed.header g)))
