@@ -11,7 +11,7 @@ import os
 import re
 import sys
 
-CRATES = {"descriptions": ("descriptions",), "demands": ("demands", "overview"), "overview": ("overview",)}
+CRATES = {"descriptions": ("descriptions", "judge"), "demands": ("demands", "overview"), "overview": ("overview",)}
 DECLARED = re.compile(r"(?m)^  pub ([a-z][\w']*(?:-[\w']+)+) :")
 
 

@@ -76,13 +76,13 @@ places_same o file at n before t f X e h x k w s l =
     alike
     refl
     (omega (arith, bytes, s))
-    (picked t.own x.recording.own_channels t.channels (place_of (at + 16) n X.next.room) (at + x.layout.at120) (held_at (channels_in before)) k.channels-at (w.own_channels ∙ k.own) (part-place at n X.next.room (R.span h) x.layout.at120 s at120))
+    (picked t.own x.recording.own_channels t.channels (place_of (at + 16) n X.next.room) (at + x.layout.at120) (held_at (channels_in before)) k.channels_at (w.own_channels ∙ k.own) (part-place at n X.next.room (R.span h) x.layout.at120 s at120))
     (sym count)
     (picked X.patient.own x.recording.own_patient t.patient (place_of (at + 16) n X.channels.next.room) (at + x.layout.at130) (held_at (patient_in before)) k.patient_at w.own_patient (part-place at n X.channels.next.room (R.span h) x.layout.at130 s at130))
-    (sym (w.own_events ∙ k.has-events))
-    (picked t.has_events x.recording.own_events t.events (place_of (at + 16) n X.patient.next.room) (at + x.layout.at200) 0 k.events-at (w.own_events ∙ k.has-events) (part-place at n X.patient.next.room (R.span h) x.layout.at200 s at200))
-    (sym (w.own_montage ∙ k.has-montage))
-    (picked t.has_montage x.recording.own_montage t.montage (place_of (at + 16) n X.events.next.room) (at + x.layout.at350) 0 k.montage-at (w.own_montage ∙ k.has-montage) (part-place at n X.events.next.room (R.span h) x.layout.at350 s at350))
+    (sym (w.own_events ∙ k.has_events))
+    (picked t.has_events x.recording.own_events t.events (place_of (at + 16) n X.patient.next.room) (at + x.layout.at200) 0 k.events_at (w.own_events ∙ k.has_events) (part-place at n X.patient.next.room (R.span h) x.layout.at200 s at200))
+    (sym (w.own_montage ∙ k.has_montage))
+    (picked t.has_montage x.recording.own_montage t.montage (place_of (at + 16) n X.events.next.room) (at + x.layout.at350) 0 k.montage_at (w.own_montage ∙ k.has_montage) (part-place at n X.events.next.room (R.span h) x.layout.at350 s at350))
     (frames-place at n X.montage.next.room (R.span h) x.layout.at140 t.next.at s at140 k.room l)
     (sym (ap (λ (y : R.Layout). y.frame) w.layout))
     (sym total)
