@@ -35,8 +35,8 @@ def main():
             for field in fields:
                 new = field.replace("-", "_")
                 text = re.sub(r"(?<=\.)%s(?![\w'-])" % re.escape(field), new, text)
-                text = re.sub(r"(?<![\w'.-])%s(?= = )" % re.escape(field), new, text)
-                text = re.sub(r"(?<![\w'.-])%s(?= =\n)" % re.escape(field), new, text)
+                text = re.sub(r"(?<=[ {])%s(?= = )" % re.escape(field), new, text)
+                text = re.sub(r"(?<=[ {])%s(?= =\n)" % re.escape(field), new, text)
                 if "/specs/" in path:
                     text = re.sub(r"(?m)^  pub %s(?= :)" % re.escape(field), "  pub " + new, text)
             if text != old:

@@ -195,7 +195,7 @@ abbrev pub channel : Meant {X = Descriptor} value refusal ChannelTold Channel
 channel = record { meaning = meaning_d; tell = ChannelTold.Channel; refuse = ChannelTold.Refused; flat = flat_channel; says = λ a. refusal_of a.refusal a.position; tells = λ v. refl; refuses = λ r. refl; zero = λ v. refl; named = λ n p. refl }
 
 abbrev pub montage-count : Meant {X = ℕ} value refusal MontageCountTold Counted
-montage_count = record { meaning = meaning_n; tell = MontageCountTold.Channels; refuse = MontageCountTold.Refused; flat = flat_count; says = λ a. refusal_of a.refusal a.position; tells = λ v. refl; refuses = λ r. refl; zero = λ v. refl; named = λ n p. refl }
+montage-count = record { meaning = meaning_n; tell = MontageCountTold.Channels; refuse = MontageCountTold.Refused; flat = flat_count; says = λ a. refusal_of a.refusal a.position; tells = λ v. refl; refuses = λ r. refl; zero = λ v. refl; named = λ n p. refl }
 
 abbrev pub montage : Meant {X = Wired} value refusal MontageTold Montage
 montage = record { meaning = meaning_m; tell = MontageTold.Channel; refuse = MontageTold.Refused; flat = flat_montage; says = λ a. refusal_of a.channel.refusal a.channel.position; tells = λ v. refl; refuses = λ r. refl; zero = λ v. refl; named = λ n p. refl }
