@@ -1,4 +1,6 @@
 -- A record that was opened, and its body: what the proofs of `basic_at`, `channel_at`, `frame_at`, `items_at` and `channels_at` share. Assumes nothing.
+use Rattle.rules.specs.declared.Refusal.{Refusal}
+use Rattle.std.proofs.Common.{Result, Ok, Err}
 use mathlib.Core.Path.{◌≡◌, refl, sym, ap, ◌∙◌}
 use mathlib.Core.List.{List}
 use Prim.Native.Nat.{ℕ, ◌+◌, ◌-◌, ◌≤◌}
@@ -12,9 +14,13 @@ use Rattle.walk.proofs.Seen.{see-bind, see-after, see-body, body-length}
 use Rattle.rules.specs.declared.Label.{Label}
 use Rattle.rules.specs.Rules.{Channel, sample_bytes, fixed, frame_rule, frame_body, frame}
 use Rattle.rules.specs.Rules as R
-use Rattle.records.specs.declared.Tested.{Tested}
 use Rattle.records.specs.Asks.{BodyOf}
-use Rattle.records.specs.Says.{opened, ended, tested, stepped, Beyond, Advances}
+use Rattle.records.specs.Says.{opened, tested, stepped, Beyond, Advances}
+
+-- where a record stops whose body was tested
+abbrev pub ended : Result (Unit {0}) Refusal → ℕ → Result ℕ Refusal
+ended (Ok tt) q = Ok q
+ended (Err r) q = Err r
 
 join : {X H A : Type 0} (v : Verdict X) (f : X → ℕ → Verdict A) (f' : X → ℕ → Verdict H) (g : H → ℕ → Verdict A) →
     ((x : X) (e : ℕ) → f x e ≡ onward (f' x e) g) → onward v f ≡ onward (onward v f') g
@@ -76,21 +82,21 @@ module _ {A : Type 0} (o : Order) (b p q n : ℕ) (s : List ℕ) (is : q ≡ p +
       see-body o b p q s w (λ _ x. x ≡ b + q) (omega arith) (omega arith) (rw z at (k (b + p + 16)))
 
   -- what a body of that length comes to, as its own function says
-  pub body-held : (w : ℕ → Walk A) → ((x : ℕ) → Stays (x + (n - 16)) x (w n) (λ _ e. e ≡ x + (n - 16))) → (a : Tested) →
+  pub body-held : (w : ℕ → Walk A) → ((x : ℕ) → Stays (x + (n - 16)) x (w n) (λ _ e. e ≡ x + (n - 16))) → (a : Result (Unit {0}) Refusal) →
       ends (see o (b + p + 16) (take (q - (p + 16)) (drop (p + 16) s)) (b + p + 16) (w (16 + length (take (q - (p + 16)) (drop (p + 16) s))))) ≡
       tested a (b + p + (16 + length (take (q - (p + 16)) (drop (p + 16) s)))) → ends (see o b s (b + (p + 16)) (w n)) ≡ stepped b (ended a q)
   body-held w k a g =
       ap ends (sym (body-seen (w n) k)) ∙ (rw (body-long p q n s is least inside) at g ∙ stopped-at a)
     where
-      stopped-at : (x : Tested) → tested x (b + p + n) ≡ stepped b (ended x q)
-      stopped-at Tested.Fine = ap (λ (y : ℕ). goes tt y) (omega arith)
-      stopped-at (Tested.Stop r) = refl
+      stopped-at : (x : Result (Unit {0}) Refusal) → tested x (b + p + n) ≡ stepped b (ended x q)
+      stopped-at (Ok tt) = ap (λ (y : ℕ). goes tt y) (omega arith)
+      stopped-at (Err r) = refl
 
 -- and where that is
-pub ended-advances : (p d n q : ℕ) (a : Tested) → q ≡ p + d → q ≤ n → Advances p d n (ended a q)
-ended-advances p d n q Tested.Fine e h = (e, h)
-ended-advances p d n q (Tested.Stop r) e h = tt
+pub ended-advances : (p d n q : ℕ) (a : Result (Unit {0}) Refusal) → q ≡ p + d → q ≤ n → Advances p d n (ended a q)
+ended-advances p d n q (Ok tt) e h = (e, h)
+ended-advances p d n q (Err r) e h = tt
 
-pub ended-beyond : (p n q : ℕ) (a : Tested) → p ≤ q → q ≤ n → Beyond p n (ended a q)
-ended-beyond p n q Tested.Fine e h = record { low = e; inside = h }
-ended-beyond p n q (Tested.Stop r) e h = tt
+pub ended-beyond : (p n q : ℕ) (a : Result (Unit {0}) Refusal) → p ≤ q → q ≤ n → Beyond p n (ended a q)
+ended-beyond p n q (Ok tt) e h = record { low = e; inside = h }
+ended-beyond p n q (Err r) e h = tt

@@ -1,16 +1,14 @@
 -- Facts on the rules that the code's proofs cite.
 -- Assumes nothing.
 use mathlib.Core.Path.{◌≡◌, refl, sym, ap, ◌∙◌}
-use mathlib.Core.Bool.{Bool, true, false, ◌&&◌}
+use mathlib.Core.Bool.{Bool, true, false, ◌&&◌, ◌||◌}
 use mathlib.Core.List.{List, [], ◌∷◌}
-use Prim.Native.Nat.{ℕ, zero, suc, ◌+◌, ◌*◌, ◌≤◌, ◌<◌, max}
+use Prim.Native.Nat.{ℕ, zero, suc, ◌*◌, ◌≤◌, ◌<◌, max}
 use native.Mathlib.Nat.{mul-le-mul_left}
 use native.Mathlib.Omega.{arith}
-use native.Mathlib.Numerals.{add-one}
-use lib.ListN.{length, get_or, drop, drop_of_length-le}
-use lib.Seq.{drop-cons}
-use borrow.Author.Tests.{leb-true, le-leb, eq-eqb, ne_eqb}
+use borrow.Author.Tests.{leb-true, le-leb, eq-eqb, eqb-true}
 use lib.Dec.{leb, eqb}
+use lib.Pointwise.{pointwise}
 use Rattle.walk.proofs.Apart.{false-true}
 use Rattle.walk.proofs.Seen.{and_left, and_right}
 use Rattle.rules.specs.Rules.{between, length_of, is_in, same_bytes}
@@ -47,42 +45,32 @@ length-short size m h k = omega (arith, mul-le-mul_left size k)
 pub max-one : (m : ℕ) → (m ≡ 0 → ⊥) → max 1 m ≡ m
 max-one m h = omega arith
 
--- a table that is searched
-pub is_in-yes : (l : List ℕ) (i x : ℕ) → i < length l → x ≡ get_or l i 0 → is_in x (drop i l) ≡ true
-unfolding is_in
-is_in-yes l i x h e = rw (drop-cons l i 0 h, eq-eqb _ _ e)
-
-pub is_in-no : (l : List ℕ) (i x : ℕ) → i < length l → (x ≡ get_or l i 0 → ⊥) → is_in x (drop i l) ≡ is_in x (drop (i + 1) l)
-unfolding is_in
-is_in-no l i x h e = rw (add-one, drop-cons l i 0 h, ne_eqb _ _ e)
-
-pub is_in-end : (l : List ℕ) (i x : ℕ) → length l ≤ i → is_in x (drop i l) ≡ false
-unfolding is_in
-is_in-end l i x h = rw (drop_of_length-le l h)
-
--- two byte strings, compared byte by byte
-pub same_end : (a b : List ℕ) (i : ℕ) → length a ≤ i → length b ≤ i → same_bytes (drop i a) (drop i b) ≡ true
-unfolding same_bytes
-same_end a b i h k = rw (drop_of_length-le a h, drop_of_length-le b k)
-
-pub same_more : (a b : List ℕ) (i : ℕ) → i < length a → i < length b → get_or a i 0 ≡ get_or b i 0 → same_bytes (drop i a) (drop i b) ≡ same_bytes (drop (i + 1) a) (drop (i + 1) b)
-unfolding same_bytes
-same_more a b i h k e = rw (add-one, drop-cons a i 0 h, drop-cons b i 0 k, eq-eqb (get_or a i 0) (get_or b i 0) e)
-
-pub same_not : (a b : List ℕ) (i : ℕ) → i < length a → i < length b → (get_or a i 0 ≡ get_or b i 0 → ⊥) → same_bytes (drop i a) (drop i b) ≡ false
-unfolding same_bytes
-same_not a b i h k e = rw (drop-cons a i 0 h, drop-cons b i 0 k, ne_eqb (get_or a i 0) (get_or b i 0) e)
-
-pub same_length : (a b : List ℕ) → (length a ≡ length b → ⊥) → same_bytes a b ≡ false
-unfolding same_bytes
-same_length [] [] h = absurd (h refl)
-same_length [] (y ∷ b) h = refl
-same_length (x ∷ a) [] h = refl
-same_length (x ∷ a) (y ∷ b) h = rw (same_length a b (λ e. h (ap suc e))) (and-false (eqb x y))
+-- what the library's search of a table answers
+swapped : (a b : ℕ) → eqb a b ≡ eqb b a
+swapped a b = both (eqb a b) (eqb b a) refl refl
   where
-    and-false : (t : Bool) → t && false ≡ false
-    and-false true = refl
-    and-false false = refl
+    both : (x y : Bool) → eqb a b ≡ x → eqb b a ≡ y → x ≡ y
+    both true true h k = refl
+    both true false h k = sym (sym k ∙ eq-eqb b a (sym (eqb-true a b h)))
+    both false true h k = sym h ∙ eq-eqb a b (sym (eqb-true b a k))
+    both false false h k = refl
+
+abbrev any_of : ℕ → List ℕ → Bool
+any_of x [] = false
+any_of x (y ∷ ys) = eqb y x || any_of x ys
+
+pub found : (x : ℕ) (l : List ℕ) → any_of x l ≡ is_in x l
+unfolding is_in
+found x [] = refl
+found x (y ∷ ys) = rw (swapped y x, found x ys)
+
+-- and what it answers of two byte strings
+pub same-pointwise : (a b : List ℕ) → pointwise eqb a b ≡ same_bytes a b
+unfolding same_bytes
+same-pointwise [] [] = refl
+same-pointwise [] (y ∷ b) = refl
+same-pointwise (x ∷ a) [] = refl
+same-pointwise (x ∷ a) (y ∷ b) = ap (λ t. eqb x y && t) (same-pointwise a b)
 
 -- bounds of products
 pub product : (n m : ℕ) → n < 4294967296 → m < 4294967296 → n * m ≤ 18446744065119617025

@@ -1,4 +1,6 @@
 -- What the proofs of the judge's functions share. Assumes nothing.
+use Rattle.rules.specs.declared.Refusal.{Refusal}
+use Rattle.std.proofs.Common.{Result, Ok, Err}
 use Prim.Native.Nat.{ℕ, suc, ◌+◌, ◌-◌, ◌≤◌, ◌<◌}
 use native.Mathlib.Omega.{arith}
 use mathlib.Core.Path.{◌≡◌, refl, sym, ap, ◌∙◌, subst⁻¹}
@@ -17,12 +19,10 @@ use Rattle.rules.proofs.Cases.{most-low}
 use Rattle.rules.specs.declared.Kind.{Kind}
 use Rattle.records.specs.Says.{headroom, head_of, fits_of, serial_of, as_rule, rule_of, Spans, Fitting, Admits, AdmittedBy, admitted, tested}
 use Rattle.records.specs.declared.kinds.Rule.{Rule}
-use Rattle.records.specs.declared.Step.{Step}
-use Rattle.records.specs.declared.Tested.{Tested}
 use Rattle.records.proofs.Steps.{next-stop, next-done, next-refused, next_more}
 
 -- a head that stands at byte p, admitted: the walk goes on 16 bytes behind p
-pub admitted-at : {h : Head} {base n p : ℕ} {k : Kind} {a : Step} → h.at ≡ p → AdmittedBy h base n k a →
+pub admitted-at : {h : Head} {base n p : ℕ} {k : Kind} {a : Result ℕ Refusal} → h.at ≡ p → AdmittedBy h base n k a →
     (o : Order) (b : ℕ) (s : List ℕ) → see o b s (base + (p + 16)) (R.admit_by (rule_of k) (n - p) (head_of h)) ≡ admitted a (base + (p + 16))
 admitted-at e x o b s = rw e at (x.seen o b s)
 
@@ -57,16 +57,16 @@ pub admits-by : (r : Rule) (k : Kind) → as_rule r ≡ rule_of k → (o : Order
     see o b s at (R.admit room r.most (fits_of r.fits h.multiplier) (serial_of r.serial) h) ≡ v → see o b s at (R.admit_by (rule_of k) room h) ≡ v
 admits-by r k e o b s at room h g = ap (λ (x : R.Rule). see o b s at (R.admit_by x room h)) (sym e) ∙ g
 
-pub admits : (h : Head) (k : Kind) (n : ℕ) (r : Rule) → as_rule r ≡ rule_of k → (a : Step) → Fitting h r.fits n a → Admits h k n a
-admits h k n r e (Step.On q) f =
+pub admits : (h : Head) (k : Kind) (n : ℕ) (r : Rule) → as_rule r ≡ rule_of k → (a : Result ℕ Refusal) → Fitting h r.fits n a → Admits h k n a
+admits h k n r e (Ok q) f =
     (f.0, f.1, spans k h.multiplier _ (ap (λ (x : R.Rule). x.fits h.multiplier (R.length_of h.size h.multiplier)) (sym e) ∙ f.2))
-admits h k n r e (Step.Stop x) f = tt
+admits h k n r e (Err x) f = tt
 
 -- tests that end a walk whose answer is given
-pub tested-give : {A : Type 0} (a : Tested) (x : ℕ) (r : A) → ends (onward (tested a x) (λ _ e. goes r e)) ≡ tested a x
+pub tested-give : {A : Type 0} (a : Result (Unit {0}) Refusal) (x : ℕ) (r : A) → ends (onward (tested a x) (λ _ e. goes r e)) ≡ tested a x
 unfolding over
-tested-give Tested.Fine x r = refl
-tested-give (Tested.Stop q) x r = refl
+tested-give (Ok tt) x r = refl
+tested-give (Err q) x r = refl
 
 -- the search for the next record goes on at p, with fuel that is still enough
 pub record Fueled (o : Order) (label : Label) (b : ℕ) (s : List ℕ) (from p fuel : ℕ) : Type 0 where

@@ -1,5 +1,7 @@
 -- What the body of a sub comes to: its tests, one after the other.
 -- Assumes nothing.
+use Rattle.rules.specs.declared.Refusal.{Refusal}
+use Rattle.std.proofs.Common.{Result, Ok, Err}
 use mathlib.Core.Path.{◌≡◌, refl}
 use mathlib.Core.List.{List}
 use Prim.Native.Nat.{ℕ, ◌+◌}
@@ -9,7 +11,6 @@ use Rattle.walk.specs.See.{goes, see, ends}
 use Rattle.walk.proofs.Seen.{places, gates, over-gate}
 use Rattle.rules.specs.Rules.{Sub, field_if, channel_body}
 use Rattle.rules.proofs.Cases.{by_shape}
-use Rattle.records.specs.declared.Tested.{Tested}
 use Rattle.records.specs.Says.{tested, resumed, sub_tested}
 
 -- of the one at `at`
@@ -23,6 +24,6 @@ sub-tested =
     (λ k o s at. simp (places, gates, over-gate))
 
 -- the last of the tests that the code made, where nothing follows
-pub resumes : (a : Tested) (e : ℕ) → resumed a (goes tt e) ≡ tested a e
-resumes Tested.Fine e = refl
-resumes (Tested.Stop r) e = refl
+pub resumes : (a : Result (Unit {0}) Refusal) (e : ℕ) → resumed a (goes tt e) ≡ tested a e
+resumes (Ok tt) e = refl
+resumes (Err r) e = refl

@@ -1,10 +1,11 @@
 -- What the answers of the judge's functions say, as verdicts on the walks of the rules.
-use Rattle.std.specs.Prelude.{ℕ, ◌+◌, ◌*◌, ◌-◌, ◌≤◌, ◌<◌, length, ◌≡◌, Bool, true, ◌&&◌, ◌||◌, not, List, [], ◌∷◌, leb, eqb}
+use Rattle.std.specs.Prelude.{Result, Ok, Err, Option, Some, None, ℕ, ◌+◌, ◌*◌, ◌-◌, ◌≤◌, ◌<◌, length, ◌≡◌, Bool, true, ◌&&◌, ◌||◌, not, List, [], ◌∷◌, leb, eqb}
 use Rattle.words.specs.Numbers.{number_at}
 use Rattle.words.specs.declared.Order.{Order}
 use Rattle.walk.specs.Walk.{pick, Walk, give, ◌>>=◌, ◌>>◌}
 use Rattle.walk.specs.See.{Verdict, stops, goes, gate, see, over, ends}
 use Rattle.rules.specs.declared.Refusal.{Refusal}
+use Rattle.rules.specs.Reasons.{number}
 use Rattle.rules.specs.Rules as R
 use Rattle.rules.specs.declared.Label.{Label}
 use Rattle.rules.specs.declared.Head.{Head}
@@ -13,28 +14,22 @@ use Rattle.rules.specs.declared.Shape.{Shape}
 use Rattle.rules.specs.declared.Kind.{Kind}
 use Rattle.rules.specs.declared.Basic.{Basic}
 use Rattle.rules.specs.declared.Channels.{Channels}
-use Rattle.records.specs.declared.Headed.{Headed}
-use Rattle.records.specs.declared.Step.{Step}
-use Rattle.records.specs.declared.basic.Basiced.{Basiced}
-use Rattle.records.specs.declared.Tested.{Tested}
 use Rattle.records.specs.declared.items.Holder.{Holder}
 use Rattle.records.specs.declared.kinds.Rule.{Rule}
-use Rattle.records.specs.declared.kinds.Opened.{Opened}
 use Rattle.records.specs.declared.kinds.Code.{Code}
 use Rattle.records.specs.declared.kinds.Fits.{Fits}
-use Rattle.records.specs.declared.kinds.Serial.{Serial}
 
 -- a refusal, as a verdict
 abbrev pub halts : {A : Type 0} → Refusal → Verdict A
-halts r = stops r.0 r.1
+halts r = stops (number r.0) r.1
 
 -- a record's head, as the rules have it
 abbrev pub head_of : Head → R.Head
 head_of h = record { size = h.size; code = h.code; serial = h.serial; multiplier = h.multiplier }
 
-abbrev pub headed : ℕ → Headed → Verdict R.Head
-headed base (Headed.At h) = goes (head_of h) (base + (h.at + 16))
-headed base (Headed.Stop r) = halts r
+abbrev pub headed : ℕ → Result Head Refusal → Verdict R.Head
+headed base (Ok h) = goes (head_of h) (base + (h.at + 16))
+headed base (Err r) = halts r
 
 -- what the code reads of a channel's sub, at byte p of s
 pub record KeptOne (o : Order) (s : List ℕ) (p : ℕ) (c : R.Channel) : Type 0 where
@@ -102,23 +97,23 @@ abbrev pub headroom : R.Next → Headroom
 headroom n = record { head = n.head; room = n.room }
 
 -- the head of the next record in a part of n bytes, and the room from its start on
-abbrev pub nexted : ℕ → ℕ → Headed → Verdict Headroom
-nexted base n (Headed.At h) = goes (record { head = head_of h; room = n - h.at }) (base + (h.at + 16))
-nexted base n (Headed.Stop r) = halts r
+abbrev pub nexted : ℕ → ℕ → Result Head Refusal → Verdict Headroom
+nexted base n (Ok h) = goes (record { head = head_of h; room = n - h.at }) (base + (h.at + 16))
+nexted base n (Err r) = halts r
 
 -- a head stands at this byte of a part of n bytes, and is inside it
-abbrev pub HeadPlaced : ℕ → ℕ → Headed → Type 0
-HeadPlaced p n (Headed.At h) = (h.at ≡ p) × (p + 16 ≤ n)
-HeadPlaced p n (Headed.Stop r) = Unit {0}
+abbrev pub HeadPlaced : ℕ → ℕ → Result Head Refusal → Type 0
+HeadPlaced p n (Ok h) = (h.at ≡ p) × (p + 16 ≤ n)
+HeadPlaced p n (Err r) = Unit {0}
 
 -- a head stands at or after byte p of a part of n bytes, and is inside it
 pub record HeadFrom (p n : ℕ) (h : Head) : Type 0 where
   pub low : p ≤ h.at
   pub inside : h.at + 16 ≤ n
 
-abbrev pub HeadFound : ℕ → ℕ → Headed → Type 0
-HeadFound p n (Headed.At h) = HeadFrom p n h
-HeadFound p n (Headed.Stop r) = Unit {0}
+abbrev pub HeadFound : ℕ → ℕ → Result Head Refusal → Type 0
+HeadFound p n (Ok h) = HeadFrom p n h
+HeadFound p n (Err r) = Unit {0}
 
 -- the rules on a code, on a length and on a serial, as the rules have them
 abbrev pub codes_of : Code → ℕ → Bool
@@ -131,9 +126,9 @@ fits_of (Fits.Exactly n) = λ _. eqb n
 fits_of (Fits.AtLeast n) = λ _. leb n
 fits_of (Fits.Frame size filled) = λ multiplier n. eqb n size && R.padded multiplier (n - filled)
 
-abbrev pub serial_of : Serial → ℕ → Bool
-serial_of Serial.Any = λ _. true
-serial_of (Serial.Is i) = eqb i
+abbrev pub serial_of : Option ℕ → ℕ → Bool
+serial_of None = λ _. true
+serial_of (Some i) = eqb i
 
 abbrev pub as_rule : Rule → R.Rule
 as_rule r = record { code = codes_of r.code; most = r.most; fits = fits_of r.fits; serial = serial_of r.serial }
@@ -167,76 +162,55 @@ Spans (Kind.Maker label) n = 16 ≤ n
 Spans Kind.Any n = 16 ≤ n
 
 -- a step goes on at byte q of a part that stands at `base`, or stops
-abbrev pub stepped : ℕ → Step → Verdict (Unit {0})
-stepped base (Step.On q) = goes tt (base + q)
-stepped base (Step.Stop r) = halts r
+abbrev pub stepped : ℕ → Result ℕ Refusal → Verdict (Unit {0})
+stepped base (Ok q) = goes tt (base + q)
+stepped base (Err r) = halts r
 
 -- byte q is at or after byte p of a part of n bytes, and is inside it or its end
 pub record From (p n q : ℕ) : Type 0 where
   pub low : p ≤ q
   pub inside : q ≤ n
 
-abbrev pub Beyond : ℕ → ℕ → Step → Type 0
-Beyond p n (Step.On q) = From p n q
-Beyond p n (Step.Stop r) = Unit {0}
+abbrev pub Beyond : ℕ → ℕ → Result ℕ Refusal → Type 0
+Beyond p n (Ok q) = From p n q
+Beyond p n (Err r) = Unit {0}
 
 -- a step that goes on d bytes after p, in a part of n bytes
-abbrev pub Advances : ℕ → ℕ → ℕ → Step → Type 0
-Advances p d n (Step.On q) = (q ≡ p + d) × (q ≤ n)
-Advances p d n (Step.Stop r) = Unit {0}
+abbrev pub Advances : ℕ → ℕ → ℕ → Result ℕ Refusal → Type 0
+Advances p d n (Ok q) = (q ≡ p + d) × (q ≤ n)
+Advances p d n (Err r) = Unit {0}
 
 -- a head that is admitted, in a part of n bytes: q is where its record stops
-abbrev pub admitted : Step → ℕ → Verdict (Unit {0})
-admitted (Step.On q) e = goes tt e
-admitted (Step.Stop r) e = halts r
+abbrev pub admitted : Result ℕ Refusal → ℕ → Verdict (Unit {0})
+admitted (Ok q) e = goes tt e
+admitted (Err r) e = halts r
 
-abbrev pub Fitting : Head → Fits → ℕ → Step → Type 0
-Fitting h f n (Step.On q) =
+abbrev pub Fitting : Head → Fits → ℕ → Result ℕ Refusal → Type 0
+Fitting h f n (Ok q) =
     (q ≡ h.at + R.length_of h.size h.multiplier) × (q ≤ n) × (fits_of f h.multiplier (R.length_of h.size h.multiplier) ≡ true)
-Fitting h f n (Step.Stop r) = Unit {0}
+Fitting h f n (Err r) = Unit {0}
 
-abbrev pub Admits : Head → Kind → ℕ → Step → Type 0
-Admits h k n (Step.On q) = (q ≡ h.at + R.length_of h.size h.multiplier) × (q ≤ n) × Spans k (R.length_of h.size h.multiplier)
-Admits h k n (Step.Stop r) = Unit {0}
+abbrev pub Admits : Head → Kind → ℕ → Result ℕ Refusal → Type 0
+Admits h k n (Ok q) = (q ≡ h.at + R.length_of h.size h.multiplier) × (q ≤ n) × Spans k (R.length_of h.size h.multiplier)
+Admits h k n (Err r) = Unit {0}
 
 -- tests that read nothing: the same wherever the walk stands
-abbrev pub tested : Tested → ℕ → Verdict (Unit {0})
-tested Tested.Fine e = goes tt e
-tested (Tested.Stop r) e = halts r
+abbrev pub tested : Result (Unit {0}) Refusal → ℕ → Verdict (Unit {0})
+tested (Ok tt) e = goes tt e
+tested (Err r) e = halts r
 
 -- tests, and a verdict that follows them
-abbrev pub resumed : {A : Type 0} → Tested → Verdict A → Verdict A
-resumed Tested.Fine v = v
-resumed (Tested.Stop r) v = halts r
-
-abbrev pub refusal_t : Tested → Refusal
-refusal_t Tested.Fine = record { 0 = 0; 1 = 0 }
-refusal_t (Tested.Stop r) = r
-
-abbrev pub refusal_h : Headed → Refusal
-refusal_h (Headed.At h) = record { 0 = 0; 1 = 0 }
-refusal_h (Headed.Stop r) = r
-
--- where a record stops whose body was tested
-abbrev pub ended : Tested → ℕ → Step
-ended Tested.Fine q = Step.On q
-ended (Tested.Stop r) q = Step.Stop r
-
-abbrev pub refusal_o : Opened → Refusal
-refusal_o (Opened.On h q) = record { 0 = 0; 1 = 0 }
-refusal_o (Opened.Stop r) = r
-
-abbrev pub refusal_s : Step → Refusal
-refusal_s (Step.On x) = record { 0 = 0; 1 = 0 }
-refusal_s (Step.Stop r) = r
+abbrev pub resumed : {A : Type 0} → Result (Unit {0}) Refusal → Verdict A → Verdict A
+resumed (Ok tt) v = v
+resumed (Err r) v = halts r
 
 -- what the code keeps of a record 100 at this place
 abbrev pub basic_of : R.Basic → Basic
 basic_of b = record { channels = b.channels; frames = b.frames }
 
-abbrev pub basiced : ℕ → Basiced → Verdict Basic
-basiced at (Basiced.Holds x) = goes x (at + 128)
-basiced at (Basiced.Stop r) = halts r
+abbrev pub basiced : ℕ → Result Basic Refusal → Verdict Basic
+basiced at (Ok x) = goes x (at + 128)
+basiced at (Err r) = halts r
 
 unfoldable pub ok_of : Holder → ℕ → Bool
 ok_of Holder.Patient = R.patient_code
@@ -276,27 +250,27 @@ sub_tested k o s at K =
 -- `stands`: where the answer lies in the part
 
 -- a record's head at byte p
-pub record HeadAt (o : Order) (base : ℕ) (s : List ℕ) (p : ℕ) (a : Headed) : Type 0 where
+pub record HeadAt (o : Order) (base : ℕ) (s : List ℕ) (p : ℕ) (a : Result Head Refusal) : Type 0 where
   pub seen : see o base s (base + p) (R.head (length s - p)) ≡ headed base a
   pub stands : HeadPlaced p (length s) a
 
 -- the head of the first record from byte `from` on that is no maker's own
-pub record NextHead (o : Order) (label : Label) (base : ℕ) (s : List ℕ) (from : ℕ) (a : Headed) : Type 0 where
+pub record NextHead (o : Order) (label : Label) (base : ℕ) (s : List ℕ) (from : ℕ) (a : Result Head Refusal) : Type 0 where
   pub seen : (fuel : ℕ) → length s < from + fuel → over headroom (see o base s (base + from) (R.next label fuel (length s - from))) ≡ nexted base (length s) a
   pub stands : HeadFound from (length s) a
 
 -- a head, admitted by its kind's rule in a part of n bytes. The walk reads nothing, so it is the same over any bytes
-pub record AdmittedBy (h : Head) (base n : ℕ) (kind : Kind) (a : Step) : Type 0 where
+pub record AdmittedBy (h : Head) (base n : ℕ) (kind : Kind) (a : Result ℕ Refusal) : Type 0 where
   pub seen : (o : Order) (b : ℕ) (s : List ℕ) → see o b s (base + (h.at + 16)) (R.admit_by (rule_of kind) (n - h.at) (head_of h)) ≡ admitted a (base + (h.at + 16))
   pub stands : Admits h kind n a
 
 -- a step from byte p over what the walk w reads
-pub record StepOver {A : Type 0} (o : Order) (base : ℕ) (s : List ℕ) (p : ℕ) (w : Walk A) (Stands : Step → Type 0) (a : Step) : Type 0 where
+pub record StepOver {A : Type 0} (o : Order) (base : ℕ) (s : List ℕ) (p : ℕ) (w : Walk A) (Stands : Result ℕ Refusal → Type 0) (a : Result ℕ Refusal) : Type 0 where
   pub seen : ends (see o base s (base + p) w) ≡ stepped base a
   pub stands : Stands a
 
 -- a step from byte p over frames whose samples end at byte `filled` of each, for any T and channels that come to that
-pub record FramesOver {A : Type 0} (o : Order) (base : ℕ) (s : List ℕ) (p filled : ℕ) (w : ℕ → List R.Channel → Walk A) (Stands : Step → Type 0) (a : Step) : Type 0 where
+pub record FramesOver {A : Type 0} (o : Order) (base : ℕ) (s : List ℕ) (p filled : ℕ) (w : ℕ → List R.Channel → Walk A) (Stands : Result ℕ Refusal → Type 0) (a : Result ℕ Refusal) : Type 0 where
   pub seen : (t : ℕ) (cs : List R.Channel) → filled ≡ 24 + R.sample_bytes t cs → ends (see o base s (base + p) (w t cs)) ≡ stepped base a
   pub stands : Stands a
 
@@ -308,9 +282,9 @@ opened r room = do
   R.admit_by r room h
   give h
 
-abbrev pub opening : ℕ → Opened → Verdict R.Head
-opening base (Opened.On h q) = goes (head_of h) (base + (h.at + 16))
-opening base (Opened.Stop r) = halts r
+abbrev pub opening : ℕ → Result (Head × ℕ) Refusal → Verdict R.Head
+opening base (Ok (h, q)) = goes (head_of h) (base + (h.at + 16))
+opening base (Err r) = halts r
 
 -- the record with the head h, of this kind, in a part of n bytes
 pub record Reaches (p : ℕ) (kind : Kind) (n : ℕ) (h : Head) (q : ℕ) : Type 0 where
@@ -321,11 +295,11 @@ pub record Reaches (p : ℕ) (kind : Kind) (n : ℕ) (h : Head) (q : ℕ) : Type
   pub inside : q ≤ n
   pub spans : Spans kind (R.length_of h.size h.multiplier)
 
-abbrev pub Opens : ℕ → Kind → ℕ → Opened → Type 0
-Opens p kind n (Opened.On h q) = Reaches p kind n h q
-Opens p kind n (Opened.Stop r) = Unit {0}
+abbrev pub Opens : ℕ → Kind → ℕ → Result (Head × ℕ) Refusal → Type 0
+Opens p kind n (Ok (h, q)) = Reaches p kind n h q
+Opens p kind n (Err r) = Unit {0}
 
 -- a record of this kind at byte p, up to its body
-pub record OpenAt (o : Order) (base : ℕ) (s : List ℕ) (p : ℕ) (kind : Kind) (a : Opened) : Type 0 where
+pub record OpenAt (o : Order) (base : ℕ) (s : List ℕ) (p : ℕ) (kind : Kind) (a : Result (Head × ℕ) Refusal) : Type 0 where
   pub seen : see o base s (base + p) (opened (rule_of kind) (length s - p)) ≡ opening base a
   pub stands : Opens p kind (length s) a

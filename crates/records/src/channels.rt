@@ -6,11 +6,11 @@ ghost use Rattle.records.specs.Asks.{PartAt, HeadIn, BodyOf, SecondsOf};
 ghost use Rattle.records.specs.Says.{head_of, group_of, is_group, sub_code, shape_of, inputs_tested};
 ghost use Rattle.records.specs.Says.{Kept, Advances, Beyond, tested, resumed, StepOver};
 
-use crate::kinds::{Opened, admit, of_open, open};
-use crate::{Step, Tested, between, field, of_step, stops_at};
+use crate::kinds::{admit, open};
+use crate::{between, field};
 use rules::{
-    Channel, Channels, Electrode, Electrodes, Group, Head, Kind, Montage, MontageChannel, Refusal,
-    Shape, Version,
+    Channel, Channels, Electrode, Electrodes, Group, Head, Kind, Montage, MontageChannel, Reason,
+    Refusal, Shape, Version,
 };
 use versions::allows;
 use words::{Order, number4};
@@ -86,8 +86,7 @@ fn is_type(v: Version, n: u32) -> bool
     ensures { result ≡ R.is_type v n }
 {
     if n == 20 {
-        let allowed = allows(v);
-        return allowed.twenty;
+        return allows(v).twenty;
     }
     n <= 18
 }
@@ -158,118 +157,112 @@ fn is_input(electrodes: u32, n: u32) -> bool
 }
 
 // G1 and G2 of the sub at `at`, where they are fields.
-fn inputs_ok(o: Order, g: Group, s: &[u8], at: usize) -> Tested
+fn inputs_ok(o: Order, g: Group, s: &[u8], at: usize) -> Result<(), Refusal>
     requires { BodyOf 240 at s.now }
     ensures { (K : Verdict (Unit {0})) → inputs_tested (group_of g).sub o s.now at K ≡ resumed result K }
 {
     let Group::Montage(electrodes) = g else {
-        return Tested::Fine;
+        return Ok(());
     };
     if !is_input(electrodes, field(o, s, Channel::G1)) {
-        return Tested::Stop(Refusal(13, at + Channel::G1));
+        return Err(Refusal(Reason::Value, at + Channel::G1));
     }
     if !is_input(electrodes, field(o, s, Channel::G2)) {
-        return Tested::Stop(Refusal(13, at + Channel::G2));
+        return Err(Refusal(Reason::Value, at + Channel::G2));
     }
-    Tested::Fine
+    Ok(())
 }
 
 // The body of the sub at `at`.
-fn channel_body(o: Order, g: Group, s: &[u8], at: usize) -> Tested
+fn channel_body(o: Order, g: Group, s: &[u8], at: usize) -> Result<(), Refusal>
     requires { BodyOf 240 at s.now }
     ensures { ends (see o (at + 16) s.now (at + 16) (R.channel_body (group_of g).sub)) ≡ tested result (at + 256) }
 {
     if !number_ok(g, field(o, s, Channel::NUMBER)) {
-        return Tested::Stop(Refusal(13, at + Channel::NUMBER));
+        return Err(Refusal(Reason::Value, at + Channel::NUMBER));
     }
     let kind = field(o, s, Channel::TYPE);
     if !type_ok(g, kind) {
-        return Tested::Stop(Refusal(13, at + Channel::TYPE));
+        return Err(Refusal(Reason::Value, at + Channel::TYPE));
     }
     if !format_ok(g, field(o, s, Channel::FORMAT)) {
-        return Tested::Stop(Refusal(13, at + Channel::FORMAT));
+        return Err(Refusal(Reason::Value, at + Channel::FORMAT));
     }
     let flags = field(o, s, Channel::FLAGS);
     if !rate_ok(g, flags, kind, field(o, s, Channel::RATE)) {
-        return Tested::Stop(Refusal(13, at + Channel::RATE));
+        return Err(Refusal(Reason::Value, at + Channel::RATE));
     }
     inputs_ok(o, g, s, at)
 }
 
 // The sub at byte p of the part s, with the serial i: where it stops.
-fn channel_at(o: Order, g: Group, s: &[u8], base: usize, p: usize, i: u32) -> Step
+fn channel_at(o: Order, g: Group, s: &[u8], base: usize, p: usize, i: u32) -> Result<usize, Refusal>
     requires { PartAt base s.now p }
     ensures { StepOver o base s.now p
         (R.channel (group_of g).sub (length s.now - p) i) (Advances p 256 (length s.now)) result }
 {
     let kind = Kind::Channel(sub_code(group_code(g)), i);
-    let opened = open(o, s, base, p, kind);
-    let Opened::On(_, end) = opened else {
-        return Step::Stop(of_open(opened));
-    };
+    let (_, end) = open(o, s, base, p, kind)?;
     let body = &s[p + Head::LENGTH..end];
-    stops_at(channel_body(o, g, body, base + p), end)
+    channel_body(o, g, body, base + p)?;
+    Ok(end)
 }
 
 // So many subs from byte `from` of the part s on: where they end.
-fn channels_from(o: Order, g: Group, s: &[u8], base: usize, from: usize, count: u32) -> Step
+fn channels_from(
+    o: Order,
+    g: Group,
+    s: &[u8],
+    base: usize,
+    from: usize,
+    count: u32,
+) -> Result<usize, Refusal>
     requires { PartAt base s.now from }
     ensures { StepOver o base s.now from
         (R.series count 1 256 (length s.now - from) (R.channel (group_of g).sub)) (Advances from (256 * count) (length s.now)) result }
 {
     let mut p = from;
-    let mut i: u32 = 0;
-    while i < count {
-        let step = channel_at(o, g, s, base, p, i + 1);
-        let Step::On(next) = step else {
-            return step;
-        };
-        p = next;
-        i += 1;
+    for i in 0..count {
+        p = channel_at(o, g, s, base, p, i + 1)?;
     }
-    Step::On(p)
+    Ok(p)
 }
 
 // The body of the record 120, 320 or 350 at `at`.
-fn channels_body(o: Order, g: Group, s: &[u8], at: usize) -> Tested
+fn channels_body(o: Order, g: Group, s: &[u8], at: usize) -> Result<(), Refusal>
     requires { BodyOf 16 at s.now }
     ensures { ends (see o (at + 16) s.now (at + 16) (R.channels_body (group_of g) (16 + length s.now)))
         ≡ tested result (at + (16 + length s.now)) }
 {
     let m = field(o, s, Channels::COUNT);
     if !between(1, Channels::MOST, m) {
-        return Tested::Stop(Refusal(13, at + Channels::COUNT));
+        return Err(Refusal(Reason::Value, at + Channels::COUNT));
     }
     if !counts_ok(g, m) {
-        return Tested::Stop(Refusal(14, at + Channels::COUNT));
+        return Err(Refusal(Reason::Disagreement, at + Channels::COUNT));
     }
     let n = s.len();
     if Head::LENGTH + n != Channels::SUBS + Channel::LENGTH * m as usize {
-        return Tested::Stop(Refusal(14, at + Channels::COUNT));
+        return Err(Refusal(Reason::Disagreement, at + Channels::COUNT));
     }
     if Channel::SIZE != field(o, s, Channels::SUB_SIZE) {
-        return Tested::Stop(Refusal(13, at + Channels::SUB_SIZE));
+        return Err(Refusal(Reason::Value, at + Channels::SUB_SIZE));
     }
-    let taken = channels_from(o, g, s, at + Head::LENGTH, Channels::BODY_SUBS, m);
-    let Step::On(_) = taken else {
-        return Tested::Stop(of_step(taken));
-    };
-    Tested::Fine
+    channels_from(o, g, s, at + Head::LENGTH, Channels::BODY_SUBS, m)?;
+    Ok(())
 }
 
 // The rest of the record 120, 320 or 350 whose head is h: where it stops.
-pub fn channels_at(o: Order, g: Group, s: &[u8], base: usize, h: Head) -> Step
+pub fn channels_at(o: Order, g: Group, s: &[u8], base: usize, h: Head) -> Result<usize, Refusal>
     requires { HeadIn base s.now h }
     ensures { StepOver o base s.now (h.at + 16)
         (R.channels (group_of g) (length s.now - h.at) (head_of h)) (Beyond (h.at + 32) (length s.now)) result }
 {
-    let room = admit(h, base, s.len(), Kind::Channels(group_code(g)));
-    let Step::On(end) = room else {
-        return room;
-    };
+    let end = admit(h, base, s.len(), Kind::Channels(group_code(g)))?;
     let p = h.at;
     let body = &s[p + Head::LENGTH..end];
-    stops_at(channels_body(o, g, body, base + p), end)
+    channels_body(o, g, body, base + p)?;
+    Ok(end)
 }
 
 pub fn width(format: u32) -> usize
@@ -305,14 +298,12 @@ pub fn sample_bytes(o: Order, s: &[u8], subs: usize, m: u32, t: u32) -> usize
 {
     let mut p = subs;
     let mut sum: usize = 0;
-    let mut i: u32 = 0;
-    while i < m {
+    for _i in 0..m {
         let flags = number4(o, s, p + Channel::FLAGS);
         let format = number4(o, s, p + Channel::FORMAT);
         let rate = number4(o, s, p + Channel::RATE);
         sum += width(format) * samples_in(t, flags, rate);
         p += Channel::LENGTH;
-        i += 1;
     }
     sum
 }

@@ -6,26 +6,25 @@ ghost use Rattle.walk.specs.See.{see};
 ghost use Rattle.rules.specs.Rules as R;
 ghost use Rattle.records.specs.Says.{head_of, tested};
 
-use crate::Tested;
-use rules::{Delimiter, Head, Refusal};
+use rules::{Delimiter, Head, Reason, Refusal};
 
 // The delimiter whose head is h.
-pub fn delimiter(h: Head, base: usize) -> Tested
+pub fn delimiter(h: Head, base: usize) -> Result<(), Refusal>
     requires { Addressable (base + (h.at + 16)) }
     ensures { (o : Order) (b : ℕ) (s : List ℕ) →
         see o b s (base + (h.at + 16)) (R.delimiter (head_of h)) ≡ tested result (base + (h.at + 16)) }
 {
     if h.code != Delimiter::CODE {
-        return Tested::Stop(Refusal(9, base + h.at + Head::CODE));
+        return Err(Refusal(Reason::Code, base + h.at + Head::CODE));
     }
     if h.multiplier != 0 {
-        return Tested::Stop(Refusal(11, base + h.at + Head::MULTIPLIER));
+        return Err(Refusal(Reason::Multiplier, base + h.at + Head::MULTIPLIER));
     }
     if h.size != 0 {
-        return Tested::Stop(Refusal(10, base + h.at));
+        return Err(Refusal(Reason::Length, base + h.at));
     }
     if h.serial != 0 {
-        return Tested::Stop(Refusal(12, base + h.at + Head::SERIAL));
+        return Err(Refusal(Reason::Serial, base + h.at + Head::SERIAL));
     }
-    Tested::Fine
+    Ok(())
 }

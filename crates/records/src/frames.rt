@@ -6,26 +6,26 @@ ghost use Rattle.rules.specs.Rules.{frame_body};
 ghost use Rattle.records.specs.Asks.{FilledBody, FilledFrames};
 ghost use Rattle.records.specs.Says.{Advances, tested, FramesOver};
 
-use crate::kinds::{Opened, of_open, open};
-use crate::{Step, Tested, padding, short_field, stops_at};
-use rules::{Frame, Head, Kind, Label, Refusal};
+use crate::kinds::open;
+use crate::{padding, short_field};
+use rules::{Frame, Head, Kind, Label, Reason, Refusal};
 use words::Order;
 
 // The body of the record 145 at `at`, whose samples end at byte `filled` of the record.
-fn frame_body(o: Order, s: &[u8], at: usize, filled: usize) -> Tested
+fn frame_body(o: Order, s: &[u8], at: usize, filled: usize) -> Result<(), Refusal>
     requires { FilledBody filled at s.now }
     ensures { (t : ℕ) (cs : List R.Channel) → filled ≡ 24 + R.sample_bytes t cs →
         ends (see o (at + 16) s.now (at + 16) (frame_body (16 + length s.now) t cs))
         ≡ tested result (at + (16 + length s.now)) }
 {
     if 23 < short_field(o, s, Frame::HOUR) {
-        return Tested::Stop(Refusal(13, at + Frame::HOUR));
+        return Err(Refusal(Reason::Value, at + Frame::HOUR));
     }
     if 59 < short_field(o, s, Frame::MINUTE) {
-        return Tested::Stop(Refusal(13, at + Frame::MINUTE));
+        return Err(Refusal(Reason::Value, at + Frame::MINUTE));
     }
     if 59 < short_field(o, s, Frame::SECOND) {
-        return Tested::Stop(Refusal(13, at + Frame::SECOND));
+        return Err(Refusal(Reason::Value, at + Frame::SECOND));
     }
     padding(s, at + Head::LENGTH, filled - Head::LENGTH, s.len())
 }
@@ -40,17 +40,15 @@ fn frame_at(
     i: u32,
     size: usize,
     filled: usize,
-) -> Step
+) -> Result<usize, Refusal>
     requires { FilledFrames base s.now p size filled }
     ensures { FramesOver o base s.now p filled
         (λ t cs. R.frame label size t cs (length s.now - p) i) (Advances p size (length s.now)) result }
 {
-    let opened = open(o, s, base, p, Kind::Frame(label, size, filled, i));
-    let Opened::On(_, end) = opened else {
-        return Step::Stop(of_open(opened));
-    };
+    let (_, end) = open(o, s, base, p, Kind::Frame(label, size, filled, i))?;
     let body = &s[p + Head::LENGTH..end];
-    stops_at(frame_body(o, body, base + p, filled), end)
+    frame_body(o, body, base + p, filled)?;
+    Ok(end)
 }
 
 // So many records 145 from byte `from` of the part s on: where they end.
@@ -63,20 +61,14 @@ pub fn frames_from(
     count: u32,
     size: usize,
     filled: usize,
-) -> Step
+) -> Result<usize, Refusal>
     requires { FilledFrames base s.now from size filled }
     ensures { FramesOver o base s.now from filled
         (λ t cs. R.series count 1 size (length s.now - from) (R.frame label size t cs)) (Advances from (size * count) (length s.now)) result }
 {
     let mut p = from;
-    let mut i: u32 = 0;
-    while i < count {
-        let step = frame_at(o, label, s, base, p, i + 1, size, filled);
-        let Step::On(next) = step else {
-            return step;
-        };
-        p = next;
-        i += 1;
+    for i in 0..count {
+        p = frame_at(o, label, s, base, p, i + 1, size, filled)?;
     }
-    Step::On(p)
+    Ok(p)
 }

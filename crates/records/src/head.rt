@@ -4,23 +4,22 @@ ghost use Rattle.rules.specs.Rules as R;
 ghost use Rattle.records.specs.Asks.{PartAt, Spanned};
 ghost use Rattle.records.specs.Says.{HeadAt};
 
-use crate::Headed;
-use rules::{Head, Refusal};
+use rules::{Head, Reason, Refusal};
 use words::{Order, number4};
 
 // The head of the record at byte p of the part s, which stands at `base` in the file and ends where the record's parent ends.
-pub fn head_at(o: Order, s: &[u8], base: usize, p: usize) -> Headed
+pub fn head_at(o: Order, s: &[u8], base: usize, p: usize) -> Result<Head, Refusal>
     requires { PartAt base s.now p }
     ensures { HeadAt o base s.now p result }
 {
     if s.len() < p + Head::LENGTH {
-        return Headed::Stop(Refusal(10, base + p));
+        return Err(Refusal(Reason::Length, base + p));
     }
     let size = number4(o, s, p);
     let code = number4(o, s, p + Head::CODE);
     let serial = number4(o, s, p + Head::SERIAL);
     let multiplier = number4(o, s, p + Head::MULTIPLIER);
-    Headed::At(Head {
+    Ok(Head {
         at: p,
         size,
         code,

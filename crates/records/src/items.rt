@@ -7,8 +7,8 @@ ghost use Rattle.records.specs.Asks.{PartAt, HeadIn, BodyOf};
 ghost use Rattle.records.specs.Says.{head_of, Beyond, ok_of, tested, StepOver};
 
 use crate::kinds::admit;
-use crate::{Step, Tested, between, field, of_step, stops_at};
-use rules::{Head, Item, Items, Kind, Refusal};
+use crate::{between, field};
+use rules::{Head, Item, Items, Kind, Reason, Refusal};
 use words::{Order, number4};
 
 // The records of items: 130 and 200.
@@ -23,14 +23,7 @@ const KEYWORDS: [u32; 5] = [0, 1, 201, 210, 220];
 fn keyword(x: u32) -> bool
     ensures { result ≡ R.is_in x R.keywords }
 {
-    let mut i: usize = 0;
-    while i < 5 {
-        if x == KEYWORDS[i] {
-            return true;
-        }
-        i += 1;
-    }
-    false
+    KEYWORDS.contains(&x)
 }
 
 fn code_ok(k: Holder, x: u32) -> bool
@@ -65,81 +58,77 @@ fn code_ok(k: Holder, x: u32) -> bool
 }
 
 // The item at byte p of the part s: where the next one starts.
-fn item_at(o: Order, k: Holder, s: &[u8], base: usize, p: usize) -> Step
+fn item_at(o: Order, k: Holder, s: &[u8], base: usize, p: usize) -> Result<usize, Refusal>
     requires { PartAt base s.now p }
     ensures { StepOver o base s.now p (R.item (ok_of k) (length s.now - p)) (Beyond p (length s.now)) result }
 {
     let n = s.len();
     if n < p + Item::LEAST {
-        return Step::Stop(Refusal(10, base + p));
+        return Err(Refusal(Reason::Length, base + p));
     }
     let size = number4(o, s, p) as usize;
     if size < Item::LEAST {
-        return Step::Stop(Refusal(10, base + p));
+        return Err(Refusal(Reason::Length, base + p));
     }
     if Item::LIMIT <= size {
-        return Step::Stop(Refusal(10, base + p));
+        return Err(Refusal(Reason::Length, base + p));
     }
     if n < p + size {
-        return Step::Stop(Refusal(10, base + p));
+        return Err(Refusal(Reason::Length, base + p));
     }
     let code = number4(o, s, p + Item::CODE);
     if code_ok(k, code) {
-        return Step::On(p + size);
+        return Ok(p + size);
     }
-    Step::Stop(Refusal(13, base + p + Item::CODE))
+    Err(Refusal(Reason::Value, base + p + Item::CODE))
 }
 
 // So many items from byte `from` of the part s on: where they end.
-fn items_from(o: Order, k: Holder, s: &[u8], base: usize, from: usize, count: u32) -> Step
+fn items_from(
+    o: Order,
+    k: Holder,
+    s: &[u8],
+    base: usize,
+    from: usize,
+    count: u32,
+) -> Result<usize, Refusal>
     requires { PartAt base s.now from }
     ensures { StepOver o base s.now from
         (R.item_list (ok_of k) count (length s.now - from)) (Beyond from (length s.now)) result }
 {
     let mut p = from;
-    let mut i: u32 = 0;
-    while i < count {
-        let step = item_at(o, k, s, base, p);
-        let Step::On(next) = step else {
-            return step;
-        };
-        p = next;
-        i += 1;
+    for i in 0..count {
+        p = item_at(o, k, s, base, p)?;
     }
-    Step::On(p)
+    Ok(p)
 }
 
 // The body of the record 130 or 200 at `at`.
-fn items_body(o: Order, k: Holder, s: &[u8], at: usize) -> Tested
+fn items_body(o: Order, k: Holder, s: &[u8], at: usize) -> Result<(), Refusal>
     requires { BodyOf 8 at s.now }
     ensures { ends (see o (at + 16) s.now (at + 16) (items_body (ok_of k) (16 + length s.now)))
         ≡ tested result (at + (16 + length s.now)) }
 {
     let count = field(o, s, Items::COUNT);
     if Items::MOST < count {
-        return Tested::Stop(Refusal(13, at + Items::COUNT));
+        return Err(Refusal(Reason::Value, at + Items::COUNT));
     }
-    let taken = items_from(o, k, s, at + Head::LENGTH, Items::BODY_FIRST, count);
-    let Step::On(q) = taken else {
-        return Tested::Stop(of_step(taken));
-    };
+    let q = items_from(o, k, s, at + Head::LENGTH, Items::BODY_FIRST, count)?;
     if q != s.len() {
-        return Tested::Stop(Refusal(14, at + Items::COUNT));
+        return Err(Refusal(Reason::Disagreement, at + Items::COUNT));
     }
-    Tested::Fine
+    Ok(())
 }
 
 // The rest of the record 130 or 200 whose head is h: where it stops.
-pub fn items_at(o: Order, k: Holder, s: &[u8], base: usize, h: Head) -> Step
+pub fn items_at(o: Order, k: Holder, s: &[u8], base: usize, h: Head) -> Result<usize, Refusal>
     requires { HeadIn base s.now h }
     ensures { StepOver o base s.now (h.at + 16)
         (R.items (ok_of k) (length s.now - h.at) (head_of h)) (Beyond (h.at + 24) (length s.now)) result }
 {
-    let room = admit(h, base, s.len(), Kind::Items(h.code));
-    let Step::On(end) = room else {
-        return room;
-    };
+    let end = admit(h, base, s.len(), Kind::Items(h.code))?;
     let p = h.at;
     let body = &s[p + Head::LENGTH..end];
-    stops_at(items_body(o, k, body, base + p), end)
+    items_body(o, k, body, base + p)?;
+    Ok(end)
 }

@@ -4,13 +4,13 @@ ghost use Rattle.words.specs.declared.Order.{Order};
 ghost use Rattle.walk.specs.See.{see};
 ghost use Rattle.rules.specs.Rules as R;
 ghost use Rattle.records.specs.Asks.{PartAt, HeadUpTo, HeadOfMost};
-ghost use Rattle.records.specs.Says.{refusal_o, OpenAt, head_of, codes_of, fits_of, serial_of, as_rule, loose, rule_of, admitted, Fitting, AdmittedBy};
+ghost use Rattle.records.specs.Says.{OpenAt, head_of, codes_of, fits_of, serial_of, as_rule, loose, rule_of, admitted, Fitting, AdmittedBy};
 
 use crate::head::{head_at, span};
 use crate::makers::maker_code;
-use crate::{Headed, Step, less, of_head, of_step, pad_ok};
+use crate::{less, pad_ok};
 use rules::{
-    Basic, Channel, Channels, Frame, Frames, Head, Items, Kind, Maker, Recording, Refusal,
+    Basic, Channel, Channels, Frame, Frames, Head, Items, Kind, Maker, Reason, Recording, Refusal,
 };
 use versions::most_of;
 use words::Order;
@@ -31,27 +31,13 @@ pub enum Fits {
     Frame(usize, usize),
 }
 
-// The rule on a record's serial.
-#[derive(Clone, Copy)]
-pub enum Serial {
-    Any,
-    Is(u32),
-}
-
-// A record's head and where the record stops, or the refusal.
-#[derive(Clone, Copy)]
-pub enum Opened {
-    On(Head, usize),
-    Stop(Refusal),
-}
-
 // What is fixed about a kind of record: the code, the largest multiplier, the length and the serial.
 #[derive(Clone, Copy)]
 pub struct Rule {
     pub code: Code,
     pub most: u32,
     pub fits: Fits,
-    pub serial: Serial,
+    pub serial: Option<u32>,
 }
 
 // The length n of a record with the head h.
@@ -70,12 +56,12 @@ fn length_ok(f: Fits, h: Head, n: usize) -> bool
     }
 }
 
-fn serial_ok(i: Serial, n: u32) -> bool
+fn serial_ok(i: Option<u32>, n: u32) -> bool
     ensures { result ≡ serial_of i n }
 {
     match i {
-        Serial::Any => true,
-        Serial::Is(m) => m == n,
+        None => true,
+        Some(m) => m == n,
     }
 }
 
@@ -87,7 +73,7 @@ fn exact_rule(length: usize, code: u32, serial: u32) -> Rule
         code: Code::Is(code),
         most: 0,
         fits: Fits::Exactly(length),
-        serial: Serial::Is(serial),
+        serial: Some(serial),
     }
 }
 
@@ -99,7 +85,7 @@ fn least_rule(length: usize, code: u32, most: u32, serial: u32) -> Rule
         code: Code::Is(code),
         most,
         fits: Fits::AtLeast(length),
-        serial: Serial::Is(serial),
+        serial: Some(serial),
     }
 }
 
@@ -111,7 +97,7 @@ fn loose_rule(code: Code, most: u32) -> Rule
         code,
         most,
         fits: Fits::AtLeast(Maker::LEAST),
-        serial: Serial::Any,
+        serial: None,
     }
 }
 
@@ -132,7 +118,7 @@ fn rule_of(kind: Kind) -> Rule
             code: Code::Is(Frame::CODE),
             most: most_of(label),
             fits: Fits::Frame(size, filled),
-            serial: Serial::Is(i),
+            serial: Some(i),
         },
         Kind::Maker(label) => loose_rule(Code::Makers, most_of(label)),
         Kind::Any => loose_rule(Code::Any, Head::MOST),
@@ -140,33 +126,40 @@ fn rule_of(kind: Kind) -> Rule
 }
 
 // The multiplier, the length and the serial of a record in a part of n bytes that stands at `base`: where the record stops.
-fn admit_with(h: Head, base: usize, n: usize, most: u32, f: Fits, i: Serial) -> Step
+fn admit_with(
+    h: Head,
+    base: usize,
+    n: usize,
+    most: u32,
+    f: Fits,
+    i: Option<u32>,
+) -> Result<usize, Refusal>
     requires { HeadOfMost most base n h }
     ensures { ((o : Order) (b : ℕ) (s : List ℕ) →
         see o b s (base + (h.at + 16)) (R.admit (n - h.at) most (fits_of f h.multiplier) (serial_of i) (head_of h))
         ≡ admitted result (base + (h.at + 16))) × Fitting h f n result }
 {
     if most < h.multiplier {
-        return Step::Stop(Refusal(11, base + h.at + Head::MULTIPLIER));
+        return Err(Refusal(Reason::Multiplier, base + h.at + Head::MULTIPLIER));
     }
     if Head::LIMIT <= h.size {
-        return Step::Stop(Refusal(10, base + h.at));
+        return Err(Refusal(Reason::Length, base + h.at));
     }
     let length = span(h);
     if !length_ok(f, h, length) {
-        return Step::Stop(Refusal(10, base + h.at));
+        return Err(Refusal(Reason::Length, base + h.at));
     }
     if n < h.at + length {
-        return Step::Stop(Refusal(10, base + h.at));
+        return Err(Refusal(Reason::Length, base + h.at));
     }
     if !serial_ok(i, h.serial) {
-        return Step::Stop(Refusal(12, base + h.at + Head::SERIAL));
+        return Err(Refusal(Reason::Serial, base + h.at + Head::SERIAL));
     }
-    Step::On(h.at + length)
+    Ok(h.at + length)
 }
 
 // The same by the record's kind.
-pub fn admit(h: Head, base: usize, n: usize, kind: Kind) -> Step
+pub fn admit(h: Head, base: usize, n: usize, kind: Kind) -> Result<usize, Refusal>
     requires { HeadUpTo base n h }
     ensures { AdmittedBy h base n kind result }
 {
@@ -196,30 +189,15 @@ pub fn has_code(kind: Kind, code: u32) -> bool
     code_fits(codes, code)
 }
 
-pub fn of_open(a: Opened) -> Refusal
-    ensures { result ≡ refusal_o a }
-{
-    match a {
-        Opened::On(_, _) => Refusal(0, 0),
-        Opened::Stop(r) => r,
-    }
-}
-
-// The record of this kind at byte p of the part s, up to its body: its head is read, has the kind's code, and is admitted.
-pub fn open(o: Order, s: &[u8], base: usize, p: usize, kind: Kind) -> Opened
+// The record of this kind at byte p of the part s, up to its body: its head is read, has the kind's code, and is admitted. The head, and where the record stops.
+pub fn open(o: Order, s: &[u8], base: usize, p: usize, kind: Kind) -> Result<(Head, usize), Refusal>
     requires { PartAt base s.now p }
     ensures { OpenAt o base s.now p kind result }
 {
-    let found = head_at(o, s, base, p);
-    let Headed::At(h) = found else {
-        return Opened::Stop(of_head(found));
-    };
+    let h = head_at(o, s, base, p)?;
     if !has_code(kind, h.code) {
-        return Opened::Stop(Refusal(9, base + p + Head::CODE));
+        return Err(Refusal(Reason::Code, base + p + Head::CODE));
     }
-    let room = admit(h, base, s.len(), kind);
-    let Step::On(end) = room else {
-        return Opened::Stop(of_step(room));
-    };
-    Opened::On(h, end)
+    let end = admit(h, base, s.len(), kind)?;
+    Ok((h, end))
 }

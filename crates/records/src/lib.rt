@@ -17,67 +17,10 @@ ghost use Rattle.words.specs.Numbers.{number_at};
 ghost use Rattle.walk.specs.See.{see};
 ghost use Rattle.rules.specs.Rules as R;
 ghost use Rattle.records.specs.Asks.{BytesIn, FieldIn};
-ghost use Rattle.records.specs.Says.{tested, ended, refusal_h, refusal_s, refusal_t};
+ghost use Rattle.records.specs.Says.{tested};
 
-use rules::{Head, Refusal};
+use rules::{Head, Reason, Refusal};
 use words::{Order, first_nonzero, number2, number4};
-
-#[derive(Clone, Copy)]
-pub enum Headed {
-    At(Head),
-    Stop(Refusal),
-}
-
-// The position where to go on, or the refusal.
-#[derive(Clone, Copy)]
-pub enum Step {
-    On(usize),
-    Stop(Refusal),
-}
-
-// Tests that hold, or the refusal.
-#[derive(Clone, Copy)]
-pub enum Tested {
-    Fine,
-    Stop(Refusal),
-}
-
-pub fn of_head(a: Headed) -> Refusal
-    ensures { result ≡ refusal_h a }
-{
-    match a {
-        Headed::At(_) => Refusal(0, 0),
-        Headed::Stop(r) => r,
-    }
-}
-
-pub fn of_step(a: Step) -> Refusal
-    ensures { result ≡ refusal_s a }
-{
-    match a {
-        Step::On(_) => Refusal(0, 0),
-        Step::Stop(r) => r,
-    }
-}
-
-// A record whose body was tested stops at `end`.
-pub fn stops_at(held: Tested, end: usize) -> Step
-    ensures { result ≡ ended held end }
-{
-    match held {
-        Tested::Fine => Step::On(end),
-        Tested::Stop(r) => Step::Stop(r),
-    }
-}
-
-pub fn of_test(a: Tested) -> Refusal
-    ensures { result ≡ refusal_t a }
-{
-    match a {
-        Tested::Fine => Refusal(0, 0),
-        Tested::Stop(r) => r,
-    }
-}
 
 pub fn between(low: u32, high: u32, n: u32) -> bool
     ensures { result ≡ R.between low high n }
@@ -92,10 +35,7 @@ pub fn between(low: u32, high: u32, n: u32) -> bool
 pub fn less(n: usize, m: usize) -> usize
     ensures { result ≡ n - m }
 {
-    if n < m {
-        return 0;
-    }
-    n - m
+    n.saturating_sub(m)
 }
 
 // Padding of n bytes is shorter than the multiplier, and none where that is 0.
@@ -125,31 +65,21 @@ pub fn short_field(o: Order, s: &[u8], offset: usize) -> u32
 }
 
 // The bytes of s from `from` up to `to` are zero.
-pub fn padding(s: &[u8], base: usize, from: usize, to: usize) -> Tested
+pub fn padding(s: &[u8], base: usize, from: usize, to: usize) -> Result<(), Refusal>
     requires { BytesIn base s.now from to }
     ensures { (o : Order) → see o base s.now (base + from) (R.padding (to - from)) ≡ tested result (base + to) }
 {
     let pad = &s[from..to];
     let zeros = first_nonzero(pad);
     if zeros < pad.len() {
-        return Tested::Stop(Refusal(15, base + from + zeros));
+        return Err(Refusal(Reason::Padding, base + from + zeros));
     }
-    Tested::Fine
+    Ok(())
 }
 
 // Whether two byte strings are the same.
 pub fn same(a: &[u8], b: &[u8]) -> bool
     ensures { result ≡ R.same_bytes a.now b.now }
 {
-    if a.len() != b.len() {
-        return false;
-    }
-    let mut i = 0;
-    while i < a.len() {
-        if a[i] != b[i] {
-            return false;
-        }
-        i += 1;
-    }
-    true
+    a == b
 }

@@ -6,8 +6,7 @@ ghost use Rattle.records.specs.Says.{NextHead};
 
 use crate::head::head_at;
 use crate::kinds::admit;
-use crate::{Headed, Step, of_step};
-use rules::{Head, Kind, Label, Maker};
+use rules::{Head, Kind, Label, Maker, Refusal};
 use words::Order;
 
 pub fn maker_code(n: u32) -> bool
@@ -20,23 +19,22 @@ pub fn maker_code(n: u32) -> bool
 }
 
 // The head of the first record from byte `from` on that is no maker's own.
-pub fn next_head(o: Order, label: Label, s: &[u8], base: usize, from: usize) -> Headed
+pub fn next_head(
+    o: Order,
+    label: Label,
+    s: &[u8],
+    base: usize,
+    from: usize,
+) -> Result<Head, Refusal>
     requires { PartAt base s.now from }
     ensures { NextHead o label base s.now from result }
 {
     let mut p = from;
     loop {
-        let found = head_at(o, s, base, p);
-        let Headed::At(h) = found else {
-            return found;
-        };
+        let h = head_at(o, s, base, p)?;
         if !maker_code(h.code) {
-            return found;
+            return Ok(h);
         }
-        let room = admit(h, base, s.len(), Kind::Maker(label));
-        let Step::On(end) = room else {
-            return Headed::Stop(of_step(room));
-        };
-        p = end;
+        p = admit(h, base, s.len(), Kind::Maker(label))?;
     }
 }

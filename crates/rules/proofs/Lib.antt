@@ -25,3 +25,4 @@ pub mod Chosen
 pub mod Here
 pub mod Digits
 pub mod CanonicalForm
+pub mod Handed

@@ -6,3 +6,4 @@ pub mod CanonicalForm
 pub mod Canonical
 pub mod Worked
 pub mod Places
+pub mod Reasons

@@ -1,11 +1,73 @@
 // Document 01's record kinds: what the code keeps of each, its code, its length and the offsets of its fields.
 #![tactic(auto)]
 
+ghost use Rattle.std.specs.Prelude.{◌≡◌};
+ghost use Rattle.rules.specs.Reasons.{number};
+
 use words::Order;
 
-// A refusal: document 01's number, and the position in the file.
-#[derive(Clone, Copy)]
-pub struct Refusal(pub u32, pub usize);
+// Why a file or a question is refused, in the order of document 01's numbers, 1 to 19.
+#[derive(Clone, Copy, Debug, PartialEq, Eq)]
+pub enum Reason {
+    // The file is shorter than its header.
+    Short,
+    // The header's fields, by their places.
+    Identifier,
+    Version,
+    Form,
+    Order,
+    Script,
+    Count,
+    Spaces,
+    // A record's head, by its fields: a code that may not stand there, a length, a multiplier, a serial.
+    Code,
+    Length,
+    Multiplier,
+    Serial,
+    // A field outside its values, or one that disagrees with another.
+    Value,
+    Disagreement,
+    // Padding that is not zero, and bytes behind the last recording.
+    Padding,
+    Behind,
+    // Not the file's: the buffer is too short, a maker's record stands in the way, a question is outside its range.
+    Room,
+    Maker,
+    Range,
+}
+
+impl Reason {
+    // Document 01's number.
+    pub fn number(self) -> u32
+        ensures { result ≡ number self }
+    {
+        match self {
+            Reason::Short => 1,
+            Reason::Identifier => 2,
+            Reason::Version => 3,
+            Reason::Form => 4,
+            Reason::Order => 5,
+            Reason::Script => 6,
+            Reason::Count => 7,
+            Reason::Spaces => 8,
+            Reason::Code => 9,
+            Reason::Length => 10,
+            Reason::Multiplier => 11,
+            Reason::Serial => 12,
+            Reason::Value => 13,
+            Reason::Disagreement => 14,
+            Reason::Padding => 15,
+            Reason::Behind => 16,
+            Reason::Room => 17,
+            Reason::Maker => 18,
+            Reason::Range => 19,
+        }
+    }
+}
+
+// A refusal: the reason, and the position in the file.
+#[derive(Clone, Copy, Debug, PartialEq, Eq)]
+pub struct Refusal(pub Reason, pub usize);
 
 // The spelling of the format's name in the first eight bytes: the standard's, or the society's abbreviation.
 #[derive(Clone, Copy)]

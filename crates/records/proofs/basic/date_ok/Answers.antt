@@ -1,5 +1,8 @@
 -- `records::basic::date_ok` meets its contract: the three numbers are judged as a date, and each fault is a refusal at its own field.
 -- Assumes nothing.
+use Rattle.rules.specs.declared.Reason.TheVariants as Reason
+use Rattle.rules.specs.declared.Refusal.{Refusal}
+use Rattle.std.proofs.Common.{Result, Ok, Err}
 use mathlib.Core.Path.{◌≡◌, refl, sym, ◌∙◌, ap}
 use mathlib.Core.Bool.{Bool, true, false}
 use mathlib.Core.List.{List}
@@ -11,16 +14,15 @@ use Rattle.rules.specs.Rules as R
 use Rattle.dates.specs.Dates.{first_wrong, date_of}
 use Rattle.dates.specs.declared.DateJudged.{DateJudged}
 use Rattle.records.specs.Says.{resumed, date_tested}
-use Rattle.records.specs.declared.Tested.{Tested}
 use Rattle.records.proofs.basic.date_ok.Goals as goal
 use Rattle.records.proofs.basic.date_ok.Goals.{After-judge_date-judged}
 
 -- the refusal of each fault, in the 100 at this place
-abbrev refused : ℕ → DateJudged → Tested
-refused at DateJudged.Fine = Tested.Fine
-refused at DateJudged.WrongYear = Tested.Stop (record { 0 = 13; 1 = at + 32 })
-refused at DateJudged.WrongMonth = Tested.Stop (record { 0 = 13; 1 = at + 36 })
-refused at DateJudged.WrongDay = Tested.Stop (record { 0 = 13; 1 = at + 40 })
+abbrev refused : ℕ → DateJudged → Result (Unit {0}) Refusal
+refused at DateJudged.Fine = (Ok tt)
+refused at DateJudged.WrongYear = Err (record { 0 = Reason.Value; 1 = at + 32 })
+refused at DateJudged.WrongMonth = Err (record { 0 = Reason.Value; 1 = at + 36 })
+refused at DateJudged.WrongDay = Err (record { 0 = Reason.Value; 1 = at + 40 })
 
 -- the of three tests that fails
 gated : (at : ℕ) (a b c : Bool) (K : Verdict R.Basic) → gate a (gate b (gate c K 13 (at + 40)) 13 (at + 36)) 13 (at + 32) ≡ resumed (refused at (first_wrong a b c)) K

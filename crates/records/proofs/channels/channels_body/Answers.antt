@@ -1,4 +1,5 @@
 -- `records::channels::channels_body` meets its contract: one case for each test, and the channels. Assumes nothing.
+use Rattle.rules.proofs.Handed.{handed}
 use lib.ListN.{length}
 use Prim.Native.Nat.{ℕ, ◌+◌, ◌-◌}
 use mathlib.Core.Path.{◌≡◌, ap, ◌∙◌}
@@ -27,17 +28,18 @@ unfolding channels_body
 returns-then-field-ne-SIZE c =
     simp (walks, ne_eqb _ _ c.if-field-ne-SIZE.true, ← c.field.ensures.0, eq-eqb _ _ c.if-n-m.false, c.if-not-counts_ok.false, ← c.counts_ok.ensures, c.if-not-between.false, ← c.between.ensures, ← c.field-m.ensures.0)
 
-pub returns-in_default : goal.returns-in_default
+pub returns-in_err-channels_from : goal.returns-in_err-channels_from
 unfolding channels_body
-returns-in_default c =
-    let r : 16 + length c.args.s.now - 32 ≡ length c.args.s.now - 16 = omega arith in
-    simp (walks, r, c.in_default.is, c.of_step.ensures, eq-eqb _ _ c.if-field-ne-SIZE.false, ← c.field.ensures.0, eq-eqb _ _ c.if-n-m.false, c.if-not-counts_ok.false, ← c.counts_ok.ensures, c.if-not-between.false, ← c.between.ensures, ← c.field-m.ensures.0) (simp places at (rw c.in_default.is at c.channels_from-taken.ensures.seen))
+returns-in_err-channels_from c =
+    rw (handed _ c.from_residual.ensures)
+    (let r : 16 + length c.args.s.now - 32 ≡ length c.args.s.now - 16 = omega arith in
+    simp (walks, r, c.in_err-channels_from.was, eq-eqb _ _ c.if-field-ne-SIZE.false, ← c.field.ensures.0, eq-eqb _ _ c.if-n-m.false, c.if-not-counts_ok.false, ← c.counts_ok.ensures, c.if-not-between.false, ← c.between.ensures, ← c.field-m.ensures.0) (simp places at (c.in_err-channels_from.ensures.seen)))
 
 pub returns : goal.returns
 unfolding channels_body
 returns c =
     let x = c in
     let z = x in
-    let v = rw c.in-On.is at c.channels_from-taken.ensures.stands in
+    let v = c.in_ok-channels_from.ensures.stands in
     let r : 16 + length z.args.s.now - 32 ≡ length z.args.s.now - 16 = omega arith in
-    simp (walks, r, eq-eqb _ _ c.if-field-ne-SIZE.false, ← c.field.ensures.0, eq-eqb _ _ c.if-n-m.false, c.if-not-counts_ok.false, ← c.counts_ok.ensures, x.if-not-between.false, ← x.between.ensures, ← x.field-m.ensures.0) (simp places at (rw c.in-On.is at c.channels_from-taken.ensures.seen) ∙ ap (λ (x : ℕ). goes tt x) (omega arith))
+    simp (walks, r, eq-eqb _ _ c.if-field-ne-SIZE.false, ← c.field.ensures.0, eq-eqb _ _ c.if-n-m.false, c.if-not-counts_ok.false, ← c.counts_ok.ensures, x.if-not-between.false, ← x.between.ensures, ← x.field-m.ensures.0) (simp places at (c.in_ok-channels_from.ensures.seen) ∙ ap (λ (x : ℕ). goes tt x) (omega arith))

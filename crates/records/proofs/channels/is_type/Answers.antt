@@ -27,7 +27,7 @@ twenty v = all (allows v).twenty
     all false = refl
 
 pub returns-then-n-eq20 : goal.returns-then-n-eq20
-returns-then-n-eq20 c = ap (λ (a : Allows). a.twenty) c.allows-allowed.ensures ∙ (sym (twenty _) ∙ ap (is_type _) (sym c.if-n-eq20.true))
+returns-then-n-eq20 c = ap (λ (a : Allows). a.twenty) c.allows.ensures ∙ (sym (twenty _) ∙ ap (is_type _) (sym c.if-n-eq20.true))
 
 pub returns : goal.returns
 returns c = sym (other c.args.v c.args.n (ne_eqb c.args.n 20 c.if-n-eq20.false))

@@ -9,7 +9,4 @@ use Prim.Native.Nat.{◌-◌, ◌≤◌, ◌+◌, ◌*◌}
 use Rattle.records.proofs.channels.sample_bytes.Given as goal
 
 abbrev pub invariant-loop-i : goal.invariant-loop-i
-invariant-loop-i l = (l.i ≤ l.m) × (l.p ≡ l.subs + 256 * l.i) × (l.sum ≤ 61847529062400 * l.i) × ((cs : List R.Channel) → length cs ≡ l.m → Kept l.o l.s l.subs cs → Rest l.o l.s l.p l.t (l.m - l.i) l.sum cs)
-
-abbrev pub decreases-loop-i : goal.decreases-loop-i
-decreases-loop-i l = l.m - l.i
+invariant-loop-i l = (l._i ≤ l.m) × (l.p ≡ l.subs + 256 * l._i) × (l.sum ≤ 61847529062400 * l._i) × ((cs : List R.Channel) → length cs ≡ l.m → Kept l.o l.s l.subs cs → Rest l.o l.s l.p l.t (l.m - l._i) l.sum cs)

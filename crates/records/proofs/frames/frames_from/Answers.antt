@@ -1,4 +1,5 @@
 -- `records::frames::frames_from` meets its contract: the frames up to i are passed. Assumes nothing.
+use Rattle.rules.proofs.Handed.{handed}
 use Rattle.records.proofs.Steps.{series-stop, series-go, series-none}
 use borrow.Author.Rules.{rules}
 use native.Mathlib.Numerals.{add-one}
@@ -11,15 +12,15 @@ use Rattle.records.proofs.frames.frames_from.Goals as goal
 pub loop-i-init : goal.loop-i-init
 loop-i-init c = (search rules, omega arith, search rules, λ t cs e. simp sub-zero)
 
-pub returns-in_default : goal.returns-in_default
-returns-in_default c =
-    simp c.in_default.is (record { seen = (λ t cs e. c.loop-i.invariant.3 t cs e ∙ series-stop _ _ _ _ _ _ _ _ _ _ _ c.loop-i-test.true (rw c.in_default.is at (c.frame_at-step.ensures.seen t cs e))); stands = tt })
+pub returns-in_err-p : goal.returns-in_err-p
+returns-in_err-p c =
+    rw (handed _ c.from_residual.ensures) (record { seen = (λ t cs e. c.loop-i.invariant.3 t cs e ∙ series-stop _ _ _ _ _ _ _ _ _ _ _ c.loop-i-test.true ((c.in_err-p.ensures.seen t cs e))); stands = tt })
 
 pub loop-i-preserved : goal.loop-i-preserved
 loop-i-preserved c =
-    let v = rw c.in-On.is at c.frame_at-step.ensures.stands in
+    let v = c.in_ok-p.ensures.stands in
     let m : c.args.size * (c.loop-i.i + 1) ≡ c.args.size * c.loop-i.i + c.args.size = rw add-one (mul-suc c.args.size c.loop-i.i) in
-    (search rules, omega arith, v.1, λ t cs e. c.loop-i.invariant.3 t cs e ∙ series-go _ _ _ _ _ _ _ _ _ c.loop-i-test.true v.0 (rw c.in-On.is at (c.frame_at-step.ensures.seen t cs e)))
+    (search rules, omega arith, v.1, λ t cs e. c.loop-i.invariant.3 t cs e ∙ series-go _ _ _ _ _ _ _ _ _ c.loop-i-test.true v.0 ((c.in_ok-p.ensures.seen t cs e)))
 
 pub returns : goal.returns
 returns c =

@@ -1,4 +1,5 @@
 -- `records::items::items_body` meets its contract: the count, the items, and where they end. Assumes nothing.
+use Rattle.rules.proofs.Handed.{handed}
 use Prim.Native.Nat.{ℕ, ◌+◌}
 use lib.Dec.{eqb}
 use lib.ListN.{length}
@@ -11,28 +12,28 @@ use Rattle.records.proofs.Steps.{items-many, items-stop, items-end}
 use native.Mathlib.Omega.{arith}
 use borrow.Author.Tests.{eq-eqb}
 use Rattle.records.proofs.items.items_body.Goals as goal
-use Rattle.records.proofs.items.items_body.Goals.{In-On}
+use Rattle.records.proofs.items.items_body.Goals.{In_ok-q}
 
 -- the items are as many as the count says: what their end decides
-passed : (x : In-On) →
+passed : (x : In_ok-q) →
     let a = x.args in
     let s = a.s.now in
-    let q = x.in-On.q in
+    let q = x.in_ok-q.q in
     ends (see a.o (a.at + 16) s (a.at + 16) (items_body (ok_of a.k) (16 + length s))) ≡ gate (eqb q (length s)) (goes tt (a.at + 16 + q)) 14 (a.at + 16)
 passed x =
     let n = x.field-count.ensures.0 in
-    items-end _ _ _ _ _ (simp (tests, ← n, x.if-count-gt-MOST.false)) x.requires.long (rw (x.in-On.is, n) at x.items_from-taken.ensures.seen)
+    items-end _ _ _ _ _ (simp (tests, ← n, x.if-count-gt-MOST.false)) x.requires.long (rw n at x.in_ok-q.ensures.seen)
 
 pub returns-then-count-gt-MOST : goal.returns-then-count-gt-MOST
 returns-then-count-gt-MOST c = items-many _ _ _ _ (simp (tests, ← c.field-count.ensures.0, c.if-count-gt-MOST.true))
 
-pub returns-in_default : goal.returns-in_default
-returns-in_default c =
+pub returns-in_err-q : goal.returns-in_err-q
+returns-in_err-q c =
     let n = c.field-count.ensures.0 in
-    simp (c.of_step.ensures, c.in_default.is) (items-stop _ _ _ _ (simp (tests, ← n, c.if-count-gt-MOST.false)) (rw (c.in_default.is, n) at c.items_from-taken.ensures.seen))
+    rw (handed _ c.from_residual.ensures) (items-stop _ _ _ _ (simp (tests, ← n, c.if-count-gt-MOST.false)) (rw n at c.in_err-q.ensures.seen))
 
 pub returns-then-q-s : goal.returns-then-q-s
-returns-then-q-s c = passed (goal.at.returns-then-q-s c).In-On ∙ simp (gates, tests, c.if-q-s.true)
+returns-then-q-s c = passed (goal.at.returns-then-q-s c).In_ok-q ∙ simp (gates, tests, c.if-q-s.true)
 
 pub returns : goal.returns
-returns c = passed (goal.at.returns c).In-On ∙ simp (gates, tests, eq-eqb _ _ c.if-q-s.false) (ap (λ (x : ℕ). goes tt x) (omega arith))
+returns c = passed (goal.at.returns c).In_ok-q ∙ simp (gates, tests, eq-eqb _ _ c.if-q-s.false) (ap (λ (x : ℕ). goes tt x) (omega arith))

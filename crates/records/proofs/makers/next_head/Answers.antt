@@ -1,4 +1,6 @@
 -- `records::makers::next_head` meets its contract: the makers' records up to p are passed. Assumes nothing.
+use Rattle.std.proofs.Common.{Ok}
+use Rattle.rules.proofs.Handed.{handed}
 use Rattle.records.proofs.Laws.{fueled-stop, fueled-done, fueled-refused, fueled-more}
 use lib.ListN.{length}
 use mathlib.Core.Path.{◌≡◌, ◌∙◌, sym, refl}
@@ -6,31 +8,30 @@ use mathlib.Core.Bool.{true}
 use Rattle.walk.specs.See.{see}
 use Rattle.rules.specs.Rules.{head, maker_code}
 use Rattle.records.specs.Says.{headed, HeadPlaced}
-use Rattle.records.specs.declared.Headed.TheVariants as Headed
 use Prim.Native.Nat.{◌-◌, ◌+◌}
 use native.Mathlib.Omega.{arith}
 use borrow.Author.Rules.{rules}
 use Rattle.records.proofs.makers.next_head.Goals as goal
-use Rattle.records.proofs.makers.next_head.Goals.{After-admit-room, After-maker_code}
+use Rattle.records.proofs.makers.next_head.Goals.{After-admit, After-maker_code}
 
 -- the head that was read: where it stands, and what the walk comes to there
-placed : (x : After-maker_code) → HeadPlaced x.loop-h.p (length x.args.s.now) (Headed.At x.in-At.h)
-placed x = rw x.in-At.is at x.head_at-found.ensures.stands
+placed : (x : After-maker_code) → HeadPlaced x.loop-h.p (length x.args.s.now) (Ok x.in_ok-h.h)
+placed x = x.in_ok-h.ensures.stands
 
 read : (x : After-maker_code) →
     let a = x.args in
-    see a.o a.base a.s.now (a.base + x.loop-h.p) (head (length a.s.now - x.loop-h.p)) ≡ headed a.base (Headed.At x.in-At.h)
-read x = rw x.in-At.is at x.head_at-found.ensures.seen
+    see a.o a.base a.s.now (a.base + x.loop-h.p) (head (length a.s.now - x.loop-h.p)) ≡ headed a.base (Ok x.in_ok-h.h)
+read x = x.in_ok-h.ensures.seen
 
 -- it is a maker's
-made : (y : After-admit-room) → maker_code y.in-At.h.code ≡ true
+made : (y : After-admit) → maker_code y.in_ok-h.h.code ≡ true
 made y = sym y.maker_code.ensures ∙ y.if-not-maker_code.false
 
 pub loop-h-init : goal.loop-h-init
 loop-h-init c = (search rules, c.requires.low, λ fuel h. record { left = fuel; enough = h; same = refl })
 
-pub returns-in_default : goal.returns-in_default
-returns-in_default c = simp c.in_default.is (record { seen = (λ fuel h. fueled-stop (c.loop-h.invariant.2 fuel h) c.loop-h.invariant.1 (rw c.in_default.is at c.head_at-found.ensures.seen)); stands = tt })
+pub returns-in_err-h : goal.returns-in_err-h
+returns-in_err-h c = rw (handed _ c.from_residual.ensures) (record { seen = (λ fuel h. fueled-stop (c.loop-h.invariant.2 fuel h) c.loop-h.invariant.1 (c.in_err-h.ensures.seen)); stands = tt })
 
 pub returns-then-not-maker_code : goal.returns-then-not-maker_code
 returns-then-not-maker_code c =
@@ -38,20 +39,20 @@ returns-then-not-maker_code c =
     let inv = c.loop-h.invariant in
     record { seen = (λ fuel h. fueled-done (inv.2 fuel h) inv.1 (read (goal.at.returns-then-not-maker_code c).After-maker_code) _ w.0 (sym c.maker_code.ensures ∙ (c.if-not-maker_code.true))); stands = record { low = omega arith; inside = omega arith } }
 
-pub admit-room-requires : goal.admit-room-requires
-admit-room-requires c = let w = placed (goal.at.admit-room-requires c).After-maker_code in search rules
+pub admit-requires : goal.admit-requires
+admit-requires c = let w = placed (goal.at.admit-requires c).After-maker_code in search rules
 
-pub returns-in_default-room : goal.returns-in_default-room
-returns-in_default-room c =
-    let a = c.args in
+pub returns-in_err-p : goal.returns-in_err-p
+returns-in_err-p c =
+    rw (handed _ c.from_residual-in_err-p.ensures)
+    (let a = c.args in
     let inv = c.loop-h.invariant in
-    simp (c.of_step.ensures, c.in_default-room.is)
-    (record { seen = (λ fuel h. fueled-refused (inv.2 fuel h) inv.1 (read (goal.at.returns-in_default-room c).After-maker_code) _ (placed (goal.at.returns-in_default-room c).After-maker_code).0 (made (goal.at.returns-in_default-room c).After-admit-room) (rw c.in_default-room.is at (c.admit-room.ensures.seen a.o a.base a.s.now))); stands = tt })
+    (record { seen = (λ fuel h. fueled-refused (inv.2 fuel h) inv.1 (read (goal.at.returns-in_err-p c).After-maker_code) _ (placed (goal.at.returns-in_err-p c).After-maker_code).0 (made (goal.at.returns-in_err-p c).After-admit) ((c.in_err-p.ensures.seen a.o a.base a.s.now))); stands = tt }))
 
 pub loop-h-smaller : goal.loop-h-smaller
 loop-h-smaller c =
     let w = placed (goal.at.loop-h-smaller c).After-maker_code in
-    let v = rw c.in-On.is at c.admit-room.ensures.stands in
+    let v = c.in_ok-p.ensures.stands in
     omega arith
 
 pub loop-h-preserved : goal.loop-h-preserved
@@ -59,5 +60,5 @@ loop-h-preserved c =
     let a = c.args in
     let inv = c.loop-h.invariant in
     let w = placed (goal.at.loop-h-preserved c).After-maker_code in
-    let v = rw c.in-On.is at c.admit-room.ensures.stands in
-    (omega arith, omega arith, λ fuel h. fueled-more (inv.2 fuel h) inv.1 (read (goal.at.loop-h-preserved c).After-maker_code) _ w.0 (made (goal.at.loop-h-preserved c).After-admit-room) (rw c.in-On.is at (c.admit-room.ensures.seen a.o a.base a.s.now)) _ (omega arith) (omega arith) v.2)
+    let v = c.in_ok-p.ensures.stands in
+    (omega arith, omega arith, λ fuel h. fueled-more (inv.2 fuel h) inv.1 (read (goal.at.loop-h-preserved c).After-maker_code) _ w.0 (made (goal.at.loop-h-preserved c).After-admit) ((c.in_ok-p.ensures.seen a.o a.base a.s.now)) _ (omega arith) (omega arith) v.2)
