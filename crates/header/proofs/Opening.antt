@@ -1,5 +1,6 @@
 -- What the walk of the file header comes to, and what its texts say, byte by byte.
 -- Assumes nothing.
+use Rattle.std.proofs.Common.{Some, None}
 use mathlib.Core.Path.{◌≡◌, refl, ap, ◌∙◌}
 use mathlib.Core.Bool.{Bool, true, false, ◌&&◌}
 use mathlib.Core.List.{List, [], ◌∷◌, map}
@@ -10,7 +11,8 @@ use native.Mathlib.Numerals.{add-one}
 use native.Mathlib.Omega.{arith, pow_step}
 use borrow.Author.Tests.{eq-eqb, ne_eqb, eqb-true}
 use lib.Dec.{leb, eqb}
-use lib.ListN.{length, get_or, drop, drop_of_length-le}
+use lib.ListN.{length, get_or, take, drop, length-drop, drop_of_length-le}
+use Rattle.std.proofs.lemmas.List.{take_all}
 use lib.Seq.{drop-cons, get_or-take, get_or-drop}
 use Rattle.words.specs.Numbers.{bytes_at}
 use Rattle.words.specs.declared.Order.{Order}
@@ -22,7 +24,6 @@ use Rattle.walk.proofs.Laid.{laid-text}
 use Rattle.rules.specs.Rules.{between, same_bytes, one_of, is_spelling, spelling_of, is_version, version_of, is_form, form_of, all_spaces, is_digit, decimal, count_of, count_fits, count_is, is_script, FileHeader, file_header, order_of}
 use Rattle.header.specs.Letters.{lettered}
 use Rattle.header.specs.Opened.{names}
-use Rattle.header.specs.declared.Lettered.{Lettered}
 
 -- which of several things bytes name, by the answer of the comparison with the text of the first
 module _ {A : Type 0} (text : A → List ℕ) (a b : A) (others : List A) (bs : List ℕ) (x : Bool) (is : x ≡ same_bytes bs (text a)) where
@@ -61,6 +62,10 @@ module _ (s : List ℕ) (i : ℕ) where
   pub spaces-not : i < length s → (get_or s i 0 ≡ 32 → ⊥) → all_spaces (drop i s) ≡ false
   unfolding all_spaces
   spaces-not h e = rw (drop-cons s i 0 h, ne_eqb (get_or s i 0) 32 e)
+
+-- the bytes from i on, as a part of the code's
+pub spaces-rest : (s : List ℕ) (i : ℕ) {x : Bool} → all_spaces (take (length s - i) (drop i s)) ≡ x → all_spaces (drop i s) ≡ x
+spaces-rest s i h = rw (take_all (length s - i) (drop i s) (omega (arith, length-drop i s))) at h
 
 -- a count that is none is 0, which is outside the range
 pub count_fits_lem : (x : Option ℕ) → count_fits x ≡ between 1 64 (count_is x)
@@ -130,16 +135,16 @@ letter-names s = go (eqb (get_or s 16 0) 76) (eqb (get_or s 16 0) 66) refl refl
     go false false e f = rw (order_of, f, byte_at, lettered, e)
 
 -- a letter that names nothing names no order
-nothing-names : {X : Type 0} {o : Order} → Lettered.Nothing ≡ Lettered.Names o → X
+nothing-names : {X : Type 0} {o : Order} → None ≡ Some o → X
 nothing-names h = zero_one (cc)
 
-pub letter-order : (s : List ℕ) (o : Order) → lettered (get_or s 16 0) ≡ Lettered.Names o → order_of s ≡ o
+pub letter-order : (s : List ℕ) (o : Order) → lettered (get_or s 16 0) ≡ Some o → order_of s ≡ o
 unfolding order_of lettered
 letter-order s o h = go (eqb (get_or s 16 0) 76) (eqb (get_or s 16 0) 66) refl refl
   where
     go : (x y : Bool) → eqb (get_or s 16 0) 76 ≡ x → eqb (get_or s 16 0) 66 ≡ y → order_of s ≡ o
-    go true y e f = let l : Lettered.Names Little ≡ Lettered.Names o = rw (lettered, e) at h in rw (order_of, eqb-true (get_or s 16 0) 76 e) (cc)
-    go false true e f = let l : Lettered.Names Big ≡ Lettered.Names o = rw (lettered, e, f) at h in rw (order_of, f) (cc)
+    go true y e f = let l : Some Little ≡ Some o = rw (lettered, e) at h in rw (order_of, eqb-true (get_or s 16 0) 76 e) (cc)
+    go false true e f = let l : Some Big ≡ Some o = rw (lettered, e, f) at h in rw (order_of, f) (cc)
     go false false e f = nothing-names (rw (lettered, e, f) at h)
 
 -- the walk of the file header: its tests, one after the other, each with those behind it

@@ -1,4 +1,5 @@
 -- What the answers of crate `header` say, as verdicts on the walk of the file header.
+use Rattle.std.specs.Prelude.{Result, Ok, Err, Option, Some, None}
 use Rattle.std.specs.Prelude.{◌≡◌, Bool, true, false, List, ℕ, ◌≤◌, length}
 use Rattle.words.specs.declared.Order.{Order}
 use Rattle.walk.specs.See.{Verdict, goes, see}
@@ -7,18 +8,16 @@ use Rattle.rules.specs.declared.Refusal.{Refusal}
 use Rattle.rules.specs.Rules as R
 use Rattle.records.specs.Says.{halts}
 use Rattle.header.specs.Letters.{heading_of}
-use Rattle.header.specs.declared.Lettered.{Lettered}
-use Rattle.header.specs.declared.Opened.{Opened}
 
 -- whether it names one
-abbrev pub names : Lettered → Bool
-names (Lettered.Names o) = true
-names Lettered.Nothing = false
+abbrev pub names : Option Order → Bool
+names (Some o) = true
+names None = false
 
 -- the header holds, and the walk goes on behind its 32 bytes; or it is refused
-abbrev pub opened : Opened → Verdict R.FileHeader
-opened (Opened.Holds h) = goes (record { heading = heading_of h.heading; count = h.count }) 32
-opened (Opened.Stop r) = halts r
+abbrev pub opened : Result FileHeader Refusal → Verdict R.FileHeader
+opened (Ok h) = goes (record { heading = heading_of h.heading; count = h.count }) 32
+opened (Err r) = halts r
 
 -- what else holds of a header in this order, in a file of n bytes
 pub record Named (o : Order) (n : ℕ) (h : FileHeader) : Type 0 where
@@ -27,15 +26,11 @@ pub record Named (o : Order) (n : ℕ) (h : FileHeader) : Type 0 where
   pub few : h.count ≤ 64
   pub long : 32 ≤ n
 
-abbrev pub NamedIn : Order → ℕ → Opened → Type 0
-NamedIn o n (Opened.Holds h) = Named o n h
-NamedIn o n (Opened.Stop r) = Unit {0}
+abbrev pub NamedIn : Order → ℕ → Result FileHeader Refusal → Type 0
+NamedIn o n (Ok h) = Named o n h
+NamedIn o n (Err r) = Unit {0}
 
 -- the answer of `file_header` on the file s, read in the order that its letter names
-pub record HeaderRead (s : List ℕ) (a : Opened) : Type 0 where
+pub record HeaderRead (s : List ℕ) (a : Result FileHeader Refusal) : Type 0 where
   pub walk : see (R.order_of s) 0 s 0 (R.file_header (length s)) ≡ opened a
   pub named : NamedIn (R.order_of s) (length s) a
-
-abbrev pub refusal_o : Opened → Refusal
-refusal_o (Opened.Holds h) = record { 0 = 0; 1 = 0 }
-refusal_o (Opened.Stop r) = r

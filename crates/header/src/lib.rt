@@ -4,45 +4,23 @@
 ghost use Rattle.std.specs.Prelude.{◌||◌, ◌≡◌, ◌≤◌, length, drop};
 ghost use Rattle.rules.specs.Rules as R;
 ghost use Rattle.header.specs.Letters.{lettered};
-ghost use Rattle.header.specs.Opened.{HeaderRead, refusal_o};
+ghost use Rattle.header.specs.Opened.{HeaderRead};
 
 use records::{between, same};
-use rules::{FileHeader, Form, Heading, Label, Refusal, Spelling, Version};
+use rules::{FileHeader, Form, Heading, Label, Reason, Refusal, Spelling, Version};
 use versions::allows;
 use words::{Order, byte};
 
-#[derive(Clone, Copy)]
-pub enum Opened {
-    Holds(FileHeader),
-    Stop(Refusal),
-}
-
-// The order that a letter names.
-#[derive(Clone, Copy)]
-pub enum Lettered {
-    Names(Order),
-    Nothing,
-}
-
-pub fn of_opened(a: Opened) -> Refusal
-    ensures { result ≡ refusal_o a }
-{
-    match a {
-        Opened::Holds(_) => Refusal(0, 0),
-        Opened::Stop(r) => r,
-    }
-}
-
-pub fn order_of(letter: u32) -> Lettered
+pub fn order_of(letter: u32) -> Option<Order>
     ensures { result ≡ lettered letter }
 {
     if letter == FileHeader::LITTLE {
-        return Lettered::Names(Order::Little);
+        return Some(Order::Little);
     }
     if letter == FileHeader::BIG {
-        return Lettered::Names(Order::Big);
+        return Some(Order::Big);
     }
-    Lettered::Nothing
+    None
 }
 
 // Whether bytes are one of two texts.
@@ -85,16 +63,14 @@ fn script_ok(v: Version, letter: u32) -> bool
     allowed.unicode
 }
 
-// Only spaces from byte `from` on.
-fn spaces(s: &[u8], from: usize) -> bool
-    ensures { result ≡ R.all_spaces (drop from s.now) }
+// Only spaces.
+fn spaces(s: &[u8]) -> bool
+    ensures { result ≡ R.all_spaces s.now }
 {
-    let mut i = from;
-    while i < s.len() {
-        if s[i] != FileHeader::SPACE {
+    for b in s {
+        if *b != FileHeader::SPACE {
             return false;
         }
-        i += 1;
     }
     true
 }
@@ -105,17 +81,15 @@ fn count_of(s: &[u8]) -> u32
     ensures { result ≡ R.count_is (R.count_of s.now) }
 {
     let mut value: u32 = 0;
-    let mut i = 0;
-    while i < s.len() {
+    for i in 0..s.len() {
         let b = byte(s, i);
         if !between(FileHeader::ZERO, FileHeader::NINE, b) {
-            if !spaces(s, i) {
+            if !spaces(&s[i..]) {
                 return 0;
             }
             return value;
         }
         value = 10 * value + (b - FileHeader::ZERO);
-        i += 1;
     }
     value
 }
@@ -171,39 +145,36 @@ fn form_of(digits: &[u8]) -> Form
 }
 
 // The file header, in the order that its letter names.
-pub fn file_header(s: &[u8]) -> Opened
+pub fn file_header(s: &[u8]) -> Result<FileHeader, Refusal>
     ensures { HeaderRead s.now result }
 {
     if s.len() < FileHeader::LENGTH {
-        return Opened::Stop(Refusal(1, 0));
+        return Err(Refusal(Reason::Short, 0));
     }
     let name = &s[FileHeader::IDENTIFIER..FileHeader::VERSION];
     if !is_one_of(name, b"JSSR-SPG", b"JSSR-PSG") {
-        return Opened::Stop(Refusal(2, FileHeader::IDENTIFIER));
+        return Err(Refusal(Reason::Identifier, FileHeader::IDENTIFIER));
     }
     let digits = &s[FileHeader::VERSION..FileHeader::FORM];
     if !is_version(digits) {
-        return Opened::Stop(Refusal(3, FileHeader::VERSION));
+        return Err(Refusal(Reason::Version, FileHeader::VERSION));
     }
     let version = version_of(digits);
     let form = &s[FileHeader::FORM..FileHeader::ORDER];
     if !form_ok(version, form) {
-        return Opened::Stop(Refusal(4, FileHeader::FORM));
+        return Err(Refusal(Reason::Form, FileHeader::FORM));
     }
-    let letter = order_of(byte(s, FileHeader::ORDER));
-    let Lettered::Names(order) = letter else {
-        return Opened::Stop(Refusal(5, FileHeader::ORDER));
-    };
+    let order = order_of(byte(s, FileHeader::ORDER)).ok_or(Refusal(Reason::Order, FileHeader::ORDER))?;
     let script = byte(s, FileHeader::SCRIPT);
     if !script_ok(version, script) {
-        return Opened::Stop(Refusal(6, FileHeader::SCRIPT));
+        return Err(Refusal(Reason::Script, FileHeader::SCRIPT));
     }
     let count = count_of(&s[FileHeader::COUNT..FileHeader::SPACES]);
     if !between(1, FileHeader::MOST, count) {
-        return Opened::Stop(Refusal(7, FileHeader::COUNT));
+        return Err(Refusal(Reason::Count, FileHeader::COUNT));
     }
-    if !spaces(&s[FileHeader::SPACES..FileHeader::LENGTH], 0) {
-        return Opened::Stop(Refusal(8, FileHeader::SPACES));
+    if !spaces(&s[FileHeader::SPACES..FileHeader::LENGTH]) {
+        return Err(Refusal(Reason::Spaces, FileHeader::SPACES));
     }
     let heading = Heading {
         spelling: spelling_of(name),
@@ -213,7 +184,7 @@ pub fn file_header(s: &[u8]) -> Opened
         },
         script,
     };
-    Opened::Holds(FileHeader {
+    Ok(FileHeader {
         order,
         heading,
         count,

@@ -5,7 +5,7 @@ use Rattle.words.specs.declared.Order.{Order}
 use Rattle.walk.specs.Walk.{pick, Walk, give, ◌>>=◌, ◌>>◌}
 use Rattle.walk.specs.See.{Verdict, stops, goes, gate, see, over, ends}
 use Rattle.rules.specs.declared.Refusal.{Refusal}
-use Rattle.rules.specs.Reasons.{number}
+use Rattle.rules.specs.Reasons.{number_of}
 use Rattle.rules.specs.Rules as R
 use Rattle.rules.specs.declared.Label.{Label}
 use Rattle.rules.specs.declared.Head.{Head}
@@ -21,7 +21,7 @@ use Rattle.records.specs.declared.kinds.Fits.{Fits}
 
 -- a refusal, as a verdict
 abbrev pub halts : {A : Type 0} → Refusal → Verdict A
-halts r = stops (number r.0) r.1
+halts r = stops (number_of r.0) r.1
 
 -- a record's head, as the rules have it
 abbrev pub head_of : Head → R.Head

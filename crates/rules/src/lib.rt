@@ -2,7 +2,7 @@
 #![tactic(auto)]
 
 ghost use Rattle.std.specs.Prelude.{◌≡◌};
-ghost use Rattle.rules.specs.Reasons.{number};
+ghost use Rattle.rules.specs.Reasons.{number_of};
 
 use words::Order;
 
@@ -39,7 +39,7 @@ pub enum Reason {
 impl Reason {
     // Document 01's number.
     pub fn number(self) -> u32
-        ensures { result ≡ number self }
+        ensures { result ≡ number_of self }
     {
         match self {
             Reason::Short => 1,

@@ -2,17 +2,17 @@
 use mathlib.Core.Path.{sym, ◌∙◌}
 use native.Mathlib.Omega.{arith}
 use Rattle.records.proofs.Facts.{between_in}
-use Rattle.header.proofs.Opening.{digits-short, digits_more, count-start, count-end, count-more, count-rest}
+use Rattle.header.proofs.Opening.{spaces-rest, digits-short, digits_more, count-start, count-end, count-more, count-rest}
 use Rattle.header.proofs.count_of.Goals as goal
 
 pub loop-i-init : goal.loop-i-init
 loop-i-init c = (omega arith, count-start _)
 
 pub returns-then-not-spaces : goal.returns-then-not-spaces
-returns-then-not-spaces c = sym (c.loop-i.invariant.1 ∙ count-rest _ _ _ _ c.loop-i-test.true c.byte-b.ensures.0 _ (sym c.between.ensures ∙ c.if-not-between.true) (sym c.spaces.ensures ∙ c.if-not-spaces.true))
+returns-then-not-spaces c = sym (c.loop-i.invariant.1 ∙ count-rest _ _ _ _ c.loop-i-test.true c.byte-b.ensures.0 _ (sym c.between.ensures ∙ c.if-not-between.true) (spaces-rest c.args.s.now c.loop-i.i (sym c.spaces.ensures ∙ c.if-not-spaces.true)))
 
 pub returns-then-not-between : goal.returns-then-not-between
-returns-then-not-between c = sym (c.loop-i.invariant.1 ∙ count-rest _ _ _ _ c.loop-i-test.true c.byte-b.ensures.0 _ (sym c.between.ensures ∙ c.if-not-between.true) (sym c.spaces.ensures ∙ c.if-not-spaces.false))
+returns-then-not-between c = sym (c.loop-i.invariant.1 ∙ count-rest _ _ _ _ c.loop-i-test.true c.byte-b.ensures.0 _ (sym c.between.ensures ∙ c.if-not-between.true) (spaces-rest c.args.s.now c.loop-i.i (sym c.spaces.ensures ∙ c.if-not-spaces.false)))
 
 pub overflow_mul-value : goal.overflow_mul-value
 overflow_mul-value c =

@@ -8,6 +8,3 @@ use Rattle.header.proofs.count_of.Given as goal
 -- the value of the first i bytes, all digits, and what the count comes to from there on
 abbrev pub invariant-loop-i : goal.invariant-loop-i
 invariant-loop-i l = (l.value < 10 ^ l.i) × (count_is (count_of l.s) ≡ count_is (decimal l.value (drop l.i l.s)))
-
-abbrev pub decreases-loop-i : goal.decreases-loop-i
-decreases-loop-i l = length l.s - l.i

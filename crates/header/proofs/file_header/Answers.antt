@@ -1,21 +1,23 @@
 -- `header::file_header` meets its contract: each return is where the walk's tests stop, or hold, one after the other.
 -- Assumes nothing.
+use Rattle.rules.proofs.Handed.{lacked}
+use Rattle.std.proofs.Common.{Option, Some, None}
 use mathlib.Core.Path.{◌≡◌, sym, ap, ◌∙◌}
 use mathlib.Core.List.{List}
 use Prim.Native.Nat.{ℕ}
 use borrow.Author.Tests.{le-leb, lt-leb}
 use lib.ListN.{get_or}
 use Rattle.words.specs.Numbers.{bytes_at}
+use Rattle.words.specs.declared.Order.{Order}
 use Rattle.walk.specs.See.{goes}
 use Rattle.rules.specs.Rules.{is_one_of, spelled, version_of, is_form, is_script}
 use Rattle.rules.specs.declared.Version.{Version}
 use Rattle.records.proofs.Facts.{between_in}
 use Rattle.header.specs.Letters.{lettered}
 use Rattle.header.specs.Opened.{names}
-use Rattle.header.specs.declared.Lettered.{Lettered}
 use Rattle.header.proofs.Opening.{letter-order, header-open, passing, stopping, walk, from_spelling, from_version, from_form, from_letter, from_script, from_count, from_spaces}
 use Rattle.header.proofs.file_header.Goals as goal
-use Rattle.header.proofs.file_header.Goals.{After-between, After-form_ok, After-is_one_of, After-is_version, After-order_of-letter, After-script_ok, After-spaces}
+use Rattle.header.proofs.file_header.Goals.{After-between, After-form_ok, After-is_one_of, After-is_version, After-order_of, After-script_ok, After-spaces}
 
 -- the file, as it is known behind each test
 abbrev file-length : After-is_one_of → List ℕ
@@ -27,11 +29,11 @@ file-spelling c = file-length (goal.at.After-is_version c).After-is_one_of
 abbrev file-version : After-form_ok → List ℕ
 file-version c = file-spelling (goal.at.After-form_ok c).After-is_version
 
-abbrev file-form : After-order_of-letter → List ℕ
-file-form c = file-version (goal.at.After-order_of-letter c).After-form_ok
+abbrev file-form : After-order_of → List ℕ
+file-form c = file-version (goal.at.After-order_of c).After-form_ok
 
 abbrev file-letter : After-script_ok → List ℕ
-file-letter c = file-form (goal.at.After-script_ok c).After-order_of-letter
+file-letter c = file-form (goal.at.After-script_ok c).After-order_of
 
 abbrev file-script : After-between → List ℕ
 file-script c = file-letter (goal.at.After-between c).After-script_ok
@@ -40,8 +42,12 @@ abbrev file-count : After-spaces → List ℕ
 file-count c = file-script (goal.at.After-spaces c).After-between
 
 -- what the letter names, by the answer of `order_of`
-letter-is : (c : After-order_of-letter) {a : Lettered} → c.order_of-letter.result ≡ a → lettered (get_or (file-form c) 16 0) ≡ a
-letter-is c e = sym (ap lettered c.byte.ensures.0) ∙ (sym c.order_of-letter.ensures ∙ e)
+letter-is : (c : After-order_of) {a : Option Order} → c.order_of.result ≡ a → lettered (get_or (file-form c) 16 0) ≡ a
+letter-is c e = sym (ap lettered c.byte.ensures.0) ∙ (sym c.order_of.ensures ∙ e)
+
+-- what `ok_or` makes of it
+names-order : (c : After-script_ok) → c.order_of.result ≡ Some c.in_ok-order.order
+names-order c = c.in_ok-order.ensures.ok_part
 
 -- the walk, behind each test that is passed
 past-length : (c : After-is_one_of) → walk (file-length c) ≡ from_spelling (file-length c)
@@ -65,11 +71,11 @@ form-is : (c : After-form_ok) → c.form_ok.result ≡ is_form (version_of (byte
 unfolding bytes_at
 form-is c = c.form_ok.ensures ∙ ap (λ (v : Version). is_form v (bytes_at 2 (file-version c) 14)) (version-is c)
 
-past-form : (c : After-order_of-letter) → walk (file-form c) ≡ from_letter (file-form c)
-past-form c = passing _ _ _ _ (past-version (goal.at.After-order_of-letter c).After-form_ok) (sym (form-is (goal.at.After-order_of-letter c).After-form_ok) ∙ c.if-not-form_ok.false)
+past-form : (c : After-order_of) → walk (file-form c) ≡ from_letter (file-form c)
+past-form c = passing _ _ _ _ (past-version (goal.at.After-order_of c).After-form_ok) (sym (form-is (goal.at.After-order_of c).After-form_ok) ∙ c.if-not-form_ok.false)
 
 past-letter : (c : After-script_ok) → walk (file-letter c) ≡ from_script (file-letter c)
-past-letter c = passing _ _ _ _ (past-form (goal.at.After-script_ok c).After-order_of-letter) (ap names (letter-is (goal.at.After-script_ok c).After-order_of-letter c.in-Names.is))
+past-letter c = passing _ _ _ _ (past-form (goal.at.After-script_ok c).After-order_of) (ap names (letter-is (goal.at.After-script_ok c).After-order_of (names-order c)))
 
 -- whether the version has the script, by the answer of `script_ok`
 script-is : (c : After-script_ok) → c.script_ok.result ≡ is_script (version_of (bytes_at 6 (file-letter c) 8)) (get_or (file-letter c) 17 0)
@@ -98,8 +104,11 @@ returns-then-not-is_version c = record { walk = stopping _ _ _ _ (past-spelling 
 pub returns-then-not-form_ok : goal.returns-then-not-form_ok
 returns-then-not-form_ok c = record { walk = stopping _ _ _ _ (past-version (goal.at.returns-then-not-form_ok c).After-form_ok) (sym (form-is (goal.at.returns-then-not-form_ok c).After-form_ok) ∙ c.if-not-form_ok.true); named = tt }
 
-pub returns-in_default : goal.returns-in_default
-returns-in_default c = record { walk = stopping _ _ _ _ (past-form (goal.at.returns-in_default c).After-order_of-letter) (ap names (letter-is (goal.at.returns-in_default c).After-order_of-letter c.in_default.is)); named = tt }
+pub returns-in_err-order : goal.returns-in_err-order
+returns-in_err-order c =
+    let none = c.in_err-order.ensures.ok_part in
+    rw (lacked _ none c.in_err-order.ensures.value c.from_residual.ensures)
+    (record { walk = stopping _ _ _ _ (past-form (goal.at.returns-in_err-order c).After-order_of) (ap names (letter-is (goal.at.returns-in_err-order c).After-order_of none)); named = tt })
 
 pub returns-then-not-script_ok : goal.returns-then-not-script_ok
 returns-then-not-script_ok c = record {
@@ -130,5 +139,5 @@ returns c =
     record {
       walk = passing _ _ _ _ (past-count (goal.at.returns c).After-spaces) (sym c.spaces.ensures ∙ c.if-not-spaces.false) ∙
           (λ i. goes (record { heading = record { spelling = sp i; label = record { version = v i; form = f i }; script = b i }; count = n i }) 32);
-      named = record { order = sym (letter-order _ _ (letter-is (goal.at.returns c).After-order_of-letter c.in-Names.is)); one = k.0; few = k.1; long = c.if-s-lt-LENGTH.false };
+      named = record { order = sym (letter-order _ _ (letter-is (goal.at.returns c).After-order_of (names-order (goal.at.returns c).After-script_ok))); one = k.0; few = k.1; long = c.if-s-lt-LENGTH.false };
     }

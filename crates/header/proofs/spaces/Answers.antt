@@ -1,16 +1,13 @@
--- `header::spaces` meets its contract. The loop's invariant: all bytes so far are spaces. The measure is how many are left. Assumes nothing.
-use mathlib.Core.Path.{refl, sym, ◌∙◌}
+-- `header::spaces` meets its contract: all bytes so far are spaces. Assumes nothing.
+use mathlib.Core.Path.{sym, ◌∙◌}
 use Rattle.header.proofs.Opening.{spaces-end, spaces-more, spaces-not}
 use Rattle.header.proofs.spaces.Goals as goal
 
-pub loop-i-init : goal.loop-i-init
-loop-i-init c = refl
+pub returns-then-b-ne-SPACE : goal.returns-then-b-ne-SPACE
+returns-then-b-ne-SPACE c = sym (c.loop-b.invariant ∙ spaces-not _ _ c.loop-b-test.true c.if-b-ne-SPACE.true)
 
-pub returns-then-s-i-ne-SPACE : goal.returns-then-s-i-ne-SPACE
-returns-then-s-i-ne-SPACE c = sym (c.loop-i.invariant ∙ spaces-not _ _ c.loop-i-test.true c.if-s-i-ne-SPACE.true)
-
-pub loop-i-preserved : goal.loop-i-preserved
-loop-i-preserved c = c.loop-i.invariant ∙ spaces-more _ _ c.loop-i-test.true c.if-s-i-ne-SPACE.false
+pub loop-b-preserved : goal.loop-b-preserved
+loop-b-preserved c = c.loop-b.invariant ∙ spaces-more _ _ c.loop-b-test.true c.if-b-ne-SPACE.false
 
 pub returns : goal.returns
-returns c = sym (c.loop-i.invariant ∙ spaces-end _ _ c.loop-i-test.false)
+returns c = sym (c.loop-b.invariant ∙ spaces-end _ _ c.loop-b-test.false)

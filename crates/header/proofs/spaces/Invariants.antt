@@ -1,13 +1,8 @@
--- `header::spaces` meets its contract. The loop's invariant: all bytes so far are spaces. The measure is how many are left. Assumes nothing.
+-- `header::spaces` meets its contract: all bytes so far are spaces. Assumes nothing.
 use mathlib.Core.Path.{◌≡◌}
-use Prim.Native.Nat.{◌-◌}
-use lib.ListN.{length, drop}
+use lib.ListN.{drop}
 use Rattle.rules.specs.Rules.{all_spaces}
 use Rattle.header.proofs.spaces.Given as goal
 
--- what was only spaces from `from` on is so from i on
-abbrev pub invariant-loop-i : goal.invariant-loop-i
-invariant-loop-i l = all_spaces (drop l.from l.s) ≡ all_spaces (drop l.i l.s)
-
-abbrev pub decreases-loop-i : goal.decreases-loop-i
-decreases-loop-i l = length l.s - l.i
+abbrev pub invariant-loop-b : goal.invariant-loop-b
+invariant-loop-b l = all_spaces l.s ≡ all_spaces (drop l.b-index l.s)
