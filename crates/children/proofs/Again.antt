@@ -1,5 +1,6 @@
 -- A loop over the recordings of an accepted file that finds each of them again: what it says of those that are passed.
 -- Assumes nothing.
+use Rattle.std.specs.Prelude as Std
 use mathlib.Core.Path.{◌≡◌, sym, ◌∙◌}
 use mathlib.Core.List.{List, [], ◌∷◌, ◌++◌}
 use mathlib.Core.Option.{Option}
@@ -13,28 +14,26 @@ use Rattle.rules.specs.declared.Label.{Label}
 use Rattle.rules.specs.declared.Refusal.{Refusal}
 use Rattle.rules.specs.Rules.{Held, Placed, recording}
 use Rattle.descriptions.specs.DescriptionsJudged.{HeldWithin, HeldAs}
-use Rattle.descriptions.specs.declared.Before.{Before}
 use Rattle.descriptions.specs.declared.Places.{Places}
 use Rattle.judge.specs.Recorded.{places_of, leaves, Places-of, Continues, RecordingAgain}
-use Rattle.judge.specs.declared.recording.Recorded.{Recorded}
 use Rattle.children.specs.Children.{Said, said, ◌then◌}
 use Rattle.children.specs.Recordings.{all_of, ReadAs}
 use Rattle.children.proofs.Saying.{nothing}
 use Rattle.children.proofs.Recordings.{passed-led, passed-stop, Sofar, sofar-start, sofar-next, sofar-end}
 
 -- the code has what holds for the next recording from the one before, and Q holds of those that are passed
-pub record Knowing (o : Order) (s : List ℕ) (before : Before) (Q : List Placed → Said → Type 0) (held : Option Held) (done : List Placed) (l : Said) : Type 0 where
+pub record Knowing (o : Order) (s : List ℕ) (before : Std.Option Places) (Q : List Placed → Said → Type 0) (held : Option (Std.Option ℕ)) (done : List Placed) (l : Said) : Type 0 where
   pub holds : HeldAs o s before held
   pub is : Q done l
 
 -- the next recording is read as x, and has the places q
-pub record Next (o : Order) (label : Label) (s : List ℕ) (p i : ℕ) (before : Before) (held : Option Held) (q : Places) (x : Placed) : Type 0 where
+pub record Next (o : Order) (label : Label) (s : List ℕ) (p i : ℕ) (before : Std.Option Places) (held : Option (Std.Option ℕ)) (q : Places) (x : Placed) : Type 0 where
   pub is : see o 0 s p (recording label held (length s - p) (i + 1)) ≡ goes x q.end
   pub same : q ≡ places_of p before x
-  pub stands : HeldAs o s (Before.These q) (leaves x)
+  pub stands : HeldAs o s (Some q) (leaves x)
 
 -- the same from a verdict on it
-next_of : {o : Order} {label : Label} {s : List ℕ} {p i : ℕ} {before : Before} {held : Option Held} {q : Places} (x : Placed) (e : ℕ) → see o 0 s p (recording label held (length s - p) (i + 1)) ≡ goes x e →
+next_of : {o : Order} {label : Label} {s : List ℕ} {p i : ℕ} {before : Std.Option Places} {held : Option (Std.Option ℕ)} {q : Places} (x : Placed) (e : ℕ) → see o 0 s p (recording label held (length s - p) (i + 1)) ≡ goes x e →
     Goes (see o 0 s p (recording label held (length s - p) (i + 1))) (Places-of o s p before q) → (e ≡ q.end) × Next o label s p i before held q x
 next_of {q = q} x e g k =
     let v = goes_same (sym k.is ∙ g) in
@@ -42,41 +41,41 @@ next_of {q = q} x e g k =
     (m, record { is = rw m at g; same = rw v.0 at k.kept.same; stands = rw v.0 at k.kept.held })
 
 -- the step, from what `recording_again` answers
-module _ {o : Order} {label : Label} {s : List ℕ} {count : ℕ} {ps : List Placed} {p i : ℕ} {before : Before} {Q : List Placed → Said → Type 0} (v : Sofar o label s count ps p i (Knowing o s before Q)) (many : i < count) (fit : p ≤ length s) (a : Recorded) (k : RecordingAgain o label s p before a) where
+module _ {o : Order} {label : Label} {s : List ℕ} {count : ℕ} {ps : List Placed} {p i : ℕ} {before : Std.Option Places} {Q : List Placed → Said → Type 0} (v : Sofar o label s count ps p i (Knowing o s before Q)) (many : i < count) (fit : p ≤ length s) (a : Result Places Refusal) (k : RecordingAgain o label s p before a) where
   -- it refuses none
-  pub again-stop : {X : Type 0} {r : Refusal} → a ≡ Recorded.Stop r → X
+  pub again-stop : {X : Type 0} {r : Refusal} → a ≡ Err r → X
   again-stop e =
       passed-stop v.at many fit (rw e at (k.told v.at.held (i + 1) _ _ v.is.holds (passed-led v.at many fit).is))
 
-  pub again-next : {q : Places} {Q' : List Placed → Said → Type 0} → a ≡ Recorded.On q →
+  pub again-next : {q : Places} {Q' : List Placed → Said → Type 0} → a ≡ Ok q →
       ((x : Placed) → Next o label s p i before v.at.held q x → Q' (v.at.done ++ (x ∷ [])) (v.at.tells then said o 0 s p (recording label v.at.held (length s - p) (i + 1)))) →
-      Sofar o label s count ps q.end (i + 1) (Knowing o s (Before.These q) Q')
+      Sofar o label s count ps q.end (i + 1) (Knowing o s (Some q) Q')
   again-next h step =
       sofar-next v many fit
       (λ x e g. let n = next_of x e g (rw h at (k.told v.at.held (i + 1) _ _ v.is.holds g)) in record { ends = n.0; holds = record { holds = n.1.stands; is = step x n.1 } })
 
 -- the loop: it stands at byte p, i of the recordings are passed, the code has the places of the last of them, and where the file's recordings are read Q holds of those passed
-pub record Along (o : Order) (label : Label) (s : List ℕ) (count p i : ℕ) (before : Before) (Q : List Placed → Said → Type 0) : Type 0 where
+pub record Along (o : Order) (label : Label) (s : List ℕ) (count p i : ℕ) (before : Std.Option Places) (Q : List Placed → Said → Type 0) : Type 0 where
   pub few : i ≤ count
   pub inside : p ≤ length s
   pub room : HeldWithin (length s) before
   pub sofar : (ps : List Placed) (e : ℕ) → ReadAs o label s count ps e → Sofar o label s count ps p i (Knowing o s before Q)
 
 module _ {o : Order} {label : Label} {s : List ℕ} {count : ℕ} {Q : List Placed → Said → Type 0} where
-  pub along-start : 32 ≤ length s → Q [] nothing → Along o label s count 32 0 Before.Nothing Q
+  pub along-start : 32 ≤ length s → Q [] nothing → Along o label s count 32 0 None Q
   along-start fit h = record { few = omega arith; inside = fit; room = tt; sofar = λ ps e g. sofar-start g (record { holds = tt; is = h }) }
 
-  module _ {p i : ℕ} {before : Before} (v : Along o label s count p i before Q) where
-    module _ (many : i < count) (a : Recorded) (k : RecordingAgain o label s p before a) where
-      pub along-stop : {X : Type 0} {r : Refusal} → a ≡ Recorded.Stop r → {ps : List Placed} {e : ℕ} → ReadAs o label s count ps e → X
+  module _ {p i : ℕ} {before : Std.Option Places} (v : Along o label s count p i before Q) where
+    module _ (many : i < count) (a : Result Places Refusal) (k : RecordingAgain o label s p before a) where
+      pub along-stop : {X : Type 0} {r : Refusal} → a ≡ Err r → {ps : List Placed} {e : ℕ} → ReadAs o label s count ps e → X
       along-stop h g = again-stop (v.sofar _ _ g) many v.inside a k h
 
-      pub along-fits : {q : Places} → a ≡ Recorded.On q → Continues p (length s) (Recorded.On q)
+      pub along-fits : {q : Places} → a ≡ Ok q → Continues p (length s) (Ok q)
       along-fits h = rw h at k.continues
 
-      pub along-next : {q : Places} {Q' : List Placed → Said → Type 0} → a ≡ Recorded.On q →
-          ((held : Option Held) (done : List Placed) (l : Said) (x : Placed) → length done ≡ i → Next o label s p i before held q x → Q done l → Q' (done ++ (x ∷ [])) (l then said o 0 s p (recording label held (length s - p) (i + 1)))) →
-          Along o label s count q.end (i + 1) (Before.These q) Q'
+      pub along-next : {q : Places} {Q' : List Placed → Said → Type 0} → a ≡ Ok q →
+          ((held : Option (Std.Option ℕ)) (done : List Placed) (l : Said) (x : Placed) → length done ≡ i → Next o label s p i before held q x → Q done l → Q' (done ++ (x ∷ [])) (l then said o 0 s p (recording label held (length s - p) (i + 1)))) →
+          Along o label s count q.end (i + 1) (Some q) Q'
       along-next h step =
           let u = along-fits h in
           record {

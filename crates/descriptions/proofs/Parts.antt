@@ -1,5 +1,9 @@
 -- A part of a recording that may be absent: what the walk comes to, from what the code finds. Shown once, over the code, the body and what is held.
 -- Assumes nothing.
+use Rattle.descriptions.specs.declared.Part.{Part}
+use Rattle.std.proofs.Common.{Result, Ok, Err, Some, None}
+use Rattle.rules.specs.declared.Reason.TheVariants as Reason
+use Rattle.std.specs.Prelude as Std
 use mathlib.Core.Path.{◌≡◌, refl, sym, ap, ◌∙◌}
 use mathlib.Core.Bool.{Bool, true, false, ◌||◌}
 use mathlib.Core.List.{List, []}
@@ -22,11 +26,9 @@ use Rattle.rules.proofs.Room.{Rests}
 use Rattle.records.specs.Says.{halts, head_of, headroom, Headroom, ok_of}
 use Rattle.records.specs.declared.items.Holder.TheVariants as Holder
 use Rattle.descriptions.specs.DescriptionsJudged.{lacking, Follows, There, Stood, Meets, Judges, Behind, ItemsPart, EventsPart}
-use Rattle.descriptions.specs.declared.Held.{Held}
-use Rattle.descriptions.specs.declared.Parted.{Parted}
 
 -- a place that is held is not nothing
-pub at-nothing : {X : Type 0} {at : ℕ} → Held.At at ≡ Held.Nothing → X
+pub at-nothing : {X : Type 0} {at : ℕ} → Some at ≡ None → X
 at-nothing h = zero_one (cc)
 
 -- a walk of which the code keeps only the place
@@ -58,13 +60,13 @@ module _ (label : Label) {A : Type 0} (fuel code : ℕ) (body : ℕ → R.Head �
   part_none e = rw (part, e)
 
 module _ {A : Type 0} (o : Order) (label : Label) (base : ℕ) (s : List ℕ) (code : ℕ) (body : ℕ → R.Head → Walk A) (K : A → Type 0) (h : Head) where
-  pub judges-absent : (held : Held) → eqb h.code code ≡ false → Judges o label base s code body K h held (lacking base h held)
-  judges-absent Held.Nothing e none n fuel m =
+  pub judges-absent : (held : Std.Option ℕ) → eqb h.code code ≡ false → Judges o label base s code body K h held (lacking base h held)
+  judges-absent None e none n fuel m =
       let c : eqb n.head.code code ≡ false = rw m.head e in
       rw (part_none label fuel code body n c, see-refuse) (ap (λ (x : ℕ). stops 9 x) (omega arith))
-  judges-absent Held.Nothing e (some a) n fuel m = absurd m.holds
-  judges-absent (Held.At p) e none n fuel m = absurd m.holds
-  judges-absent (Held.At p) e (some a) n fuel m =
+  judges-absent None e (some a) n fuel m = absurd m.holds
+  judges-absent (Some p) e none n fuel m = absurd m.holds
+  judges-absent (Some p) e (some a) n fuel m =
       let c : eqb n.head.code code ≡ false = rw m.head e in
       record {
         value = record { own = false; value = a; next = record { makers = []; head = n.head; room = n.room } };
@@ -73,12 +75,12 @@ module _ {A : Type 0} (o : Order) (label : Label) (base : ℕ) (s : List ℕ) (c
         kept = record { own = refl; place = refl; value = refl; head = m.head; room = m.room; end = refl };
       }
 
-  module _ (held : Held) (same : eqb h.code code ≡ true) where
+  module _ (held : Std.Option ℕ) (same : eqb h.code code ≡ true) where
     -- the rest of the record whose head is read
     abbrev rest : Verdict A
     rest = see o base s (base + (h.at + 16)) (body (length s - h.at) (head_of h))
 
-    pub judges-stop : (r : Refusal) → ends rest ≡ halts r → Judges o label base s code body K h held (Parted.Stop r)
+    pub judges-stop : (r : Refusal) → ends rest ≡ halts r → Judges o label base s code body K h held (Err r)
     judges-stop x k hv n fuel m =
         let c : eqb n.head.code code ≡ true = rw m.head same in
         rw (part-own label fuel code body n hv c, m.head, m.room) (bind_stops o base s _ _ _ (stopped (λ _. tt) rest k))
@@ -101,10 +103,10 @@ module _ {A : Type 0} (o : Order) (label : Label) (base : ℕ) (s : List ℕ) (c
           let c : eqb n.head.code code ≡ true = rw m.head same in
           rw (part-own label fuel code body n hv c, m.head, m.room, ← left) (bind_goes o base s _ _ _ goes_on)
 
-      pub judges-behind : (a : Parted) → Behind o label base s h.at q a → Judges o label base s code body K h held a
-      judges-behind (Parted.Stop x) b hv n fuel m =
+      pub judges-behind : (a : Result Part Refusal) → Behind o label base s h.at q a → Judges o label base s code body K h held a
+      judges-behind (Err x) b hv n fuel m =
           follows m ∙ bind_stops o base s _ _ _ (stopped headroom (see o base s (base + q) (R.next label fuel (length s - q))) (b.seen fuel (omega (arith, m.enough))))
-      judges-behind (Parted.On t) b hv n fuel m =
+      judges-behind (Ok t) b hv n fuel m =
           let v : Verdict R.Next = see o base s (base + q) (R.next label fuel (length s - q)) in
           let g : Goes v (λ x e. (headroom x ≡ record { head = head_of t.next; room = length s - t.next.at }) × (e ≡ base + (t.next.at + 16))) = went headroom v (b.seen fuel (omega (arith, m.enough))) in
           let st : There (base + h.at) q (length s) t = b.stands in
@@ -125,23 +127,23 @@ module _ {A : Type 0} (o : Order) (label : Label) (base : ℕ) (s : List ℕ) (c
 -- an event table: the part, or the refusal of what stands in its place
 module _ (o : Order) (label : Label) (base : ℕ) (s : List ℕ) (h : Head) where
   -- the test of what stands there, from the head that the code found
-  there : {n : R.Next} {fuel : ℕ} (c : Bool) → (R.allowed label).eventless || eqb h.code 200 ≡ c → Meets {A = List R.Item} s h (Held.At 0) (some []) n fuel →
+  there : {n : R.Next} {fuel : ℕ} (c : Bool) → (R.allowed label).eventless || eqb h.code 200 ≡ c → Meets {A = List R.Item} s h (Some 0) (some []) n fuel →
       (R.allowed label).eventless || eqb n.head.code 200 ≡ c
   there c e m = rw m.head e
 
-  pub table-stops : (R.allowed label).eventless || eqb h.code 200 ≡ false → EventsPart o label base s h (Parted.Stop (record { 0 = 9; 1 = base + h.at + 4 }))
+  pub table-stops : (R.allowed label).eventless || eqb h.code 200 ≡ false → EventsPart o label base s h (Err (record { 0 = Reason.Code; 1 = base + h.at + 4 }))
   unfolding R.event_table see gate ◌>>=◌ ◌>>◌
   table-stops e = record { told = λ n fuel m. rw (there false e m) (ap (λ (x : ℕ). stops 9 x) (omega arith)); follows = tt }
 
-  pub table-part : (R.allowed label).eventless || eqb h.code 200 ≡ true → (a : Parted) → ItemsPart o label Holder.Event base s h (Held.At 0) a → EventsPart o label base s h a
+  pub table-part : (R.allowed label).eventless || eqb h.code 200 ≡ true → (a : Result Part Refusal) → ItemsPart o label Holder.Event base s h (Some 0) a → EventsPart o label base s h a
   unfolding R.event_table ok_of see gate ◌>>=◌ ◌>>◌
   table-part e a k = record { told = λ n fuel m. rw (there true e m) (k.told (some []) n fuel m); follows = k.follows }
 
 -- where the next head stands, in a part that is absent and in one that is there
-pub follows-lacking : (base n : ℕ) (h : Head) (held : Held) → h.at + 16 ≤ n → Follows h.at n (lacking base h held)
-follows-lacking base n h Held.Nothing f = tt
-follows-lacking base n h (Held.At p) f = record { low = omega arith; inside = f }
+pub follows-lacking : (base n : ℕ) (h : Head) (held : Std.Option ℕ) → h.at + 16 ≤ n → Follows h.at n (lacking base h held)
+follows-lacking base n h None f = tt
+follows-lacking base n h (Some p) f = record { low = omega arith; inside = f }
 
-pub follows-stood : (at p q n : ℕ) (a : Parted) → p ≤ q → Stood at q n a → Follows p n a
-follows-stood at p q n (Parted.Stop r) l k = tt
-follows-stood at p q n (Parted.On t) l k = record { low = omega (arith, k.next.low); inside = k.next.inside }
+pub follows-stood : (at p q n : ℕ) (a : Result Part Refusal) → p ≤ q → Stood at q n a → Follows p n a
+follows-stood at p q n (Err r) l k = tt
+follows-stood at p q n (Ok t) l k = record { low = omega (arith, k.next.low); inside = k.next.inside }

@@ -1,5 +1,8 @@
 -- The channels of a 120 or 320 that passed stand in its bytes, and so in the file; and the counts of a 100 that passed.
 -- Assumes nothing.
+use Rattle.descriptions.specs.declared.Places.{Places}
+use Rattle.std.proofs.Common.{Some, None}
+use Rattle.std.specs.Prelude as Std
 use mathlib.Core.Path.{◌≡◌, refl, ap, ◌∙◌}
 use mathlib.Core.Bool.{Bool, true, false}
 use mathlib.Core.List.{List, [], ◌∷◌}
@@ -25,7 +28,6 @@ use Rattle.records.specs.Says.{head_of, group_of, Kept, subs_at, ChannelsIn, Cha
 use Rattle.records.proofs.Facts.{between_in}
 use Rattle.records.proofs.Steps.{yields-channels}
 use Rattle.descriptions.specs.DescriptionsJudged.{group_for, HeldIs, HeldAs, HeldWithin, Owned, PartValue, held_at, channels_in, count_in}
-use Rattle.descriptions.specs.declared.Before.{Before}
 
 -- a 100 that passed counts so many
 pub record CountsBounded (channels frames : ℕ) : Type 0 where
@@ -129,17 +131,17 @@ module _ (o : Order) (base n : ℕ) (s file : List ℕ) (is : s ≡ take n (drop
 
 -- the channels that hold: own ones, or those of the recording before
 module _ (o : Order) (base : ℕ) (s : List ℕ) (p m : ℕ) where
-  pub stand : (file : List ℕ) (before : Before) (held : Option R.Held) (own : Bool) (at : ℕ) (cs : List R.Channel) → s ≡ take (length s) (drop base file) → HeldAs o file before held → PartValue (Owned o s p m) (R.held_channels held) own cs → at ≡ pick own (base + p) (held_at (channels_in before)) → ChannelsStand o file (subs_at at (pick own m (count_in before))) cs
+  pub stand : (file : List ℕ) (before : Std.Option Places) (held : Option R.Held) (own : Bool) (at : ℕ) (cs : List R.Channel) → s ≡ take (length s) (drop base file) → HeldAs o file before held → PartValue (Owned o s p m) (R.held_channels held) own cs → at ≡ pick own (base + p) (held_at (channels_in before)) → ChannelsStand o file (subs_at at (pick own m (count_in before))) cs
   stand file before held true at cs is h v e = rw e (stand-part o base (length s) s file is p m cs v.room.inside v.stand)
-  stand file Before.Nothing none false at cs is h v e = none-some v
-  stand file Before.Nothing (some x) false at cs is h v e = absurd h
-  stand file (Before.These q) none false at cs is h v e = absurd h
-  stand file (Before.These q) (some x) false at cs is h v e =
+  stand file None none false at cs is h v e = none-some v
+  stand file None (some x) false at cs is h v e = absurd h
+  stand file (Some q) none false at cs is h v e = absurd h
+  stand file (Some q) (some x) false at cs is h v e =
       let d : cs ≡ x.channels = cc in
       rw (e, d) h
 
-  pub room : (before : Before) (hv : Option (List R.Channel)) (own : Bool) (at : ℕ) (cs : List R.Channel) → HeldIs (channels_in before) hv → PartValue (Owned o s p m) hv own cs → at ≡ pick own (base + p) (held_at (channels_in before)) → (L : ℕ) → base + length s ≤ L → HeldWithin L before → ChannelsIn L (subs_at at (pick own m (count_in before)))
+  pub room : (before : Std.Option Places) (hv : Option (List R.Channel)) (own : Bool) (at : ℕ) (cs : List R.Channel) → HeldIs (channels_in before) hv → PartValue (Owned o s p m) hv own cs → at ≡ pick own (base + p) (held_at (channels_in before)) → (L : ℕ) → base + length s ≤ L → HeldWithin L before → ChannelsIn L (subs_at at (pick own m (count_in before)))
   room before hv true at cs i v e L l w = record { inside = omega (arith, v.room.inside); few = v.room.few }
-  room Before.Nothing none false at cs i v e L l w = none-some v
-  room Before.Nothing (some x) false at cs i v e L l w = absurd i
-  room (Before.These q) hv false at cs i v e L l w = rw e w
+  room None none false at cs i v e L l w = none-some v
+  room None (some x) false at cs i v e L l w = absurd i
+  room (Some q) hv false at cs i v e L l w = rw e w

@@ -1,5 +1,6 @@
 -- A file that is accepted, by what its header says: how long it is, what the walks over its header and its recordings come to, and its rows.
 -- Assumes nothing.
+use Rattle.rules.specs.declared.Refusal.{Refusal}
 use mathlib.Core.Path.{◌≡◌, ◌∙◌}
 use mathlib.Core.List.{List}
 use mathlib.Core.Option.{none}
@@ -16,11 +17,10 @@ use Rattle.rules.specs.declared.FileHeader as Declared
 use Rattle.rules.proofs.Rows.{judge-rows}
 use Rattle.header.specs.Letters.{heading_of}
 use Rattle.judge.specs.Judged.{AcceptedAs, JudgedAs}
-use Rattle.judge.specs.declared.Judged.{Judged}
 use Rattle.judge.proofs.Verdicts.{accepted-seen}
 
 -- the judge's answer where it is a header
-pub accepted : {s : List ℕ} {a : Judged} {h : Declared.FileHeader} → a ≡ Judged.Accepted h → JudgedAs s a → AcceptedAs s h
+pub accepted : {s : List ℕ} {a : Result FileHeader Refusal} {h : Declared.FileHeader} → a ≡ Ok h → JudgedAs s a → AcceptedAs s h
 accepted e x = rw e at x
 
 silent-file_header : (n : ℕ) → Silent (file_header n)

@@ -1,5 +1,6 @@
 -- A recording: what the walk comes to, from what the code finds of its head, its descriptions and its signals.
 -- Assumes nothing.
+use Rattle.std.specs.Prelude as Std
 use mathlib.Core.Path.{◌≡◌, refl, sym, ap, subst, ◌∙◌}
 use mathlib.Core.Bool.{Bool}
 use mathlib.Core.List.{List}
@@ -33,16 +34,12 @@ use Rattle.records.proofs.Bodies.{body-opened}
 use Rattle.rules.proofs.Cases.{most-low}
 use Rattle.records.proofs.Opened.{require-went, admit-went, admit-passed}
 use Rattle.descriptions.specs.DescriptionsJudged.{HeldWithin, place_of, channels_in, patient_in, held_at, Keeps, DescribedBounds, described, DescriptionsOf}
-use Rattle.descriptions.specs.declared.Before.{Before}
 use Rattle.descriptions.specs.declared.Places.{Places}
-use Rattle.descriptions.specs.declared.DescriptionsJudged.TheVariants as DescriptionsJudged
 use Rattle.descriptions.specs.declared.Described.{Described}
 use Rattle.signals.specs.FramesJudged.{SignalsIn}
 use Rattle.signals.specs.Signaled.{DescriptionsKnown, Whole, WholeAt, SignalsOf}
-use Rattle.signals.specs.declared.frames.FramesJudged.TheVariants as FramesJudged
 use Rattle.signals.proofs.Signaled.{yields-signals}
 use Rattle.judge.specs.Recorded.{places_of, places_for, Places-of, recorded, PlacedIn, RecordingIn, BodyIn, BodyJudged, RecordingAt, BodyAgain, RecordingAgain}
-use Rattle.judge.specs.declared.recording.Recorded.{Recorded}
 
 -- the place of a part of a recording at `start`, whose body has n bytes: by the room, as the descriptions have it, and as the layout has it
 part-place : (start n room bytes at : ℕ) → bytes ≡ 16 + n → at ≡ bytes - room → place_of (start + 16) n room ≡ start + at
@@ -63,7 +60,7 @@ alike : {a a' b b' c c' d d' e e' g g' k k' l l' m m' n n' y y' : ℕ} {x x' z z
 alike e₁ e₂ e₃ e₄ e₅ e₆ e₇ e₈ e₉ e₁₀ e₁₁ e₁₂ e₁₃ = cc
 
 -- the code's places are the walk's
-places_same : (o : Order) (file : List ℕ) (at n : ℕ) (before : Before) (t : Described) (f : Frames) (X : R.Descriptions) (e : ℕ) (h : R.Head) (x : R.Placed) → Keeps o file (at + 16) n before t X e → Whole X h f x → R.span h ≡ 16 + n → t.next.at + 16 ≤ n → places_for at n t f.size f.seconds ≡ places_of at before x
+places_same : (o : Order) (file : List ℕ) (at n : ℕ) (before : Std.Option Places) (t : Described) (f : Frames) (X : R.Descriptions) (e : ℕ) (h : R.Head) (x : R.Placed) → Keeps o file (at + 16) n before t X e → Whole X h f x → R.span h ≡ 16 + n → t.next.at + 16 ≤ n → places_for at n t f.size f.seconds ≡ places_of at before x
 places_same o file at n before t f X e h x k w s l =
     let bytes : x.layout.bytes ≡ R.span h = ap (λ (y : R.Layout). y.bytes) w.layout in
     let at120 : x.layout.at120 ≡ R.span h - X.next.room = ap (λ (y : R.Layout). y.at120) w.layout in
@@ -89,7 +86,7 @@ places_same o file at n before t f X e h x k w s l =
     (sym w.seconds)
 
 -- the body of a recording with the head h
-module _ (o : Order) (label : Label) (file : List ℕ) (at : ℕ) (s : List ℕ) (before : Before) (held : Option R.Held) (h : R.Head) (fills : R.span h ≡ 16 + length s) where
+module _ (o : Order) (label : Label) (file : List ℕ) (at : ℕ) (s : List ℕ) (before : Std.Option Places) (held : Option R.Held) (h : R.Head) (fills : R.span h ≡ 16 + length s) where
   abbrev body : Verdict R.Placed
   body = see o (at + 16) s (at + 16) (R.recording_body label held h)
 
@@ -99,10 +96,10 @@ module _ (o : Order) (label : Label) (file : List ℕ) (at : ℕ) (s : List ℕ)
       see-bind o (at + 16) s (at + 16) (R.descriptions label held (R.span h)) (λ t. R.signals label t h)
       ∙ ap (λ (n : ℕ). onward (see o (at + 16) s (at + 16) (R.descriptions label held n)) (λ t e. see o (at + 16) s e (R.signals label t h))) fills
 
-  tables-stop : {r : Refusal} → described o label file (at + 16) held s before (DescriptionsJudged.Stop r) → body ≡ halts r
+  tables-stop : {r : Refusal} → described o label file (at + 16) held s before (Err r) → body ≡ halts r
   tables-stop k = halves ∙ rw k
 
-  module _ {t : Described} (kept : described o label file (at + 16) held s before (DescriptionsJudged.On t)) where
+  module _ {t : Described} (kept : described o label file (at + 16) held s before (Ok t)) where
     reached : body ≡ see o (at + 16) s (at + 16 + (t.next.at + 16)) (R.signals label kept.value h)
     reached = halves ∙ rw (kept.is, kept.kept.end)
 
@@ -122,10 +119,10 @@ module _ (o : Order) (label : Label) (file : List ℕ) (at : ℕ) (s : List ℕ)
         multiplier = times;
       }
 
-      signals-stop : {r : Refusal} → SignalsOf o label file cs t.own t.basic t.next (at + 16) s m (FramesJudged.Stop r) → body ≡ halts r
+      signals-stop : {r : Refusal} → SignalsOf o label file cs t.own t.basic t.next (at + 16) s m (Err r) → body ≡ halts r
       signals-stop k = reached ∙ k kept.value h known
 
-      body-holds : {f : Frames} (q : ℕ) → SignalsOf o label file cs t.own t.basic t.next (at + 16) s m (FramesJudged.On f q) → t.next.at + 16 ≤ length s → Goes body (Places-of o file at before (places_for at (length s) t f.size f.seconds))
+      body-holds : {f : Frames} (q : ℕ) → SignalsOf o label file cs t.own t.basic t.next (at + 16) s m (Ok f q) → t.next.at + 16 ≤ length s → Goes body (Places-of o file at before (places_for at (length s) t f.size f.seconds))
       body-holds {f} q k l =
           let g : Goes (see o (at + 16) s (at + 16 + (t.next.at + 16)) (R.signals label kept.value h)) (WholeAt (at + 16 + length s) kept.value h f) = k kept.value h known in
           placed f (reached ∙ g.is) g.kept.ends g.kept.whole l
@@ -150,12 +147,12 @@ module _ (o : Order) (label : Label) (file : List ℕ) (at : ℕ) (s : List ℕ)
           rw (i, j) (placed numbers g (omega (arith, z.1)) told.1 l)
 
 -- the bounds of its places, in a file of n bytes
-continues : (at n : ℕ) (s : List ℕ) (before : Before) (t : Described) → DescribedBounds (at + 16) (length s) before t → at + 16 + length s ≤ n → HeldWithin n before → (frame seconds : ℕ) → PlacedIn at n (places_for at (length s) t frame seconds)
+continues : (at n : ℕ) (s : List ℕ) (before : Std.Option Places) (t : Described) → DescribedBounds (at + 16) (length s) before t → at + 16 + length s ≤ n → HeldWithin n before → (frame seconds : ℕ) → PlacedIn at n (places_for at (length s) t frame seconds)
 continues at n s before t b fits within frame seconds = record { start = omega arith; end = fits; channels = b.room n fits within }
 
 -- what `recording_body` asks of the functions that it calls, and what it answers at each return
-module _ (o : Order) (label : Label) (file s : List ℕ) (at : ℕ) (before : Before) (i : BodyIn file s at before) where
-  module _ {t : Described} (k : DescriptionsOf o label (at + 16) s before (DescriptionsJudged.On t)) where
+module _ (o : Order) (label : Label) (file s : List ℕ) (at : ℕ) (before : Std.Option Places) (i : BodyIn file s at before) where
+  module _ {t : Described} (k : DescriptionsOf o label (at + 16) s before (Ok t)) where
     room : ChannelsIn (length file) (subs_at t.channels t.count)
     room = k.bounds.room (length file) i.inside i.held
 
@@ -172,29 +169,29 @@ module _ (o : Order) (label : Label) (file s : List ℕ) (at : ℕ) (before : Be
           channels = rw c room;
         }
 
-  pub stops-descriptions : {m : ℕ} {r : Refusal} → DescriptionsOf o label (at + 16) s before (DescriptionsJudged.Stop r) → BodyJudged o label file s at m before (Recorded.Stop r)
+  pub stops-descriptions : {m : ℕ} {r : Refusal} → DescriptionsOf o label (at + 16) s before (Err r) → BodyJudged o label file s at m before (Err r)
   stops-descriptions k = record { told = λ held h has fills times. tables-stop o label file at s before held h fills (k.told file held i.part has); continues = tt }
 
-  module _ {m : ℕ} {t : Described} (k : DescriptionsOf o label (at + 16) s before (DescriptionsJudged.On t)) {cs : Channels} (c : cs ≡ subs_at t.channels t.count) where
-    pub stops-signals : {r : Refusal} → SignalsOf o label file cs t.own t.basic t.next (at + 16) s m (FramesJudged.Stop r) → BodyJudged o label file s at m before (Recorded.Stop r)
+  module _ {m : ℕ} {t : Described} (k : DescriptionsOf o label (at + 16) s before (Ok t)) {cs : Channels} (c : cs ≡ subs_at t.channels t.count) where
+    pub stops-signals : {r : Refusal} → SignalsOf o label file cs t.own t.basic t.next (at + 16) s m (Err r) → BodyJudged o label file s at m before (Err r)
     stops-signals j = record { told = λ held h has fills times. signals-stop o label file at s before held h fills (k.told file held i.part has) c times j; continues = tt }
 
-    pub holds : {f : Frames} (q : ℕ) → SignalsOf o label file cs t.own t.basic t.next (at + 16) s m (FramesJudged.On f q) → BodyJudged o label file s at m before (Recorded.On (places_for at (length s) t f.size f.seconds))
+    pub holds : {f : Frames} (q : ℕ) → SignalsOf o label file cs t.own t.basic t.next (at + 16) s m (Ok f q) → BodyJudged o label file s at m before (Ok (places_for at (length s) t f.size f.seconds))
     holds {f} q j = record {
       told = λ held h has fills times. body-holds o label file at s before held h fills (k.told file held i.part has) c times q j k.bounds.fits;
       continues = continues at (length file) s before t k.bounds i.inside i.held f.size f.seconds;
     }
 
 -- what `body_again` answers
-module _ (o : Order) (label : Label) (s : List ℕ) (at : ℕ) (before : Before) where
-  pub again-stops : {r : Refusal} → DescriptionsOf o label (at + 16) s before (DescriptionsJudged.Stop r) → BodyAgain o label s at before (Recorded.Stop r)
+module _ (o : Order) (label : Label) (s : List ℕ) (at : ℕ) (before : Std.Option Places) where
+  pub again-stops : {r : Refusal} → DescriptionsOf o label (at + 16) s before (Err r) → BodyAgain o label s at before (Err r)
   again-stops k = record { told = λ file held h x e is has fills g. tables-stop o label file at s before held h fills (k.told file held is has); continues = λ n l w. tt }
 
-  module _ {t : Described} (k : DescriptionsOf o label (at + 16) s before (DescriptionsJudged.On t)) where
-    pub again-short : {r : Refusal} → length s < t.next.at + 32 → BodyAgain o label s at before (Recorded.Stop r)
+  module _ {t : Described} (k : DescriptionsOf o label (at + 16) s before (Ok t)) where
+    pub again-short : {r : Refusal} → length s < t.next.at + 32 → BodyAgain o label s at before (Err r)
     again-short l = record { told = λ file held h x e is has fills g. absurd (long o label file at s before held h fills (k.told file held is has) g l); continues = λ n l w. tt }
 
-    pub again-holds : {frame seconds : ℕ} → seconds ≡ number_at o 4 s (t.next.at + 16) → frame ≡ number_at o 4 s (t.next.at + 20) → BodyAgain o label s at before (Recorded.On (places_for at (length s) t frame seconds))
+    pub again-holds : {frame seconds : ℕ} → seconds ≡ number_at o 4 s (t.next.at + 16) → frame ≡ number_at o 4 s (t.next.at + 20) → BodyAgain o label s at before (Ok (places_for at (length s) t frame seconds))
     again-holds {frame} {seconds} i j = record {
       told = λ file held h x e is has fills g. found o label file at s before held h fills (k.told file held is has) g frame seconds i j k.bounds.fits;
       continues = λ n l w. continues at n s before t k.bounds l w frame seconds;
@@ -239,7 +236,7 @@ opened-any o label s at room i {h} {e} g =
     simp (walks, gates, f.is, y) (sym (see-give o 0 s f.end f.value) ∙ d.rest)
 
 -- what `recording_at` and `recording_again` ask of the functions that they call, and what they answer
-module _ (file : List ℕ) (p q : ℕ) {before : Before} (low : p + 16 ≤ q) (inside : q ≤ length file) (i : RecordingIn (length file) p before) where
+module _ (file : List ℕ) (p q : ℕ) {before : Std.Option Places} (low : p + 16 ≤ q) (inside : q ≤ length file) (i : RecordingIn (length file) p before) where
   abbrev within : List ℕ
   within = take (q - (p + 16)) (drop (p + 16) file)
 
@@ -254,10 +251,10 @@ module _ (file : List ℕ) (p q : ℕ) {before : Before} (low : p + 16 ≤ q) (i
     held = i.held;
   }
 
-pub at_stops : {o : Order} {label : Label} {file : List ℕ} {p i : ℕ} {before : Before} {r : Refusal} → OpenAt o 0 file p (Kind.Recording label i) (Opened.Stop r) → RecordingAt o label file p i before (Recorded.Stop r)
+pub at_stops : {o : Order} {label : Label} {file : List ℕ} {p i : ℕ} {before : Std.Option Places} {r : Refusal} → OpenAt o 0 file p (Kind.Recording label i) (Opened.Stop r) → RecordingAt o label file p i before (Err r)
 at_stops {o} {label} {file} {p} {i} a = record { told = λ held has. open-stop o label file p i a held; continues = tt }
 
-pub at_body : {o : Order} {label : Label} {file : List ℕ} {p i : ℕ} {before : Before} {h : Head} {q : ℕ} {x : Recorded} → OpenAt o 0 file p (Kind.Recording label i) (Opened.On h q) →
+pub at_body : {o : Order} {label : Label} {file : List ℕ} {p i : ℕ} {before : Std.Option Places} {h : Head} {q : ℕ} {x : Result Places Refusal} → OpenAt o 0 file p (Kind.Recording label i) (Opened.On h q) →
     BodyJudged o label file (take (q - (p + 16)) (drop (p + 16) file)) p h.multiplier before x → RecordingAt o label file p i before x
 at_body {o} {label} {file} {p} {i} {before} {h} {q} {x} a k = record {
   told = λ held has. subst (λ (v : Verdict R.Placed). recorded o file p before v x) (in_body o label file p i a held) (k.told held (head_of h) has (fills o label file p i a) refl);
@@ -281,10 +278,10 @@ module _ (o : Order) (label : Label) (file : List ℕ) (p i : ℕ) (held : Optio
       let st = a.stands in
       record { seen = rw zero-add (begun.is ∙ cc (y.0, y.1)); stands = record { at = st.at; end = st.end; inside = st.inside; spans = st.spans } }
 
-pub again-refused : {o : Order} {label : Label} {file : List ℕ} {p : ℕ} {before : Before} {r : Refusal} → OpenAt o 0 file p Kind.Any (Opened.Stop r) → RecordingAgain o label file p before (Recorded.Stop r)
+pub again-refused : {o : Order} {label : Label} {file : List ℕ} {p : ℕ} {before : Std.Option Places} {r : Refusal} → OpenAt o 0 file p Kind.Any (Opened.Stop r) → RecordingAgain o label file p before (Err r)
 again-refused {o} {label} {file} {p} a = record { told = λ held i x e has g. absurd (not_stopped o label file p i held g a); continues = tt }
 
-pub again-body : {o : Order} {label : Label} {file : List ℕ} {p : ℕ} {before : Before} {h : Head} {q : ℕ} {x : Recorded} → OpenAt o 0 file p Kind.Any (Opened.On h q) → BodyIn file (take (q - (p + 16)) (drop (p + 16) file)) p before →
+pub again-body : {o : Order} {label : Label} {file : List ℕ} {p : ℕ} {before : Std.Option Places} {h : Head} {q : ℕ} {x : Result Places Refusal} → OpenAt o 0 file p Kind.Any (Opened.On h q) → BodyIn file (take (q - (p + 16)) (drop (p + 16) file)) p before →
     BodyAgain o label (take (q - (p + 16)) (drop (p + 16) file)) p before x → RecordingAgain o label file p before x
 again-body {o} {label} {file} {p} {before} {h} {q} {x} a b k = record {
   told = λ held i y e has g.

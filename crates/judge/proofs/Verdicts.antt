@@ -1,5 +1,6 @@
 -- What the rules say of a file, by what its header and its recordings come to; and that only one answer meets the contract of `judge`.
 -- Assumes nothing.
+use Rattle.rules.specs.declared.Refusal.{Refusal}
 use mathlib.Core.Path.{◌≡◌, refl, sym, ap, ◌∙◌}
 use mathlib.Core.Bool.{Bool, true, false}
 use mathlib.Core.List.{List, []}
@@ -22,7 +23,6 @@ use Rattle.rules.proofs.Refusals.{Told, judge-told}
 use Rattle.rules.proofs.Room.{stays-file_header, stays-file}
 use Rattle.header.specs.Letters.{heading_of}
 use Rattle.judge.specs.Judged.{AcceptedAs, JudgedAs}
-use Rattle.judge.specs.declared.Judged.{Judged}
 use Rattle.judge.proofs.Recordings.{yields-recordings}
 
 -- the file with this header whose recordings end at q
@@ -82,21 +82,21 @@ accepted-unique s h k x y =
     let l : h.count ≡ k.count = cc in
     λ n. record { order = i n; heading = record { spelling = (j n).spelling; label = (j n).label; script = (j n).script }; count = l n }
 
-pub judge-unique : (s : List ℕ) (a b : Judged) → JudgedAs s a → JudgedAs s b → a ≡ b
-judge-unique s (Judged.Accepted h) (Judged.Accepted k) x y = ap Judged.Accepted (accepted-unique s h k x y)
-judge-unique s (Judged.Accepted h) (Judged.Refused r) x y = refused-passed (sym y ∙ x.judged)
-judge-unique s (Judged.Refused r) (Judged.Accepted k) x y = refused-passed (sym x ∙ y.judged)
-judge-unique s (Judged.Refused r) (Judged.Refused u) x y =
+pub judge-unique : (s : List ℕ) (a b : Result FileHeader Refusal) → JudgedAs s a → JudgedAs s b → a ≡ b
+judge-unique s (Ok h) (Ok k) x y = ap Ok (accepted-unique s h k x y)
+judge-unique s (Ok h) (Err r) x y = refused-passed (sym y ∙ x.judged)
+judge-unique s (Err r) (Ok k) x y = refused-passed (sym x ∙ y.judged)
+judge-unique s (Err r) (Err u) x y =
     let i : r.0 ≡ u.0 = cc in
     let j : r.1 ≡ u.1 = cc in
-    ap Judged.Refused (λ n. record { 0 = i n; 1 = j n })
+    ap Err (λ n. record { 0 = i n; 1 = j n })
 
 -- the answer is the rules' own: what a caller knows of a file that they refuse, and of one that they pass
-pub judge-refused : (s : List ℕ) (a : Judged) {m p : ℕ} → JudgedAs s a → judge s ≡ refused m p → a ≡ Judged.Refused (record { 0 = m; 1 = p })
-judge-refused s a {m} {p} x e = judge-unique s a (Judged.Refused (record { 0 = m; 1 = p })) x e
+pub judge-refused : (s : List ℕ) (a : Result FileHeader Refusal) {m p : ℕ} → JudgedAs s a → judge s ≡ refused m p → a ≡ Err (record { 0 = m; 1 = p })
+judge-refused s a {m} {p} x e = judge-unique s a (Err (record { 0 = m; 1 = p })) x e
 
-pub judge-accepted : (s : List ℕ) (a : Judged) {v : File} {t : List Event} → JudgedAs s a → judge s ≡ passed v [] t → a ≡ Judged.Accepted (record { order = order_of s; heading = record { spelling = v.heading.spelling; label = v.heading.label; script = v.heading.script }; count = length v.recordings })
-judge-accepted s a {v} {t} x e = judge-unique s a (Judged.Accepted (record { order = order_of s; heading = record { spelling = v.heading.spelling; label = v.heading.label; script = v.heading.script }; count = length v.recordings })) x (record { file = v; events = t; judged = e; order = refl; heading = refl; count = refl })
+pub judge-accepted : (s : List ℕ) (a : Result FileHeader Refusal) {v : File} {t : List Event} → JudgedAs s a → judge s ≡ passed v [] t → a ≡ Ok (record { order = order_of s; heading = record { spelling = v.heading.spelling; label = v.heading.label; script = v.heading.script }; count = length v.recordings })
+judge-accepted s a {v} {t} x e = judge-unique s a (Ok (record { order = order_of s; heading = record { spelling = v.heading.spelling; label = v.heading.label; script = v.heading.script }; count = length v.recordings })) x (record { file = v; events = t; judged = e; order = refl; heading = refl; count = refl })
 
 -- what the walk comes to over a file that is accepted
 went-whole : (n : ℕ) (x : Outcome File) {v : File} {t : List Event} → x ≡ passed v [] t → (y : Verdict File) → Told n x y → Holds (λ _ e. e ≤ n) y → y ≡ goes v n

@@ -1,21 +1,12 @@
 -- What the answer of `judge` says, as the rules' outcome for the file.
 -- Assumes nothing.
+use Rattle.rules.specs.Reasons.{number_of}
 use Rattle.std.specs.Prelude.{◌≡◌, List, [], ℕ, length}
 use Rattle.walk.specs.Walk.{Event, refused, passed}
 use Rattle.rules.specs.Rules as R
 use Rattle.rules.specs.declared.FileHeader.{FileHeader}
 use Rattle.rules.specs.declared.Refusal.{Refusal}
 use Rattle.header.specs.Letters.{heading_of}
-use Rattle.judge.specs.declared.Judged.{Judged}
-use Rattle.judge.specs.declared.recording.Recorded.{Recorded}
-
-abbrev pub refusal_r : Recorded → Refusal
-refusal_r (Recorded.On q) = record { 0 = 0; 1 = 0 }
-refusal_r (Recorded.Stop r) = r
-
-abbrev pub refusal_j : Judged → Refusal
-refusal_j (Judged.Accepted h) = record { 0 = 0; 1 = 0 }
-refusal_j (Judged.Refused r) = r
 
 -- the rules pass the file s with no byte left, and the header h says its order, its values and how many recordings it holds
 pub record AcceptedAs (s : List ℕ) (h : FileHeader) : Type 0 where
@@ -26,6 +17,6 @@ pub record AcceptedAs (s : List ℕ) (h : FileHeader) : Type 0 where
   pub heading : heading_of h.heading ≡ file.heading
   pub count : h.count ≡ length file.recordings
 
-abbrev pub JudgedAs : List ℕ → Judged → Type 0
-JudgedAs s (Judged.Accepted h) = AcceptedAs s h
-JudgedAs s (Judged.Refused r) = R.judge s ≡ refused r.0 r.1
+abbrev pub JudgedAs : List ℕ → Result FileHeader Refusal → Type 0
+JudgedAs s (Ok h) = AcceptedAs s h
+JudgedAs s (Err r) = R.judge s ≡ refused (number_of r.0) r.1

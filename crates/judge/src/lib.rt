@@ -17,72 +17,37 @@ use records::Step;
 use rules::{FileHeader, Label, Refusal};
 use words::Order;
 
-// A file that is accepted, or the refusal.
-#[derive(Clone, Copy)]
-pub enum Judged {
-    Accepted(FileHeader),
-    Refused(Refusal),
-}
-
-pub fn of_recording(a: Recorded) -> Refusal
-    ensures { result ≡ refusal_r a }
-{
-    match a {
-        Recorded::On(_) => Refusal(0, 0),
-        Recorded::Stop(r) => r,
-    }
-}
-
 // So many recordings from byte 32 of the file on: where they end.
-fn recordings_from(o: Order, label: Label, file: &[u8], count: u32) -> Step
+fn recordings_from(o: Order, label: Label, file: &[u8], count: u32) -> Result<usize, Refusal>
     requires { HeaderIn (length file.now) }
     ensures { StepOver o 0 file.now 32
         (R.recordings label count none (length file.now - 32) 1) (Beyond 32 (length file.now)) result }
 {
     let mut p: usize = FileHeader::LENGTH;
     let mut i: u32 = 0;
-    let mut before = Before::Nothing;
+    let mut before = None;
     while i < count {
-        let step = recording::recording_at(o, label, file, p, i + 1, before);
-        let Recorded::On(places) = step else {
-            return Step::Stop(of_recording(step));
-        };
+        let places = recording::recording_at(o, label, file, p, i + 1, before)?;
         p = places.end;
-        before = Before::These(places);
+        before = Some(places);
         i += 1;
     }
-    Step::On(p)
+    Ok(p)
 }
 
 // The verdict on a file.
-pub fn judge(file: &[u8]) -> Judged
+pub fn judge(file: &[u8]) -> Result<FileHeader, Refusal>
     ensures { JudgedAs file.now result }
 {
-    let opened = header::file_header(file);
-    let Opened::Holds(h) = opened else {
-        return Judged::Refused(header::of_opened(opened));
-    };
+    let h = header::file_header(file)?;
     let order = h.order;
     let heading = h.heading;
     let label = heading.label;
     let count = h.count;
-    let walked = recordings_from(order, label, file, count);
-    let Step::On(end) = walked else {
-        let stop = records::of_step(walked);
-        return Judged::Refused(stop);
-    };
+    let end = recordings_from(order, label, file, count)?;
     if end < file.len() {
-        return Judged::Refused(Refusal(16, end));
+        return Err(Refusal(Reason::Behind, end));
     }
-    Judged::Accepted(h)
+    Ok(h)
 }
 
-// The refusal of a file.
-pub fn of_judged(a: Judged) -> Refusal
-    ensures { result ≡ refusal_j a }
-{
-    match a {
-        Judged::Accepted(_) => Refusal(0, 0),
-        Judged::Refused(r) => r,
-    }
-}

@@ -12,13 +12,6 @@ use signals::frames::FramesJudged;
 use signals::{of_frames, signals};
 use words::{Order, number4};
 
-// Where a recording stands, or the refusal.
-#[derive(Clone, Copy)]
-pub enum Recorded {
-    On(Places),
-    Stop(Refusal),
-}
-
 // The places of the recording at `at`, whose body has n bytes and these descriptions: its frames are so long, and of so many seconds.
 fn places_for(at: usize, n: usize, t: Described, frame: usize, seconds: u32) -> Places
     requires { TablesIn at n t }
@@ -52,24 +45,18 @@ fn recording_body(
     s: &[u8],
     at: usize,
     multiplier: u32,
-    before: Before,
-) -> Recorded
+    before: Option<Places>,
+) -> Result<Places, Refusal>
     requires { BodyIn file.now s.now at before }
     ensures { BodyJudged o label file.now s.now at multiplier before result }
 {
     let base = at + Head::LENGTH;
-    let described = judge_descriptions(o, label, s, base, before);
-    let DescriptionsJudged::On(t) = described else {
-        return Recorded::Stop(of_descriptions(described));
-    };
+    let t = judge_descriptions(o, label, s, base, before)?;
     let cs = channels_of(t);
     let next = t.next;
     let basic = t.basic;
-    let framed = signals(o, label, file, cs, t.own, basic, next, s, base, multiplier);
-    let FramesJudged::On(f, _) = framed else {
-        return Recorded::Stop(of_frames(framed));
-    };
-    Recorded::On(places_for(at, s.len(), t, f.size, f.seconds))
+    let (f, _) = signals(o, label, file, cs, t.own, basic, next, s, base, multiplier)?;
+    Ok(places_for(at, s.len(), t, f.size, f.seconds))
 }
 
 // The recording at byte p of the file, with the serial i.
@@ -79,15 +66,12 @@ pub fn recording_at(
     file: &[u8],
     p: usize,
     i: u32,
-    before: Before,
-) -> Recorded
+    before: Option<Places>,
+) -> Result<Places, Refusal>
     requires { RecordingIn (length file.now) p before }
     ensures { RecordingAt o label file.now p i before result }
 {
-    let opened = open(o, file, 0, p, Kind::Recording(label, i));
-    let Opened::On(h, end) = opened else {
-        return Recorded::Stop(of_open(opened));
-    };
+    let (h, end) = open(o, file, 0, p, Kind::Recording(label, i))?;
     recording_body(
         o,
         label,
@@ -100,35 +84,29 @@ pub fn recording_at(
 }
 
 // The body of a recording that the judge accepted.
-fn body_again(o: Order, label: Label, s: &[u8], at: usize, before: Before) -> Recorded
+fn body_again(o: Order, label: Label, s: &[u8], at: usize, before: Option<Places>) -> Result<Places, Refusal>
     requires { Addressable (at + 16 + length s.now) }
     ensures { BodyAgain o label s.now at before result }
 {
     let base = at + Head::LENGTH;
-    let described = judge_descriptions(o, label, s, base, before);
-    let DescriptionsJudged::On(t) = described else {
-        return Recorded::Stop(of_descriptions(described));
-    };
+    let t = judge_descriptions(o, label, s, base, before)?;
     let next = t.next;
     let p = next.at;
     let place = base + p;
     // A 140 without room for its own fields: as `frames_at` refuses it.
     if s.len() < p + Frames::FIRST {
-        return Recorded::Stop(Refusal(10, place));
+        return Err(Refusal(Reason::Length, place));
     }
     let seconds = number4(o, s, p + Frames::SECONDS);
     let frame = number4(o, s, p + Frames::FRAME_LENGTH) as usize;
-    Recorded::On(places_for(at, s.len(), t, frame, seconds))
+    Ok(places_for(at, s.len(), t, frame, seconds))
 }
 
 // Where a recording stands that the judge accepted: its descriptions are read again, its frames are not.
-pub fn recording_again(o: Order, label: Label, file: &[u8], p: usize, before: Before) -> Recorded
+pub fn recording_again(o: Order, label: Label, file: &[u8], p: usize, before: Option<Places>) -> Result<Places, Refusal>
     requires { RecordingIn (length file.now) p before }
     ensures { RecordingAgain o label file.now p before result }
 {
-    let opened = open(o, file, 0, p, Kind::Any);
-    let Opened::On(_, end) = opened else {
-        return Recorded::Stop(of_open(opened));
-    };
+    let (_, end) = open(o, file, 0, p, Kind::Any)?;
     body_again(o, label, &file[p + Head::LENGTH..end], p, before)
 }

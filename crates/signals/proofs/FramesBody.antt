@@ -24,7 +24,6 @@ use Rattle.descriptions.proofs.Stands.{yields-weaken, yields-past}
 use Rattle.signals.specs.FramesJudged.{frames_of}
 use Rattle.signals.specs.Shaped.{field_tests, behind_fields, Shapes, ReadWith}
 use Rattle.signals.specs.declared.frames.Shape.{Shape}
-use Rattle.signals.specs.declared.frames.Shaped.TheVariants as Shaped
 
 -- so many frames are no more than this
 pub frames-short : (n size : ℕ) → n ≤ 1000000 → size < 2147483648 → n * size ≤ 2147483648000000
@@ -73,9 +72,9 @@ module _ (o : Order) (label : Label) (at : ℕ) (s : List ℕ) (ch : List Channe
 
   -- the body of a 140 whose fields are tested
   module _ {file : List ℕ} {cs : Channels} {total multiplier : ℕ} {b : Basic} {h : Head} (w : ReadWith o file cs s total multiplier b ch h) where
-    pub body-stop : {r : Refusal} → Shapes o at s total multiplier ch (Shaped.Stop r) → over frames_of (see o (at + 16) s (at + 16) (frames_body label b ch h)) ≡ halts r
+    pub body-stop : {r : Refusal} → Shapes o at s total multiplier ch (Err r) → over frames_of (see o (at + 16) s (at + 16) (frames_body label b ch h)) ≡ halts r
     body-stop x = rw (frames-open b h, w.frames, w.bytes, w.times, x.tests, over-stops)
 
-    pub body-on : {f : Shape} → Shapes o at s total multiplier ch (Shaped.On f) →
+    pub body-on : {f : Shape} → Shapes o at s total multiplier ch (Ok f) →
         over frames_of (see o (at + 16) s (at + 16) (frames_body label b ch h)) ≡ over frames_of (see o (at + 16) s (at + 32) (behind_fields label f.seconds f.size total (16 + length s) ch))
     body-on x = rw (frames-open b h, w.frames, w.bytes, w.times, x.tests, ← x.fields.seconds, ← x.fields.size, ← x.fields.count)

@@ -1,5 +1,6 @@
 -- What a recording's second half comes to, one step at a time.
 -- Assumes nothing.
+use Rattle.rules.specs.declared.Reason.TheVariants as Reason
 use mathlib.Core.Path.{◌≡◌, refl, sym, ap, ◌∙◌}
 use mathlib.Core.Bool.{Bool, true, false}
 use mathlib.Core.List.{List}
@@ -21,14 +22,11 @@ use Rattle.rules.specs.declared.Frames.{Frames}
 use Rattle.rules.specs.declared.Head.{Head}
 use Rattle.rules.specs.declared.Refusal.{Refusal}
 use Rattle.rules.proofs.Room.{stays-frames_rest}
-use Rattle.records.specs.declared.Headed.TheVariants as Headed
-use Rattle.records.specs.declared.Tested.{Tested}
 use Rattle.records.specs.Says.{halts, head_of, tested, Headroom, headroom, NextHead}
 use Rattle.rules.specs.Rules.{Descriptions, signals}
 use Rattle.descriptions.proofs.Stands.{yields-past}
 use Rattle.signals.specs.FramesJudged.{frames_of, SignalsIn, FramesAt}
 use Rattle.signals.specs.Signaled.{DescriptionsKnown, Whole, WholeAt, SignalsOf, closing_tests}
-use Rattle.signals.specs.declared.frames.FramesJudged.TheVariants as FramesJudged
 use Rattle.signals.proofs.FramesBody.{yields-frames}
 
 -- what is given at the end
@@ -125,10 +123,10 @@ module _ (label : Label) {o : Order} {file : List ℕ} {cs : Channels} {own : Bo
   uncoded x = rw (opened, x, gate-false)
 
   module _ (code : eqb h.code 140 ≡ true) where
-    frames-stop : {x : Refusal} → FramesAt o label file cs own b h base s (FramesJudged.Stop x) → halfway ≡ halts x
+    frames-stop : {x : Refusal} → FramesAt o label file cs own b h base s (Err x) → halfway ≡ halts x
     frames-stop x = rw (opened, code, gate-true, stopped frames_of _ (x.seen t.basic t.channels.value k.basic k.channels))
 
-    frames-on : {f : Frames} {q : ℕ} → FramesAt o label file cs own b h base s (FramesJudged.On f q) → AfterFrames o label base s t r halfway f q
+    frames-on : {f : Frames} {q : ℕ} → FramesAt o label file cs own b h base s (Ok f q) → AfterFrames o label base s t r halfway f q
     frames-on {f} {q} x =
         let v : Verdict R.Frames = see o base s (base + (h.at + 16)) (the140 label t own (length s) h) in
         let g : Goes v (λ a e. (frames_of a ≡ f) × (e ≡ base + q)) = went frames_of v (x.seen t.basic t.channels.value k.basic k.channels) in
@@ -141,10 +139,10 @@ module _ (label : Label) {o : Order} {file : List ℕ} {cs : Channels} {own : Bo
             record { value = y; kept = j; same = rw (opened, code, gate-true, i, l, d) }
 
 module _ {o : Order} {label : Label} {base : ℕ} {s : List ℕ} {t : Descriptions} {r : R.Head} {v : Verdict R.Placed} {f : Frames} where
-  found-stop : {q : ℕ} {x : Refusal} → AfterFrames o label base s t r v f q → NextHead o label base s q (Headed.Stop x) → v ≡ halts x
+  found-stop : {q : ℕ} {x : Refusal} → AfterFrames o label base s t r v f q → NextHead o label base s q (Err x) → v ≡ halts x
   found-stop {q} a n = a.same ∙ rw (stopped headroom (see o base s (base + q) (R.next label (16 + length s) (length s - q))) (n.seen (16 + length s) (omega arith)))
 
-  found-on : {q : ℕ} {d : Head} → R.span r ≡ 16 + length s → AfterFrames o label base s t r v f q → NextHead o label base s q (Headed.At d) → AfterHead o label base s t r v f (head_of d) (d.at + 16)
+  found-on : {q : ℕ} {d : Head} → R.span r ≡ 16 + length s → AfterFrames o label base s t r v f q → NextHead o label base s q (Ok d) → AfterHead o label base s t r v f (head_of d) (d.at + 16)
   unfolding behind
   found-on {q} {d} n a x =
       let w : Verdict R.Next = see o base s (base + q) (R.next label (16 + length s) (length s - q)) in
@@ -179,29 +177,29 @@ module _ {o : Order} {label : Label} {base : ℕ} {s : List ℕ} {t : Descriptio
 
 -- what `signals` answers at each return, from what the functions that it calls say
 module _ (o : Order) (label : Label) (file : List ℕ) (cs : Channels) (own : Bool) (b : Basic) (h : Head) (base : ℕ) (s : List ℕ) (m : ℕ) (i : SignalsIn file cs b h base s) where
-  pub other-code : eqb h.code 140 ≡ false → (p : ℕ) → p ≡ base + (h.at + 4) → SignalsOf o label file cs own b h base s m (FramesJudged.Stop (record { 0 = 9; 1 = p }))
+  pub other-code : eqb h.code 140 ≡ false → (p : ℕ) → p ≡ base + (h.at + 4) → SignalsOf o label file cs own b h base s m (Err (record { 0 = Reason.Code; 1 = p }))
   other-code c p e t r k = uncoded label k base i.head.inside c ∙ ap (λ (x : ℕ). stops 9 x) (sym e)
 
   module _ (code : eqb h.code 140 ≡ true) where
-    pub stops-frames : {x : Refusal} → FramesAt o label file cs own b h base s (FramesJudged.Stop x) → SignalsOf o label file cs own b h base s m (FramesJudged.Stop x)
+    pub stops-frames : {x : Refusal} → FramesAt o label file cs own b h base s (Err x) → SignalsOf o label file cs own b h base s m (Err x)
     stops-frames a t r k = frames-stop label k base i.head.inside code a
 
-    module _ {f : Frames} {q : ℕ} (a : FramesAt o label file cs own b h base s (FramesJudged.On f q)) where
-      pub stops-next : {x : Refusal} → NextHead o label base s q (Headed.Stop x) → SignalsOf o label file cs own b h base s m (FramesJudged.Stop x)
+    module _ {f : Frames} {q : ℕ} (a : FramesAt o label file cs own b h base s (Ok f q)) where
+      pub stops-next : {x : Refusal} → NextHead o label base s q (Err x) → SignalsOf o label file cs own b h base s m (Err x)
       stops-next n t r k = found-stop (frames-on label k base i.head.inside code a) n
 
-      module _ {d : Head} (n : NextHead o label base s q (Headed.At d)) where
+      module _ {d : Head} (n : NextHead o label base s q (Ok d)) where
         behind-head : {t : Descriptions} {r : R.Head} (k : DescriptionsKnown o file cs own b h s m t r) → AfterHead o label base s t r (see o base s (base + (h.at + 16)) (signals label t r)) f (head_of d) (d.at + 16)
         behind-head k = found-on k.bytes (frames-on label k base i.head.inside code a) n
 
         -- last: what is said of the delimiter; rest: of what follows it
-        module _ {last : Tested} (l : see o base s (base + (d.at + 16)) (R.delimiter (head_of d)) ≡ tested last (base + (d.at + 16))) where
-          pub stops-delimiter : {x : Refusal} → last ≡ Tested.Stop x → SignalsOf o label file cs own b h base s m (FramesJudged.Stop x)
+        module _ {last : Result (Unit {0}) Refusal} (l : see o base s (base + (d.at + 16)) (R.delimiter (head_of d)) ≡ tested last (base + (d.at + 16))) where
+          pub stops-delimiter : {x : Refusal} → last ≡ Err x → SignalsOf o label file cs own b h base s m (Err x)
           stops-delimiter e t r k = delimiter-stop (behind-head k) (rw e at l)
 
-          module _ (fine : last ≡ Tested.Fine) {rest : Tested} (z : closing_tests o base s (d.at + 16) f.padded m ≡ tested rest (base + length s)) where
-            pub stops-closing : {x : Refusal} → rest ≡ Tested.Stop x → SignalsOf o label file cs own b h base s m (FramesJudged.Stop x)
+          module _ (fine : last ≡ (Ok tt)) {rest : Result (Unit {0}) Refusal} (z : closing_tests o base s (d.at + 16) f.padded m ≡ tested rest (base + length s)) where
+            pub stops-closing : {x : Refusal} → rest ≡ Err x → SignalsOf o label file cs own b h base s m (Err x)
             stops-closing e t r k = closed-stop (behind-head k) k.multiplier (rw fine at l) i.body.headed (rw e at z) refl
 
-            pub holds : rest ≡ Tested.Fine → SignalsOf o label file cs own b h base s m (FramesJudged.On f q)
+            pub holds : rest ≡ (Ok tt) → SignalsOf o label file cs own b h base s m (Ok f q)
             holds e t r k = closed_on (behind-head k) k.multiplier (rw fine at l) i.body.headed (rw e at z) refl

@@ -12,9 +12,7 @@ use Rattle.rules.specs.declared.Refusal.{Refusal}
 use Rattle.records.specs.Asks.{BodyOf}
 use Rattle.records.specs.Says.{halts, ChannelsIn, ChannelsStand}
 use Rattle.signals.specs.FramesJudged.{frames_of, framed}
-use Rattle.signals.specs.declared.frames.FramesJudged.{FramesJudged}
 use Rattle.signals.specs.declared.frames.Shape.{Shape}
-use Rattle.signals.specs.declared.frames.Shaped.{Shaped}
 
 -- T, the frame length and the count of frames are tested, in a 140 of so many bytes at `at`; then the verdict that follows
 unfoldable pub field_tests : (at bytes total multiplier : ℕ) → List R.Channel → (t size n : ℕ) → Verdict R.Frames → Verdict R.Frames
@@ -34,13 +32,9 @@ behind_fields label t size n bytes ch = do
   give (record { seconds = t; frames = fs; size = size; padded = n * (size - (24 + R.sample_bytes t ch)) + (bytes - (32 + n * size)) })
 
 -- a shape goes on with a verdict, or stops
-abbrev pub shaped : Shaped → Verdict R.Frames → Verdict R.Frames
-shaped (Shaped.On f) v = v
-shaped (Shaped.Stop r) v = halts r
-
-abbrev pub refusal_s : Shaped → Refusal
-refusal_s (Shaped.On f) = record { 0 = 0; 1 = 0 }
-refusal_s (Shaped.Stop r) = r
+abbrev pub shaped : Result Shape Refusal → Verdict R.Frames → Verdict R.Frames
+shaped (Ok f) v = v
+shaped (Err r) v = halts r
 
 -- the fields that stand in the body s, and where the samples of these channels end in a frame
 pub record ShapeOf (o : Order) (s : List ℕ) (total : ℕ) (ch : List R.Channel) (f : Shape) : Type 0 where
@@ -49,12 +43,12 @@ pub record ShapeOf (o : Order) (s : List ℕ) (total : ℕ) (ch : List R.Channel
   pub count : total ≡ number_at o 4 s 8
   pub filled : f.filled ≡ 24 + R.sample_bytes f.seconds ch
 
-abbrev pub FieldsIn : Order → List ℕ → ℕ → List R.Channel → Shaped → Type 0
-FieldsIn o s total ch (Shaped.On f) = ShapeOf o s total ch f
-FieldsIn o s total ch (Shaped.Stop r) = Unit {0}
+abbrev pub FieldsIn : Order → List ℕ → ℕ → List R.Channel → Result Shape Refusal → Type 0
+FieldsIn o s total ch (Ok f) = ShapeOf o s total ch f
+FieldsIn o s total ch (Err r) = Unit {0}
 
 -- the tests come to what the answer says, whatever follows them
-pub record Shapes (o : Order) (at : ℕ) (s : List ℕ) (total multiplier : ℕ) (ch : List R.Channel) (a : Shaped) : Type 0 where
+pub record Shapes (o : Order) (at : ℕ) (s : List ℕ) (total multiplier : ℕ) (ch : List R.Channel) (a : Result Shape Refusal) : Type 0 where
   pub tests : (v : Verdict R.Frames) → field_tests at (16 + length s) total multiplier ch (number_at o 4 s 0) (number_at o 4 s 4) (number_at o 4 s 8) v ≡ shaped a v
   pub fields : FieldsIn o s total ch a
 
@@ -64,14 +58,14 @@ pub record Sized (f : Shape) : Type 0 where
   pub fits : f.filled ≤ f.size
   pub short : f.size < 2147483648
 
-abbrev pub Sizes : Shaped → Type 0
-Sizes (Shaped.On f) = Sized f
-Sizes (Shaped.Stop r) = Unit {0}
+abbrev pub Sizes : Result Shape Refusal → Type 0
+Sizes (Ok f) = Sized f
+Sizes (Err r) = Unit {0}
 
 -- a 140 that stops at its byte n
-abbrev pub Fills : ℕ → FramesJudged → Type 0
-Fills n (FramesJudged.On f q) = q ≡ n
-Fills n (FramesJudged.Stop r) = Unit {0}
+abbrev pub Fills : ℕ → Result (Frames × ℕ) Refusal → Type 0
+Fills n (Ok f q) = q ≡ n
+Fills n (Err r) = Unit {0}
 
 -- what the functions ask
 
@@ -100,12 +94,12 @@ pub record RestAsked (at : ℕ) (s : List ℕ) (total : ℕ) (f : Shape) : Type 
 -- and what they promise. `told`, `seen`: the answer is what the rules' walk comes to; `sized`, `fills`: what holds whatever the walk reads
 
 -- the tests of its own fields, for the channels that stand at cs
-pub record FieldsTested (o : Order) (file : List ℕ) (cs : Channels) (at : ℕ) (s : List ℕ) (total multiplier : ℕ) (a : Shaped) : Type 0 where
+pub record FieldsTested (o : Order) (file : List ℕ) (cs : Channels) (at : ℕ) (s : List ℕ) (total multiplier : ℕ) (a : Result Shape Refusal) : Type 0 where
   pub told : (ch : List R.Channel) → ChannelsStand o file cs ch → Shapes o at s total multiplier ch a
   pub sized : Sizes a
 
 -- the frames and the padding, for channels whose samples fill a frame as the shape says
-pub record RestRead (o : Order) (label : Label) (at : ℕ) (s : List ℕ) (total : ℕ) (f : Shape) (a : FramesJudged) : Type 0 where
+pub record RestRead (o : Order) (label : Label) (at : ℕ) (s : List ℕ) (total : ℕ) (f : Shape) (a : Result (Frames × ℕ) Refusal) : Type 0 where
   pub seen : (ch : List R.Channel) → f.filled ≡ 24 + R.sample_bytes f.seconds ch →
       over frames_of (see o (at + 16) s (at + 32) (behind_fields label f.seconds f.size total (16 + length s) ch)) ≡ framed at a
   pub fills : Fills (16 + length s) a
@@ -118,7 +112,7 @@ pub record ReadWith (o : Order) (file : List ℕ) (cs : Channels) (s : List ℕ)
   pub times : h.multiplier ≡ multiplier
 
 -- the whole body
-pub record BodyRead (o : Order) (label : Label) (file : List ℕ) (cs : Channels) (at : ℕ) (s : List ℕ) (total multiplier : ℕ) (a : FramesJudged) : Type 0 where
+pub record BodyRead (o : Order) (label : Label) (file : List ℕ) (cs : Channels) (at : ℕ) (s : List ℕ) (total multiplier : ℕ) (a : Result (Frames × ℕ) Refusal) : Type 0 where
   pub seen : (b : R.Basic) (ch : List R.Channel) (h : R.Head) → ReadWith o file cs s total multiplier b ch h →
       over frames_of (see o (at + 16) s (at + 16) (R.frames_body label b ch h)) ≡ framed at a
   pub fills : Fills (16 + length s) a

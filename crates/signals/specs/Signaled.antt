@@ -13,11 +13,10 @@ use Rattle.rules.specs.declared.Refusal.{Refusal}
 use Rattle.records.specs.Says.{halts, head_of, basic_of, ChannelsStand}
 use Rattle.rules.specs.Rules.{Descriptions}
 use Rattle.descriptions.specs.DescriptionsJudged.{BodyAt}
-use Rattle.signals.specs.declared.frames.FramesJudged.{FramesJudged}
 
-abbrev pub refusal_f : FramesJudged → Refusal
-refusal_f (FramesJudged.On f q) = record { 0 = 0; 1 = 0 }
-refusal_f (FramesJudged.Stop r) = r
+abbrev pub refusal_f : Result (Frames × ℕ) Refusal → Refusal
+refusal_f (Ok f q) = record { 0 = 0; 1 = 0 }
+refusal_f (Err r) = r
 
 -- what the code has of the descriptions t and of the recording's head r, whose body is s: h is the head found where the 140 should stand
 pub record DescriptionsKnown (o : Order) (file : List ℕ) (cs : Channels) (is_own : Bool) (b : Basic) (h : Head) (s : List ℕ) (m : ℕ) (t : Descriptions) (r : R.Head) : Type 0 where
@@ -55,12 +54,12 @@ pub record WholeAt (end : ℕ) (t : Descriptions) (r : R.Head) (f : Frames) (p :
   pub whole : Whole t r f p
 
 -- v, the verdict on the walk: it goes on to `end` with such a recording, or is refused
-abbrev pub Signaled : Verdict R.Placed → ℕ → Descriptions → R.Head → FramesJudged → Type 0
-Signaled v end t r (FramesJudged.On f q) = Goes v (WholeAt end t r f)
-Signaled v end t r (FramesJudged.Stop x) = v ≡ halts x
+abbrev pub Signaled : Verdict R.Placed → ℕ → Descriptions → R.Head → Result (Frames × ℕ) Refusal → Type 0
+Signaled v end t r (Ok f q) = Goes v (WholeAt end t r f)
+Signaled v end t r (Err x) = v ≡ halts x
 
 -- what `signals` answers, of any descriptions and any recording's head of which the code has this
-abbrev pub SignalsOf : Order → Label → List ℕ → Channels → Bool → Basic → Head → ℕ → List ℕ → ℕ → FramesJudged → Type 0
+abbrev pub SignalsOf : Order → Label → List ℕ → Channels → Bool → Basic → Head → ℕ → List ℕ → ℕ → Result (Frames × ℕ) Refusal → Type 0
 SignalsOf o label file cs own b h base s multiplier a = (t : Descriptions) (r : R.Head) → DescriptionsKnown o file cs own b h s multiplier t r →
     Signaled (see o base s (base + (h.at + 16)) (R.signals label t r)) (base + length s) t r a
 

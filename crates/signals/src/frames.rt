@@ -10,34 +10,12 @@ use records::{Step, Tested, field};
 use rules::{Basic, Channel, Channels, Frame, Frames, Head, Kind, Label, Refusal};
 use words::{Order, number4};
 
-// What a 140 says and where it stops, or the refusal.
-#[derive(Clone, Copy)]
-pub enum FramesJudged {
-    On(Frames, usize),
-    Stop(Refusal),
-}
-
 // T, the frame length, and the byte of a frame where its samples end: what a 140's own fields say.
 #[derive(Clone, Copy)]
 pub struct Shape {
     pub seconds: u32,
     pub size: usize,
     pub filled: usize,
-}
-
-#[derive(Clone, Copy)]
-pub enum Shaped {
-    On(Shape),
-    Stop(Refusal),
-}
-
-fn of_shape(a: Shaped) -> Refusal
-    ensures { result ≡ refusal_s a }
-{
-    match a {
-        Shaped::On(_) => Refusal(0, 0),
-        Shaped::Stop(r) => r,
-    }
 }
 
 // A channel with these flags and this rate has no rate, or at least one sample in t seconds.
@@ -109,7 +87,7 @@ fn read_shape(
     at: usize,
     total: u32,
     multiplier: u32,
-) -> Shaped
+) -> Result<Shape, Refusal>
     requires { FieldsAsked file.now cs at s.now total }
     ensures { FieldsTested o file.now cs at s.now total multiplier result }
 {
@@ -117,22 +95,22 @@ fn read_shape(
     let size = field(o, s, Frames::FRAME_LENGTH) as usize;
     let n = field(o, s, Frames::COUNT);
     if !records::between(1, Frames::MOST_SECONDS, t) {
-        return Shaped::Stop(Refusal(13, at + Frames::SECONDS));
+        return Err(Refusal(Reason::Value, at + Frames::SECONDS));
     }
     if !all_sampled(o, file, cs, t) {
-        return Shaped::Stop(Refusal(14, at + Frames::SECONDS));
+        return Err(Refusal(Reason::Disagreement, at + Frames::SECONDS));
     }
     let bytes = records::channels::sample_bytes(o, file, cs.subs, cs.count, t);
     if !size_ok(bytes, size) {
-        return Shaped::Stop(Refusal(14, at + Frames::FRAME_LENGTH));
+        return Err(Refusal(Reason::Disagreement, at + Frames::FRAME_LENGTH));
     }
     if n != total {
-        return Shaped::Stop(Refusal(14, at + Frames::COUNT));
+        return Err(Refusal(Reason::Disagreement, at + Frames::COUNT));
     }
     if !room_ok(n, size, Head::LENGTH + s.len(), multiplier) {
-        return Shaped::Stop(Refusal(14, at + Frames::COUNT));
+        return Err(Refusal(Reason::Disagreement, at + Frames::COUNT));
     }
-    Shaped::On(Shape {
+    Ok(Shape {
         seconds: t,
         size,
         filled: Frame::SAMPLES + bytes,
@@ -140,14 +118,14 @@ fn read_shape(
 }
 
 // The frames of the record 140 at `at`, and the padding behind them.
-fn frames_rest(o: Order, label: Label, s: &[u8], at: usize, total: u32, f: Shape) -> FramesJudged
+fn frames_rest(o: Order, label: Label, s: &[u8], at: usize, total: u32, f: Shape) -> Result<(Frames, usize), Refusal>
     requires { RestAsked at s.now total f }
     ensures { RestRead o label at s.now total f result }
 {
     let size = f.size;
     let filled = f.filled;
     let n = s.len();
-    let taken = records::frames::frames_from(
+    let q = records::frames::frames_from(
         o,
         label,
         s,
@@ -156,16 +134,10 @@ fn frames_rest(o: Order, label: Label, s: &[u8], at: usize, total: u32, f: Shape
         total,
         size,
         filled,
-    );
-    let Step::On(q) = taken else {
-        return FramesJudged::Stop(records::of_step(taken));
-    };
-    let held = records::padding(s, at + Head::LENGTH, q, n);
-    let Tested::Fine = held else {
-        return FramesJudged::Stop(records::of_test(held));
-    };
+    )?;
+    records::padding(s, at + Head::LENGTH, q, n)?;
     let padded = total as usize * (size - filled) + (n - q);
-    FramesJudged::On(
+    Ok(
         Frames {
             seconds: f.seconds,
             size,
@@ -185,14 +157,11 @@ fn frames_body(
     at: usize,
     total: u32,
     multiplier: u32,
-) -> FramesJudged
+) -> Result<(Frames, usize), Refusal>
     requires { FieldsAsked file.now cs at s.now total }
     ensures { BodyRead o label file.now cs at s.now total multiplier result }
 {
-    let shaped = read_shape(o, file, cs, s, at, total, multiplier);
-    let Shaped::On(f) = shaped else {
-        return FramesJudged::Stop(of_shape(shaped));
-    };
+    let f = read_shape(o, file, cs, s, at, total, multiplier)?;
     frames_rest(o, label, s, at, total, f)
 }
 
@@ -217,22 +186,16 @@ pub fn frames_at(
     s: &[u8],
     base: usize,
     h: Head,
-) -> FramesJudged
+) -> Result<(Frames, usize), Refusal>
     requires { SignalsIn file.now cs b h base s.now }
     ensures { FramesAt o label file.now cs own b h base s.now result }
 {
-    let room = records::kinds::admit(h, base, s.len(), Kind::Frames(label));
-    let Step::On(end) = room else {
-        return FramesJudged::Stop(records::of_step(room));
-    };
+    let end = records::kinds::admit(h, base, s.len(), Kind::Frames(label))?;
     if !count_ok(own, cs.count, b.channels) {
-        return FramesJudged::Stop(Refusal(14, base + Basic::CHANNELS));
+        return Err(Refusal(Reason::Disagreement, base + Basic::CHANNELS));
     }
     let p = h.at;
     let body = &s[p + Head::LENGTH..end];
-    let held = frames_body(o, label, file, cs, body, base + p, b.frames, h.multiplier);
-    let FramesJudged::On(f, _) = held else {
-        return held;
-    };
-    FramesJudged::On(f, end)
+    let (f, _) = frames_body(o, label, file, cs, body, base + p, b.frames, h.multiplier)?;
+    Ok(f, end)
 }

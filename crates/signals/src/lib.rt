@@ -15,25 +15,16 @@ use records::{Headed, Tested};
 use rules::{Basic, Channels, Head, Kind, Label, Recording, Refusal};
 use words::Order;
 
-pub fn of_frames(a: FramesJudged) -> Refusal
-    ensures { result ≡ refusal_f a }
-{
-    match a {
-        FramesJudged::On(_, _) => Refusal(0, 0),
-        FramesJudged::Stop(r) => r,
-    }
-}
-
 // What follows the delimiter, which stops at byte `end`: the content's limit, and the padding.
-fn closed(s: &[u8], base: usize, end: usize, padded: usize, multiplier: u32) -> Tested
+fn closed(s: &[u8], base: usize, end: usize, padded: usize, multiplier: u32) -> Result<(), Refusal>
     requires { ClosedIn base s.now end }
     ensures { (o : Order) → closing_tests o base s.now end padded multiplier ≡ tested result (base + length s.now) }
 {
     if Recording::CONTENT_LIMIT < records::less(Head::LENGTH + end, padded) {
-        return Tested::Stop(Refusal(14, base - Head::LENGTH));
+        return Err(Refusal(Reason::Disagreement, base - Head::LENGTH));
     }
     if !records::pad_ok(multiplier, s.len() - end) {
-        return Tested::Stop(Refusal(10, base + end));
+        return Err(Refusal(Reason::Length, base + end));
     }
     records::padding(s, base, end, s.len())
 }
@@ -50,28 +41,16 @@ pub fn signals(
     s: &[u8],
     base: usize,
     multiplier: u32,
-) -> FramesJudged
+) -> Result<(Frames, usize), Refusal>
     requires { SignalsIn file.now cs b h base s.now }
     ensures { SignalsOf o label file.now cs own b h base s.now multiplier result }
 {
     if !has_code(Kind::Frames(label), h.code) {
-        return FramesJudged::Stop(Refusal(9, base + h.at + Head::CODE));
+        return Err(Refusal(Reason::Code, base + h.at + Head::CODE));
     }
-    let held = crate::frames::frames_at(o, label, file, cs, own, b, s, base, h);
-    let FramesJudged::On(f, end) = held else {
-        return held;
-    };
-    let found = records::makers::next_head(o, label, s, base, end);
-    let Headed::At(d) = found else {
-        return FramesJudged::Stop(records::of_head(found));
-    };
-    let last = records::delimiter::delimiter(d, base);
-    let Tested::Fine = last else {
-        return FramesJudged::Stop(records::of_test(last));
-    };
-    let rest = closed(s, base, d.at + Head::LENGTH, f.padded, multiplier);
-    let Tested::Fine = rest else {
-        return FramesJudged::Stop(records::of_test(rest));
-    };
+    let (f, end) = crate::frames::frames_at(o, label, file, cs, own, b, s, base, h)?;
+    let d = records::makers::next_head(o, label, s, base, end)?;
+    records::delimiter::delimiter(d, base)?;
+    closed(s, base, d.at + Head::LENGTH, f.padded, multiplier)?;
     held
 }

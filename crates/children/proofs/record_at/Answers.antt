@@ -9,8 +9,6 @@ use Rattle.words.specs.declared.Order.{Order}
 use Rattle.rules.specs.declared.Head.{Head}
 use Rattle.rules.specs.declared.Refusal.{Refusal}
 use Rattle.records.specs.Says.{head_of, HeadAt, AdmittedBy}
-use Rattle.records.specs.declared.Headed.{Headed}
-use Rattle.records.specs.declared.Step.{Step}
 use Rattle.rules.specs.declared.Kind.TheVariants as Kind
 use Rattle.records.proofs.Laws.{admitted-at}
 use Rattle.children.specs.Children.{Heads, RecordAt, NoRecord}
@@ -26,19 +24,19 @@ record There (o : Order) (b : ℕ) (s : List ℕ) (p : ℕ) (h : Head) : Type 0 
 
 -- what `head_at` says where it answers a head, and what `admit` then says of it
 module _ {o : Order} {b : ℕ} {s : List ℕ} {p : ℕ} {h : Head} where
-  there : {a : Headed} → a ≡ Headed.At h → HeadAt o b s p a → There o b s p h
+  there : {a : Result Head Refusal} → a ≡ Ok h → HeadAt o b s p a → There o b s p h
   there e v =
-      let w : HeadAt o b s p (Headed.At h) = rw e at v in
+      let w : HeadAt o b s p (Ok h) = rw e at v in
       record { place = w.stands.0; inside = w.stands.1; heads = rw w.stands.0 at w.seen }
 
-  refused : {a : Step} {r : Refusal} → There o b s p h → a ≡ Step.Stop r → AdmittedBy h b (length s) Kind.Any a → NoRecord o b s p
+  refused : {a : Result ℕ Refusal} {r : Refusal} → There o b s p h → a ≡ Err r → AdmittedBy h b (length s) Kind.Any a → NoRecord o b s p
   refused {r = r} t e v =
-      let w : AdmittedBy h b (length s) Kind.Any (Step.Stop r) = rw e at v in
+      let w : AdmittedBy h b (length s) Kind.Any (Err r) = rw e at v in
       none-refused t.heads (admitted-at t.place w o b s)
 
-  admitted : {a : Step} {q : ℕ} → There o b s p h → (h.code ≡ 0 → ⊥) → a ≡ Step.On q → AdmittedBy h b (length s) Kind.Any a → RecordAt o b s p h q
+  admitted : {a : Result ℕ Refusal} {q : ℕ} → There o b s p h → (h.code ≡ 0 → ⊥) → a ≡ Ok q → AdmittedBy h b (length s) Kind.Any a → RecordAt o b s p h q
   admitted {q = q} t n e v =
-      let w : AdmittedBy h b (length s) Kind.Any (Step.On q) = rw e at v in
+      let w : AdmittedBy h b (length s) Kind.Any (Ok q) = rw e at v in
       record {
         place = t.place;
         heads = t.heads;

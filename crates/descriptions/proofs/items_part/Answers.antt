@@ -1,5 +1,6 @@
 -- `descriptions::items_part` meets its contract: another code, a record that is refused, or the head behind one that passed.
 -- x: behind the test of the code. Assumes nothing.
+use Rattle.rules.proofs.Handed.{handed}
 use mathlib.Core.Path.{◌≡◌, sym, ap, ◌∙◌}
 use Prim.Native.Nat.{◌+◌}
 use native.Mathlib.Omega.{arith}
@@ -28,18 +29,18 @@ returns-then-not-has_code c =
       follows = follows-lacking a.base (length a.s.now) a.h a.held c.requires.inside;
     })
 
-pub returns-in_default : goal.returns-in_default
-returns-in_default c =
+pub returns-in_err-end : goal.returns-in_err-end
+returns-in_err-end c =
     let a = c.args in
-    let same = coded (goal.at.returns-in_default c).After-has_code ∙ c.if-not-has_code.false in
-    simp (c.of_step.ensures, c.in_default.is) (record {
-      told = judges-stop a.o a.label a.base a.s.now (code_of a.k) (R.items (ok_of a.k)) (λ _. Unit {0}) a.h a.held same _ (rw c.in_default.is at c.items_at-step.ensures.seen);
+    let same = coded (goal.at.returns-in_err-end c).After-has_code ∙ c.if-not-has_code.false in
+    rw (handed _ c.from_residual.ensures) (record {
+      told = judges-stop a.o a.label a.base a.s.now (code_of a.k) (R.items (ok_of a.k)) (λ _. Unit {0}) a.h a.held same _ (c.in_err-end.ensures.seen);
       follows = tt;
     })
 
 pub behind-requires : goal.behind-requires
 behind-requires c =
-    let w = rw c.in-On.is at c.items_at-step.ensures.stands in
+    let w = c.in_ok-end.ensures.stands in
     record { start = omega arith; inside = w.inside; short = search rules }
 
 pub returns : goal.returns
@@ -47,10 +48,10 @@ returns c =
     let a = c.args in
     let s = a.s.now in
     let same = coded (goal.at.returns c).After-has_code ∙ c.if-not-has_code.false in
-    let q = c.in-On.end in
-    let w = rw c.in-On.is at c.items_at-step.ensures.stands in
+    let q = c.in_ok-end.end in
+    let w = c.in_ok-end.ensures.stands in
     record {
       told = judges-behind a.o a.label a.base s (code_of a.k) (R.items (ok_of a.k)) (λ _. Unit {0}) a.h a.held same (stays-items_rest (ok_of a.k)) q c.requires.inside w.inside
-          (rw c.in-On.is at c.items_at-step.ensures.seen) (λ _ _. tt) c.behind.result c.behind.ensures;
+          (c.in_ok-end.ensures.seen) (λ _ _. tt) c.behind.result c.behind.ensures;
       follows = follows-stood (a.base + a.h.at) a.h.at q (length s) c.behind.result (omega arith) c.behind.ensures.stands;
     }

@@ -1,105 +1,107 @@
 -- `descriptions::judge_descriptions` meets its contract: one law of Describing for each return.
 -- The places: behind the 100 (first), the head that follows it (found), the 120 or 320 (cs), the 130 (ps), the 200 (es) and the 350 (ms). Assumes nothing.
+use Rattle.descriptions.specs.declared.Part.{Part}
+use Rattle.std.proofs.Common.{Result, Ok}
+use Rattle.rules.proofs.Handed.{handed}
+use Rattle.rules.specs.declared.Refusal.{Refusal}
 use mathlib.Core.Path.{◌≡◌, refl}
 use Rattle.walk.specs.Walk.{pick}
-use Rattle.records.specs.declared.basic.Basiced.TheVariants as Basiced
 use Rattle.records.specs.declared.items.Holder.TheVariants as Holder
 use Rattle.descriptions.specs.DescriptionsJudged.{count_in, ChannelsPart, MontagePart, ItemsPart, EventsPart}
-use Rattle.descriptions.specs.declared.Parted.{Parted}
 use Rattle.descriptions.proofs.Describing.{Hundred, hundred-fits, Begun, begun, stops-basic, stops-next, stops-channels, stops-patient, stops-events, stops-montage, holds}
 use Rattle.descriptions.proofs.judge_descriptions.Goals as goal
-use Rattle.descriptions.proofs.judge_descriptions.Goals.{After-count_of-count, After-held_channels, After-held_patient, After-montage_part-ms, In-Holds, In-On-ps}
+use Rattle.descriptions.proofs.judge_descriptions.Goals.{After-count_of-count, After-held_channels, After-held_patient, After-montage_part, In_ok-basic, In_ok-p}
 
 -- what is known at each: the 100 that passed, with the head behind it; the 120 or 320; the 130; the 200
-hundred : (x : In-Holds) →
+hundred : (x : In_ok-basic) →
     let a = x.args in
-    Hundred a.o a.base a.s.now (Basiced.Holds x.in-Holds.basic)
-hundred x = rw x.in-Holds.is at x.basic_at-first.ensures
+    Hundred a.o a.base a.s.now (Ok x.in_ok-basic.basic)
+hundred x = x.in_ok-basic.ensures
 
 begins : (x : After-held_channels) →
     let a = x.args in
-    Begun a.o a.label a.base a.s.now x.in-Holds.basic x.in-At.h
+    Begun a.o a.label a.base a.s.now x.in_ok-basic.basic x.in_ok-h.h
 begins x =
     let a = x.args in
-    begun a.o a.base a.s.now a.label (hundred (goal.at.After-held_channels x).In-Holds) (rw x.in-At.is at x.next_head-found.ensures)
+    begun a.o a.base a.s.now a.label (hundred (goal.at.After-held_channels x).In_ok-basic) (x.in_ok-h.ensures)
 
 channels : (x : After-held_patient) →
     let a = x.args in
-    ChannelsPart a.o a.label a.base a.s.now x.in-At.h x.in-Holds.basic.channels x.held_channels.result (Parted.On x.in-On.c)
-channels x = rw x.in-On.is at x.channels_part-cs.ensures
+    ChannelsPart a.o a.label a.base a.s.now x.in_ok-h.h x.in_ok-basic.basic.channels x.held_channels.result (Ok x.in_ok-c.c)
+channels x = x.in_ok-c.ensures
 
-patient : (x : In-On-ps) →
+patient : (x : In_ok-p) →
     let a = x.args in
-    ItemsPart a.o a.label Holder.Patient a.base a.s.now x.in-On.c.next x.held_patient.result (Parted.On x.in-On-ps.p)
-patient x = rw x.in-On-ps.is at x.items_part-ps.ensures
+    ItemsPart a.o a.label Holder.Patient a.base a.s.now x.in_ok-c.c.next x.held_patient.result (Ok x.in_ok-p.p)
+patient x = x.in_ok-p.ensures
 
 events : (x : After-count_of-count) →
     let a = x.args in
-    EventsPart a.o a.label a.base a.s.now x.in-On-ps.p.next (Parted.On x.in-On-es.e)
-events x = rw x.in-On-es.is at x.events_part-es.ensures
+    EventsPart a.o a.label a.base a.s.now x.in_ok-p.p.next (Ok x.in_ok-e.e)
+events x = x.in_ok-e.ensures
 
--- what is known of the 350, with the count of channels (goal.at.After-montage_part-ms that).After-held_patient hold
-montage : (x : After-montage_part-ms) {a : Parted} → x.montage_part-ms.result ≡ a →
+-- what is known of the 350, with the count of channels (goal.at.After-montage_part that).After-held_patient hold
+montage : (x : After-montage_part) {a : Result Part Refusal} → x.montage_part.result ≡ a →
     let z = x.args in
-    MontagePart z.o z.label z.base z.s.now x.in-On-es.e.next (pick x.in-On.c.own x.in-Holds.basic.channels (count_in z.before)) a
-montage x e = rw (e, x.count_of-count.ensures) at x.montage_part-ms.ensures
+    MontagePart z.o z.label z.base z.s.now x.in_ok-e.e.next (pick x.in_ok-c.c.own x.in_ok-basic.basic.channels (count_in z.before)) a
+montage x e = rw (e, x.count_of-count.ensures) at x.montage_part.ensures
 
-pub returns-in_default : goal.returns-in_default
-returns-in_default c =
+pub returns-in_err-basic : goal.returns-in_err-basic
+returns-in_err-basic c =
     let a = c.args in
-    simp (c.of_basic.ensures, c.in_default.is) (stops-basic a.o a.base a.s.now (rw c.in_default.is at c.basic_at-first.ensures))
+    rw (handed _ c.from_residual.ensures) (stops-basic a.o a.base a.s.now _ (c.in_err-basic.ensures))
 
-pub next_head-found-requires : goal.next_head-found-requires
-next_head-found-requires c =
+pub next_head-requires : goal.next_head-requires
+next_head-requires c =
     record { low = hundred-fits c.args.o c.args.base c.args.s.now (hundred c); short = c.requires.short }
 
-pub returns-in_default-found : goal.returns-in_default-found
-returns-in_default-found c =
+pub returns-in_err-h : goal.returns-in_err-h
+returns-in_err-h c =
     let a = c.args in
-    simp (c.of_head.ensures, c.in_default-found.is) (stops-next a.o a.base a.s.now (hundred (goal.at.returns-in_default-found c).In-Holds) (rw c.in_default-found.is at c.next_head-found.ensures))
+    rw (handed _ c.from_residual-in_err-h.ensures) (stops-next a.o a.base a.s.now (hundred (goal.at.returns-in_err-h c).In_ok-basic) (c.in_err-h.ensures))
 
-pub channels_part-cs-requires : goal.channels_part-cs-requires
-channels_part-cs-requires c =
+pub channels_part-requires : goal.channels_part-requires
+channels_part-requires c =
     record { inside = (begins c).stands.inside; short = c.requires.short }
 
-pub returns-in_default-cs : goal.returns-in_default-cs
-returns-in_default-cs c =
+pub returns-in_err-c : goal.returns-in_err-c
+returns-in_err-c c =
     let a = c.args in
-    simp (c.of_part.ensures, c.in_default-cs.is)
-    (stops-channels a.o a.base a.s.now a.label (begins (goal.at.returns-in_default-cs c).After-held_channels) a.before c.held_channels.ensures refl (rw c.in_default-cs.is at c.channels_part-cs.ensures))
+    rw (handed _ c.from_residual-in_err-c.ensures)
+    (stops-channels a.o a.base a.s.now a.label (begins (goal.at.returns-in_err-c c).After-held_channels) a.before c.held_channels.ensures refl (c.in_err-c.ensures))
 
-pub items_part-ps-requires : goal.items_part-ps-requires
-items_part-ps-requires c =
+pub items_part-requires : goal.items_part-requires
+items_part-requires c =
     record { inside = (channels c).follows.inside; short = c.requires.short }
 
-pub returns-in_default-ps : goal.returns-in_default-ps
-returns-in_default-ps c =
+pub returns-in_err-p : goal.returns-in_err-p
+returns-in_err-p c =
     let a = c.args in
-    simp (c.of_part-in_default-ps.ensures, c.in_default-ps.is)
-    (stops-patient a.o a.base a.s.now a.label (begins (goal.at.returns-in_default-ps c).After-held_channels) a.before c.held_channels.ensures c.held_patient.ensures (channels (goal.at.returns-in_default-ps c).After-held_patient) (rw c.in_default-ps.is at c.items_part-ps.ensures))
+    rw (handed _ c.from_residual-in_err-p.ensures)
+    (stops-patient a.o a.base a.s.now a.label (begins (goal.at.returns-in_err-p c).After-held_channels) a.before c.held_channels.ensures c.held_patient.ensures (channels (goal.at.returns-in_err-p c).After-held_patient) (c.in_err-p.ensures))
 
-pub events_part-es-requires : goal.events_part-es-requires
-events_part-es-requires c =
-    record { inside = (patient (goal.at.events_part-es-requires c).In-On-ps).follows.inside; short = c.requires.short }
+pub events_part-requires : goal.events_part-requires
+events_part-requires c =
+    record { inside = (patient (goal.at.events_part-requires c).In_ok-p).follows.inside; short = c.requires.short }
 
-pub returns-in_default-es : goal.returns-in_default-es
-returns-in_default-es c =
+pub returns-in_err-e : goal.returns-in_err-e
+returns-in_err-e c =
     let a = c.args in
-    simp (c.of_part-in_default-es.ensures, c.in_default-es.is)
-    (stops-events a.o a.base a.s.now a.label (begins (goal.at.returns-in_default-es c).After-held_channels) a.before c.held_channels.ensures c.held_patient.ensures (channels (goal.at.returns-in_default-es c).After-held_patient) (patient (goal.at.returns-in_default-es c).In-On-ps) (rw c.in_default-es.is at c.events_part-es.ensures))
+    rw (handed _ c.from_residual-in_err-e.ensures)
+    (stops-events a.o a.base a.s.now a.label (begins (goal.at.returns-in_err-e c).After-held_channels) a.before c.held_channels.ensures c.held_patient.ensures (channels (goal.at.returns-in_err-e c).After-held_patient) (patient (goal.at.returns-in_err-e c).In_ok-p) (c.in_err-e.ensures))
 
-pub montage_part-ms-requires : goal.montage_part-ms-requires
-montage_part-ms-requires c =
-    record { inside = (events (goal.at.montage_part-ms-requires c).After-count_of-count).follows.inside; short = c.requires.short }
+pub montage_part-requires : goal.montage_part-requires
+montage_part-requires c =
+    record { inside = (events (goal.at.montage_part-requires c).After-count_of-count).follows.inside; short = c.requires.short }
 
-pub returns-in_default-ms : goal.returns-in_default-ms
-returns-in_default-ms c =
+pub returns-in_err-m : goal.returns-in_err-m
+returns-in_err-m c =
     let a = c.args in
-    simp (c.of_part-in_default-ms.ensures, c.in_default-ms.is)
-    (stops-montage a.o a.base a.s.now a.label (begins (goal.at.returns-in_default-ms c).After-held_channels) a.before c.held_channels.ensures c.held_patient.ensures (channels (goal.at.returns-in_default-ms c).After-held_patient) (patient (goal.at.returns-in_default-ms c).In-On-ps) (events (goal.at.returns-in_default-ms c).After-count_of-count) (montage (goal.at.returns-in_default-ms c).After-montage_part-ms c.in_default-ms.is))
+    rw (handed _ c.from_residual-in_err-m.ensures)
+    (stops-montage a.o a.base a.s.now a.label (begins (goal.at.returns-in_err-m c).After-held_channels) a.before c.held_channels.ensures c.held_patient.ensures (channels (goal.at.returns-in_err-m c).After-held_patient) (patient (goal.at.returns-in_err-m c).In_ok-p) (events (goal.at.returns-in_err-m c).After-count_of-count) (montage (goal.at.returns-in_err-m c).After-montage_part c.in_err-m.was))
 
 pub returns : goal.returns
 returns c =
     let a = c.args in
-    rw c.count_of-count.ensures
-    (holds a.o a.base a.s.now a.label (begins (goal.at.returns c).After-held_channels) a.before c.held_channels.ensures c.held_patient.ensures (channels (goal.at.returns c).After-held_patient) (patient (goal.at.returns c).In-On-ps) (events (goal.at.returns c).After-count_of-count) (montage (goal.at.returns c).After-montage_part-ms c.in-On-ms.is) c.requires.headed)
+    rw (c.count_of-count.ensures, c.own_place.ensures, c.own_place-2.ensures)
+    (holds a.o a.base a.s.now a.label (begins (goal.at.returns c).After-held_channels) a.before c.held_channels.ensures c.held_patient.ensures (channels (goal.at.returns c).After-held_patient) (patient (goal.at.returns c).In_ok-p) (events (goal.at.returns c).After-count_of-count) (montage (goal.at.returns c).After-montage_part c.in_ok-m.was) c.requires.headed)

@@ -7,11 +7,10 @@ use Rattle.words.specs.declared.Order.{Order}
 use Rattle.rules.specs.declared.Label.{Label}
 use Rattle.records.specs.Says.{From}
 use Rattle.descriptions.specs.DescriptionsJudged.{HeldWithin}
-use Rattle.descriptions.specs.declared.Before.{Before}
 use Rattle.judge.proofs.Recordings.{Going}
 use Rattle.judge.proofs.recordings_from.Given as goal
 
-pub record Read (o : Order) (label : Label) (file : List ℕ) (count p i : ℕ) (before : Before) : Type 0 where
+pub record Read (o : Order) (label : Label) (file : List ℕ) (count p i : ℕ) (before : Option Places) : Type 0 where
   pub few : i ≤ count
   pub place : From 32 (length file) p
   pub held : HeldWithin (length file) before

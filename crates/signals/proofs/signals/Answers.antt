@@ -6,9 +6,7 @@ use native.Mathlib.Omega.{arith}
 use native.Mathlib.Nat.{add_assoc}
 use lib.Dec.{eqb}
 use Rattle.records.specs.Says.{NextHead}
-use Rattle.records.specs.declared.Headed.TheVariants as Headed
 use Rattle.signals.specs.FramesJudged.{FramesAt}
-use Rattle.signals.specs.declared.frames.FramesJudged.TheVariants as FramesJudged
 use Rattle.signals.proofs.Signaled.{other-code, stops-frames, stops-next, stops-delimiter, stops-closing, holds}
 use borrow.Author.Rules.{rules}
 use Rattle.signals.proofs.signals.Goals as goal
@@ -20,12 +18,12 @@ coded x = sym x.has_code.ensures ∙ x.if-not-has_code.false
 
 frames : (x : In-On) →
     let a = x.args in
-    FramesAt a.o a.label a.file.now a.cs a.own a.b a.h a.base a.s.now (FramesJudged.On x.in-On.f x.in-On.end)
+    FramesAt a.o a.label a.file.now a.cs a.own a.b a.h a.base a.s.now (Ok x.in-On.f x.in-On.end)
 frames x = rw x.in-On.is at x.frames_at-held.ensures
 
 next : (x : In-At) →
     let a = x.args in
-    NextHead a.o a.label a.base a.s.now x.in-On.end (Headed.At x.in-At.d)
+    NextHead a.o a.label a.base a.s.now x.in-On.end (Ok x.in-At.d)
 next x = rw x.in-At.is at x.next_head-found.ensures
 
 pub returns-then-not-has_code : goal.returns-then-not-has_code

@@ -3,7 +3,6 @@
 use native.Mathlib.Omega.{arith}
 use Prim.Native.Nat.{◌+◌}
 use Rattle.descriptions.specs.DescriptionsJudged.{DescriptionsOf}
-use Rattle.descriptions.specs.declared.DescriptionsJudged.TheVariants as DescriptionsJudged
 use Rattle.judge.proofs.Recorded.{again-stops, again-short, again-holds}
 use Rattle.judge.proofs.recording.body_again.Goals as goal
 use Rattle.judge.proofs.recording.body_again.Goals.{In-On}
@@ -11,7 +10,7 @@ use Rattle.judge.proofs.recording.body_again.Goals.{In-On}
 -- the descriptions that passed
 described : (x : In-On) →
     let a = x.args in
-    DescriptionsOf a.o a.label (a.at + 16) a.s.now a.before (DescriptionsJudged.On x.in-On.t)
+    DescriptionsOf a.o a.label (a.at + 16) a.s.now a.before (Ok x.in-On.t)
 described x = rw x.in-On.is at x.judge_descriptions-described.ensures
 
 pub returns-in_default : goal.returns-in_default

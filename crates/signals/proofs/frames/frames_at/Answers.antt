@@ -7,7 +7,6 @@ use lib.Dec.{eqb}
 use lib.ListN.{length, length-take, length-drop}
 use Rattle.rules.specs.declared.Kind.TheVariants as Kind
 use Rattle.records.specs.Says.{AdmittedBy}
-use Rattle.records.specs.declared.Step.TheVariants as Step
 use Rattle.signals.proofs.Answers.{at-refused, at-uncounted, at-stop, at_on}
 use Rattle.signals.proofs.frames.frames_at.Goals as goal
 use Rattle.signals.proofs.frames.frames_at.Goals.{After-count_ok, After-frames_body-held}
@@ -15,7 +14,7 @@ use Rattle.signals.proofs.frames.frames_at.Goals.{After-count_ok, After-frames_b
 -- the head is admitted, and the channels are as many as 100 says
 admits : (r : After-count_ok) →
     let a = r.args in
-    AdmittedBy a.h a.base (length a.s.now) (Kind.Frames a.label) (Step.On r.in-On.end)
+    AdmittedBy a.h a.base (length a.s.now) (Kind.Frames a.label) (Ok r.in-On.end)
 admits r = rw r.in-On.is at r.admit-room.ensures
 
 agrees : (x : After-frames_body-held) →

@@ -1,7 +1,6 @@
 -- `signals::frames::frames_body` meets its contract: the tests of the 140's fields, and then the frames. Assumes nothing.
 use mathlib.Core.Path.{◌∙◌}
 use Rattle.signals.specs.Shaped.{FieldsTested}
-use Rattle.signals.specs.declared.frames.Shaped.TheVariants as Shaped
 use Rattle.signals.proofs.FramesBody.{body-stop, body-on}
 use Rattle.signals.proofs.frames.frames_body.Goals as goal
 use Rattle.signals.proofs.frames.frames_body.Goals.{In-On}
@@ -9,7 +8,7 @@ use Rattle.signals.proofs.frames.frames_body.Goals.{In-On}
 -- the fields that passed
 shape : (x : In-On) →
     let a = x.args in
-    FieldsTested a.o a.file.now a.cs a.at a.s.now a.total a.multiplier (Shaped.On x.in-On.f)
+    FieldsTested a.o a.file.now a.cs a.at a.s.now a.total a.multiplier (Ok x.in-On.f)
 shape x = rw x.in-On.is at x.read_shape-shaped.ensures
 
 pub returns-in_default : goal.returns-in_default

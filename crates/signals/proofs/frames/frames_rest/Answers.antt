@@ -2,7 +2,6 @@
 -- t: where they stop. Assumes nothing.
 use Prim.Native.Nat.{◌*◌, ◌-◌, ◌≤◌}
 use native.Mathlib.Omega.{arith}
-use Rattle.records.specs.declared.Step.TheVariants as Step
 use Rattle.signals.proofs.FramesBody.{frames-short}
 use Rattle.signals.proofs.Answers.{Taken, rest-refused, rest-unpadded, rest-holds}
 use borrow.Author.Rules.{rules}
@@ -12,7 +11,7 @@ use Rattle.signals.proofs.frames.frames_rest.Goals.{In-On}
 -- the frames that passed
 passed : (t : In-On) →
     let a = t.args in
-    Taken a.o a.label a.at a.s.now a.total a.f (Step.On t.in-On.q)
+    Taken a.o a.label a.at a.s.now a.total a.f (Ok t.in-On.q)
 passed t = rw t.in-On.is at t.frames_from-taken.ensures
 
 short : (c : In-On) →
