@@ -1,5 +1,6 @@
 -- What the functions of a 140 answer at each return, from what the functions that they call say.
 -- Assumes nothing.
+use Rattle.std.proofs.Common.{Result, Ok, Err}
 use Rattle.rules.specs.declared.Reason.TheVariants as Reason
 use mathlib.Core.Path.{◌≡◌, refl, sym, ap, ◌∙◌}
 use mathlib.Core.Bool.{Bool, true, false, ◌&&◌, ◌||◌}
@@ -129,7 +130,7 @@ module _ (o : Order) (label : Label) (at : ℕ) (s : List ℕ) (total : ℕ) (f 
       rest-unpadded {r} e = record { seen = padded-as (Err r) (rw e at p); fills = tt }
 
       pub rest-holds : held ≡ (Ok tt) →
-          RestRead o label at s total f (Ok (record { seconds = f.seconds; size = f.size; padded = total * (f.size - f.filled) + (length s - q) }) (16 + length s))
+          RestRead o label at s total f (Ok (record { seconds = f.seconds; size = f.size; padded = total * (f.size - f.filled) + (length s - q) }, 16 + length s))
       rest-holds e = record { seen = padded-as (Ok tt) (rw e at p); fills = refl }
 
 -- the rest of a 140: its head is admitted, 100's count of channels is tested, and the body follows
@@ -192,9 +193,9 @@ module _ (o : Order) (label : Label) (file : List ℕ) (cs : Channels) (own : Bo
       pub at-stop : {r : Refusal} → BodyRead o label file cs (base + h.at) within b.frames h.multiplier (Err r) → Answered (Err r)
       at-stop k = record { seen = body-as (Err _) k; stands = tt }
 
-      pub at_on : {f : Frames} {z : ℕ} → BodyRead o label file cs (base + h.at) within b.frames h.multiplier (Ok f z) → Answered (Ok f q)
+      pub at_on : {f : Frames} {z : ℕ} → BodyRead o label file cs (base + h.at) within b.frames h.multiplier (Ok (f, z)) → Answered (Ok (f, q))
       at_on {f} {z} k =
           let v = a.stands in
           let l = body-fills h.at q s (head_of h) v.0 v.2 v.1 in
           let y : base + h.at + z ≡ base + q = omega (arith, k.fills, l, v.0) in
-          record { seen = λ c ch is st. body-as (Ok f z) k c ch is st ∙ ap (λ (x : ℕ). goes f x) y; stands = record { low = omega (arith, v.0, v.2); inside = v.1 } }
+          record { seen = λ c ch is st. body-as (Ok (f, z)) k c ch is st ∙ ap (λ (x : ℕ). goes f x) y; stands = record { low = omega (arith, v.0, v.2); inside = v.1 } }

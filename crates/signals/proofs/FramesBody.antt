@@ -1,4 +1,5 @@
 -- What the body of record 140 comes to: the tests of its fields, and then the frames and the padding behind them. Assumes nothing.
+use Rattle.std.proofs.Common.{Ok, Err}
 use mathlib.Core.Path.{◌≡◌, refl}
 use mathlib.Core.Bool.{Bool, true, ◌&&◌}
 use mathlib.Core.List.{List}

@@ -1,5 +1,6 @@
 -- What a recording's second half comes to, one step at a time.
 -- Assumes nothing.
+use Rattle.std.proofs.Common.{Result, Ok, Err}
 use Rattle.rules.specs.declared.Reason.TheVariants as Reason
 use mathlib.Core.Path.{◌≡◌, refl, sym, ap, ◌∙◌}
 use mathlib.Core.Bool.{Bool, true, false}
@@ -126,7 +127,7 @@ module _ (label : Label) {o : Order} {file : List ℕ} {cs : Channels} {own : Bo
     frames-stop : {x : Refusal} → FramesAt o label file cs own b h base s (Err x) → halfway ≡ halts x
     frames-stop x = rw (opened, code, gate-true, stopped frames_of _ (x.seen t.basic t.channels.value k.basic k.channels))
 
-    frames-on : {f : Frames} {q : ℕ} → FramesAt o label file cs own b h base s (Ok f q) → AfterFrames o label base s t r halfway f q
+    frames-on : {f : Frames} {q : ℕ} → FramesAt o label file cs own b h base s (Ok (f, q)) → AfterFrames o label base s t r halfway f q
     frames-on {f} {q} x =
         let v : Verdict R.Frames = see o base s (base + (h.at + 16)) (the140 label t own (length s) h) in
         let g : Goes v (λ a e. (frames_of a ≡ f) × (e ≡ base + q)) = went frames_of v (x.seen t.basic t.channels.value k.basic k.channels) in
@@ -184,7 +185,7 @@ module _ (o : Order) (label : Label) (file : List ℕ) (cs : Channels) (own : Bo
     pub stops-frames : {x : Refusal} → FramesAt o label file cs own b h base s (Err x) → SignalsOf o label file cs own b h base s m (Err x)
     stops-frames a t r k = frames-stop label k base i.head.inside code a
 
-    module _ {f : Frames} {q : ℕ} (a : FramesAt o label file cs own b h base s (Ok f q)) where
+    module _ {f : Frames} {q : ℕ} (a : FramesAt o label file cs own b h base s (Ok (f, q))) where
       pub stops-next : {x : Refusal} → NextHead o label base s q (Err x) → SignalsOf o label file cs own b h base s m (Err x)
       stops-next n t r k = found-stop (frames-on label k base i.head.inside code a) n
 
@@ -201,5 +202,5 @@ module _ (o : Order) (label : Label) (file : List ℕ) (cs : Channels) (own : Bo
             pub stops-closing : {x : Refusal} → rest ≡ Err x → SignalsOf o label file cs own b h base s m (Err x)
             stops-closing e t r k = closed-stop (behind-head k) k.multiplier (rw fine at l) i.body.headed (rw e at z) refl
 
-            pub holds : rest ≡ (Ok tt) → SignalsOf o label file cs own b h base s m (Ok f q)
+            pub holds : rest ≡ (Ok tt) → SignalsOf o label file cs own b h base s m (Ok (f, q))
             holds e t r k = closed_on (behind-head k) k.multiplier (rw fine at l) i.body.headed (rw e at z) refl

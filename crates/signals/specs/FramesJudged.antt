@@ -1,5 +1,6 @@
 -- What the answer of `frames_at` says, as a verdict on the walk of record 140.
 -- Assumes nothing.
+use Rattle.std.specs.Prelude.{Result, Ok, Err}
 use Rattle.rules.specs.declared.Refusal.{Refusal}
 use Rattle.std.specs.Prelude.{◌≡◌, Bool, List, ℕ, ◌+◌, ◌-◌, ◌≤◌, length}
 use Rattle.words.specs.declared.Order.{Order}
@@ -19,12 +20,12 @@ frames_of f = record { seconds = f.seconds; size = f.size; padded = f.padded }
 
 -- it stops at byte q of the part that stands at `base`, or is refused
 abbrev pub framed : ℕ → Result (Frames × ℕ) Refusal → Verdict Frames
-framed base (Ok f q) = goes f (base + q)
+framed base (Ok (f, q)) = goes f (base + q)
 framed base (Err r) = halts r
 
 -- where it stops is at or behind byte p, in a part of n bytes
 abbrev pub StopsFrom : ℕ → ℕ → Result (Frames × ℕ) Refusal → Type 0
-StopsFrom p n (Ok f q) = From p n q
+StopsFrom p n (Ok (f, q)) = From p n q
 StopsFrom p n (Err r) = Unit {0}
 
 -- a recording's body s, which stands at `base`, up to the head h where its 140 should stand; b is its 100, and cs are the channels that hold

@@ -1,5 +1,7 @@
 -- Record 140's body in two parts, as the code reads it: the tests of its own fields, and what stands behind them.
 -- Assumes nothing.
+use Rattle.rules.specs.declared.Frames.{Frames}
+use Rattle.std.specs.Prelude.{Result, Ok, Err}
 use Rattle.std.specs.Prelude.{◌≡◌, ◌&&◌, List, ℕ, ◌+◌, ◌-◌, ◌*◌, ◌≤◌, ◌<◌, leb, ltb, eqb, length}
 use Rattle.words.specs.Numbers.{number_at}
 use Rattle.words.specs.declared.Order.{Order}
@@ -64,7 +66,7 @@ Sizes (Err r) = Unit {0}
 
 -- a 140 that stops at its byte n
 abbrev pub Fills : ℕ → Result (Frames × ℕ) Refusal → Type 0
-Fills n (Ok f q) = q ≡ n
+Fills n (Ok (f, q)) = q ≡ n
 Fills n (Err r) = Unit {0}
 
 -- what the functions ask

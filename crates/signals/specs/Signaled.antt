@@ -1,5 +1,6 @@
 -- What the answer of `signals` says, as a verdict on the walk of a recording's second half.
 -- Assumes nothing.
+use Rattle.std.specs.Prelude.{Result, Ok, Err}
 use Rattle.std.specs.Prelude.{◌≡◌, Bool, List, ℕ, ◌+◌, ◌-◌, ◌≤◌, leb, length}
 use Rattle.words.specs.declared.Order.{Order}
 use Rattle.walk.specs.See.{Verdict, gate, see, Goes}
@@ -13,10 +14,6 @@ use Rattle.rules.specs.declared.Refusal.{Refusal}
 use Rattle.records.specs.Says.{halts, head_of, basic_of, ChannelsStand}
 use Rattle.rules.specs.Rules.{Descriptions}
 use Rattle.descriptions.specs.DescriptionsJudged.{BodyAt}
-
-abbrev pub refusal_f : Result (Frames × ℕ) Refusal → Refusal
-refusal_f (Ok f q) = record { 0 = 0; 1 = 0 }
-refusal_f (Err r) = r
 
 -- what the code has of the descriptions t and of the recording's head r, whose body is s: h is the head found where the 140 should stand
 pub record DescriptionsKnown (o : Order) (file : List ℕ) (cs : Channels) (is_own : Bool) (b : Basic) (h : Head) (s : List ℕ) (m : ℕ) (t : Descriptions) (r : R.Head) : Type 0 where
@@ -55,7 +52,7 @@ pub record WholeAt (end : ℕ) (t : Descriptions) (r : R.Head) (f : Frames) (p :
 
 -- v, the verdict on the walk: it goes on to `end` with such a recording, or is refused
 abbrev pub Signaled : Verdict R.Placed → ℕ → Descriptions → R.Head → Result (Frames × ℕ) Refusal → Type 0
-Signaled v end t r (Ok f q) = Goes v (WholeAt end t r f)
+Signaled v end t r (Ok (f, q)) = Goes v (WholeAt end t r f)
 Signaled v end t r (Err x) = v ≡ halts x
 
 -- what `signals` answers, of any descriptions and any recording's head of which the code has this

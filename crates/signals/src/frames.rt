@@ -4,10 +4,10 @@ ghost use Rattle.rules.specs.Rules as R;
 ghost use Rattle.records.specs.Asks.{SecondsOf};
 ghost use Rattle.records.specs.Says.{ChannelsStand};
 ghost use Rattle.signals.specs.FramesJudged.{SignalsIn, FramesAt};
-ghost use Rattle.signals.specs.Shaped.{refusal_s, Countable, FieldsAsked, RestAsked, FieldsTested, RestRead, BodyRead};
+ghost use Rattle.signals.specs.Shaped.{Countable, FieldsAsked, RestAsked, FieldsTested, RestRead, BodyRead};
 
-use records::{Step, Tested, field};
-use rules::{Basic, Channel, Channels, Frame, Frames, Head, Kind, Label, Refusal};
+use records::field;
+use rules::{Basic, Channel, Channels, Frame, Frames, Head, Kind, Label, Reason, Refusal};
 use words::{Order, number4};
 
 // T, the frame length, and the byte of a frame where its samples end: what a 140's own fields say.
@@ -36,15 +36,13 @@ fn all_sampled(o: Order, file: &[u8], cs: Channels, t: u32) -> bool
 {
     let m = cs.count;
     let mut p = cs.subs;
-    let mut i: u32 = 0;
-    while i < m {
+    for _i in 0..m {
         let flags = number4(o, file, p + Channel::FLAGS);
         let rate = number4(o, file, p + Channel::RATE);
         if !sampled(t, flags, rate) {
             return false;
         }
         p += Channel::LENGTH;
-        i += 1;
     }
     true
 }
@@ -118,7 +116,14 @@ fn read_shape(
 }
 
 // The frames of the record 140 at `at`, and the padding behind them.
-fn frames_rest(o: Order, label: Label, s: &[u8], at: usize, total: u32, f: Shape) -> Result<(Frames, usize), Refusal>
+fn frames_rest(
+    o: Order,
+    label: Label,
+    s: &[u8],
+    at: usize,
+    total: u32,
+    f: Shape,
+) -> Result<(Frames, usize), Refusal>
     requires { RestAsked at s.now total f }
     ensures { RestRead o label at s.now total f result }
 {
@@ -137,14 +142,12 @@ fn frames_rest(o: Order, label: Label, s: &[u8], at: usize, total: u32, f: Shape
     )?;
     records::padding(s, at + Head::LENGTH, q, n)?;
     let padded = total as usize * (size - filled) + (n - q);
-    Ok(
-        Frames {
-            seconds: f.seconds,
-            size,
-            padded,
-        },
-        Head::LENGTH + n,
-    )
+    let frames = Frames {
+        seconds: f.seconds,
+        size,
+        padded,
+    };
+    Ok((frames, Head::LENGTH + n))
 }
 
 // The body of the record 140 at `at`, of so many frames.
@@ -197,5 +200,5 @@ pub fn frames_at(
     let p = h.at;
     let body = &s[p + Head::LENGTH..end];
     let (f, _) = frames_body(o, label, file, cs, body, base + p, b.frames, h.multiplier)?;
-    Ok(f, end)
+    Ok((f, end))
 }

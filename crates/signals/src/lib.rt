@@ -7,12 +7,10 @@ ghost use Rattle.std.specs.Prelude.{◌≡◌, ◌+◌, length};
 ghost use Rattle.words.specs.declared.Order.{Order};
 ghost use Rattle.records.specs.Says.{tested};
 ghost use Rattle.signals.specs.FramesJudged.{SignalsIn};
-ghost use Rattle.signals.specs.Signaled.{refusal_f, SignalsOf, ClosedIn, closing_tests};
+ghost use Rattle.signals.specs.Signaled.{SignalsOf, ClosedIn, closing_tests};
 
-use crate::frames::FramesJudged;
 use records::kinds::has_code;
-use records::{Headed, Tested};
-use rules::{Basic, Channels, Head, Kind, Label, Recording, Refusal};
+use rules::{Basic, Channels, Frames, Head, Kind, Label, Reason, Recording, Refusal};
 use words::Order;
 
 // What follows the delimiter, which stops at byte `end`: the content's limit, and the padding.
@@ -52,5 +50,5 @@ pub fn signals(
     let d = records::makers::next_head(o, label, s, base, end)?;
     records::delimiter::delimiter(d, base)?;
     closed(s, base, d.at + Head::LENGTH, f.padded, multiplier)?;
-    held
+    Ok((f, end))
 }

@@ -1,5 +1,7 @@
 -- `signals::signals` meets its contract: one law of Signaled for each return.
 -- The places: behind the 140 (held), behind the head that follows it (found), behind the delimiter. Assumes nothing.
+use Rattle.std.proofs.Common.{Ok}
+use Rattle.rules.proofs.Handed.{handed}
 use mathlib.Core.Path.{◌≡◌, sym, ◌∙◌}
 use mathlib.Core.Bool.{true}
 use native.Mathlib.Omega.{arith}
@@ -10,21 +12,21 @@ use Rattle.signals.specs.FramesJudged.{FramesAt}
 use Rattle.signals.proofs.Signaled.{other-code, stops-frames, stops-next, stops-delimiter, stops-closing, holds}
 use borrow.Author.Rules.{rules}
 use Rattle.signals.proofs.signals.Goals as goal
-use Rattle.signals.proofs.signals.Goals.{After-frames_at-held, In-At, In-On}
+use Rattle.signals.proofs.signals.Goals.{After-frames_at, In_ok-d, In_ok-f}
 
 -- what is known: the code is the 140's; what it says; the head behind it
-coded : (x : After-frames_at-held) → eqb x.args.h.code 140 ≡ true
+coded : (x : After-frames_at) → eqb x.args.h.code 140 ≡ true
 coded x = sym x.has_code.ensures ∙ x.if-not-has_code.false
 
-frames : (x : In-On) →
+frames : (x : In_ok-f) →
     let a = x.args in
-    FramesAt a.o a.label a.file.now a.cs a.own a.b a.h a.base a.s.now (Ok x.in-On.f x.in-On.end)
-frames x = rw x.in-On.is at x.frames_at-held.ensures
+    FramesAt a.o a.label a.file.now a.cs a.own a.b a.h a.base a.s.now (Ok (x.in_ok-f.f, x.in_ok-f.end))
+frames x = x.in_ok-f.ensures
 
-next : (x : In-At) →
+next : (x : In_ok-d) →
     let a = x.args in
-    NextHead a.o a.label a.base a.s.now x.in-On.end (Ok x.in-At.d)
-next x = rw x.in-At.is at x.next_head-found.ensures
+    NextHead a.o a.label a.base a.s.now x.in_ok-f.end (Ok x.in_ok-d.d)
+next x = x.in_ok-d.ensures
 
 pub returns-then-not-has_code : goal.returns-then-not-has_code
 returns-then-not-has_code c =
@@ -32,43 +34,43 @@ returns-then-not-has_code c =
     other-code a.o a.label a.file.now a.cs a.own a.b a.h a.base a.s.now a.multiplier c.requires
     (sym c.has_code.ensures ∙ c.if-not-has_code.true) _ (add_assoc a.base a.h.at 4)
 
-pub returns-in_default : goal.returns-in_default
-returns-in_default c =
+pub returns-in_err-f : goal.returns-in_err-f
+returns-in_err-f c =
     let a = c.args in
-    simp c.in_default.is (stops-frames a.o a.label a.file.now a.cs a.own a.b a.h a.base a.s.now a.multiplier c.requires (coded (goal.at.returns-in_default c).After-frames_at-held) (rw c.in_default.is at c.frames_at-held.ensures))
+    rw (handed _ c.from_residual.ensures) (stops-frames a.o a.label a.file.now a.cs a.own a.b a.h a.base a.s.now a.multiplier c.requires (coded (goal.at.returns-in_err-f c).After-frames_at) (c.in_err-f.ensures))
 
-pub next_head-found-requires : goal.next_head-found-requires
-next_head-found-requires c = record { low = (frames c).stands.inside; short = c.requires.body.short }
+pub next_head-requires : goal.next_head-requires
+next_head-requires c = record { low = (frames (goal.at.next_head-requires c).In_ok-f).stands.inside; short = c.requires.body.short }
 
-pub returns-in_default-found : goal.returns-in_default-found
-returns-in_default-found c =
+pub returns-in_err-d : goal.returns-in_err-d
+returns-in_err-d c =
     let a = c.args in
-    simp (c.of_head.ensures, c.in_default-found.is)
-    (stops-next a.o a.label a.file.now a.cs a.own a.b a.h a.base a.s.now a.multiplier c.requires (coded (goal.at.returns-in_default-found c).After-frames_at-held) (frames (goal.at.returns-in_default-found c).In-On) (rw c.in_default-found.is at c.next_head-found.ensures))
+    rw (handed _ c.from_residual-in_err-d.ensures)
+    (stops-next a.o a.label a.file.now a.cs a.own a.b a.h a.base a.s.now a.multiplier c.requires (coded (goal.at.returns-in_err-d c).After-frames_at) (frames (goal.at.returns-in_err-d c).In_ok-f) (c.in_err-d.ensures))
 
-pub delimiter-last-requires : goal.delimiter-last-requires
-delimiter-last-requires c = let w = (next c).stands in search rules
+pub delimiter-requires : goal.delimiter-requires
+delimiter-requires c = let w = (next c).stands in search rules
 
-pub returns-in_default-last : goal.returns-in_default-last
-returns-in_default-last c =
+pub returns-in_err-delimiter : goal.returns-in_err-delimiter
+returns-in_err-delimiter c =
     let a = c.args in
-    simp (c.of_test.ensures, c.in_default-last.is)
-    (stops-delimiter a.o a.label a.file.now a.cs a.own a.b a.h a.base a.s.now a.multiplier c.requires (coded (goal.at.returns-in_default-last c).After-frames_at-held) (frames (goal.at.returns-in_default-last c).In-On) (next (goal.at.returns-in_default-last c).In-At) (c.delimiter-last.ensures a.o a.base a.s.now) c.in_default-last.is)
+    rw (handed _ c.from_residual-in_err-delimiter.ensures)
+    (stops-delimiter a.o a.label a.file.now a.cs a.own a.b a.h a.base a.s.now a.multiplier c.requires (coded (goal.at.returns-in_err-delimiter c).After-frames_at) (frames (goal.at.returns-in_err-delimiter c).In_ok-f) (next (goal.at.returns-in_err-delimiter c).In_ok-d) (c.delimiter.ensures a.o a.base a.s.now) c.in_err-delimiter.was)
 
 pub overflow_add-d : goal.overflow_add-d
-overflow_add-d c = omega (arith, (next (goal.at.overflow_add-d c).In-At).stands.inside, c.requires.body.short)
+overflow_add-d c = omega (arith, (next (goal.at.overflow_add-d c).In_ok-d).stands.inside, c.requires.body.short)
 
-pub closed-rest-requires : goal.closed-rest-requires
-closed-rest-requires c =
-    record { body = c.requires.body; inside = (next (goal.at.closed-rest-requires c).In-At).stands.inside }
+pub closed-requires : goal.closed-requires
+closed-requires c =
+    record { body = c.requires.body; inside = (next (goal.at.closed-requires c).In_ok-d).stands.inside }
 
-pub returns-in_default-rest : goal.returns-in_default-rest
-returns-in_default-rest c =
+pub returns-in_err-closed : goal.returns-in_err-closed
+returns-in_err-closed c =
     let a = c.args in
-    simp (c.of_test-in_default-rest.ensures, c.in_default-rest.is)
-    (stops-closing a.o a.label a.file.now a.cs a.own a.b a.h a.base a.s.now a.multiplier c.requires (coded (goal.at.returns-in_default-rest c).After-frames_at-held) (frames (goal.at.returns-in_default-rest c).In-On) (next (goal.at.returns-in_default-rest c).In-At) (c.delimiter-last.ensures a.o a.base a.s.now) c.in-Fine.is (c.closed-rest.ensures a.o) c.in_default-rest.is)
+    rw (handed _ c.from_residual-in_err-closed.ensures)
+    (stops-closing a.o a.label a.file.now a.cs a.own a.b a.h a.base a.s.now a.multiplier c.requires (coded (goal.at.returns-in_err-closed c).After-frames_at) (frames (goal.at.returns-in_err-closed c).In_ok-f) (next (goal.at.returns-in_err-closed c).In_ok-d) (c.delimiter.ensures a.o a.base a.s.now) c.in_ok-delimiter.was (c.closed.ensures a.o) c.in_err-closed.was)
 
 pub returns : goal.returns
 returns c =
     let a = c.args in
-    holds a.o a.label a.file.now a.cs a.own a.b a.h a.base a.s.now a.multiplier c.requires (coded (goal.at.returns c).After-frames_at-held) (frames (goal.at.returns c).In-On) (next (goal.at.returns c).In-At) (c.delimiter-last.ensures a.o a.base a.s.now) c.in-Fine.is (c.closed-rest.ensures a.o) c.in-Fine-rest.is
+    holds a.o a.label a.file.now a.cs a.own a.b a.h a.base a.s.now a.multiplier c.requires (coded (goal.at.returns c).After-frames_at) (frames (goal.at.returns c).In_ok-f) (next (goal.at.returns c).In_ok-d) (c.delimiter.ensures a.o a.base a.s.now) c.in_ok-delimiter.was (c.closed.ensures a.o) c.in_ok-closed.was

@@ -1,5 +1,5 @@
 -- `signals::frames::all_sampled` meets its contract. The loop's invariant: the channels up to i are tested, and stand before byte p.
--- The measure is how many are left. Assumes nothing.
+-- Assumes nothing.
 use mathlib.Core.Path.{refl, sym, ◌∙◌}
 use native.Mathlib.Nat.{sub-zero}
 use native.Mathlib.Omega.{arith}

