@@ -1,5 +1,6 @@
 -- A file that is accepted, by what its header says: how long it is, what the walks over its header and its recordings come to, and its rows.
 -- Assumes nothing.
+use Rattle.std.proofs.Common.{Result, Ok}
 use Rattle.rules.specs.declared.Refusal.{Refusal}
 use mathlib.Core.Path.{◌≡◌, ◌∙◌}
 use mathlib.Core.List.{List}
@@ -20,7 +21,7 @@ use Rattle.judge.specs.Judged.{AcceptedAs, JudgedAs}
 use Rattle.judge.proofs.Verdicts.{accepted-seen}
 
 -- the judge's answer where it is a header
-pub accepted : {s : List ℕ} {a : Result FileHeader Refusal} {h : Declared.FileHeader} → a ≡ Ok h → JudgedAs s a → AcceptedAs s h
+pub accepted : {s : List ℕ} {a : Result Declared.FileHeader Refusal} {h : Declared.FileHeader} → a ≡ Ok h → JudgedAs s a → AcceptedAs s h
 accepted e x = rw e at x
 
 silent-file_header : (n : ℕ) → Silent (file_header n)

@@ -1,6 +1,5 @@
 -- Recordings that a walk read one after the other: the first, and the others.
 -- Assumes nothing.
-use Rattle.std.specs.Prelude as Std
 use mathlib.Core.Path.{◌≡◌, sym, ◌∙◌}
 use mathlib.Core.List.{List, ◌∷◌}
 use mathlib.Core.Option.{Option}
@@ -25,7 +24,7 @@ behind o b s at w a h =
     record { value = x.value; end = x.end; is = x.is; kept = (sym y.0, y.1) }
 
 -- the walk read n + 1 recordings from byte p of the file on, which are l, and ended at e
-pub record Led (o : Order) (label : Label) (s : List ℕ) (p n : ℕ) (held : Option (Std.Option ℕ)) (i : ℕ) (l : List Placed) (e : ℕ) : Type 0 where
+pub record Led (o : Order) (label : Label) (s : List ℕ) (p n : ℕ) (held : Option Held) (i : ℕ) (l : List Placed) (e : ℕ) : Type 0 where
   pub one : Placed
   pub mid : ℕ
   pub rest : List Placed
@@ -34,7 +33,7 @@ pub record Led (o : Order) (label : Label) (s : List ℕ) (p n : ℕ) (held : Op
   pub on : see o 0 s mid (recordings label n (leaves one) (length s - mid) (suc i)) ≡ goes rest e
   pub all : l ≡ one ∷ rest
 
-module _ (o : Order) (label : Label) (s : List ℕ) (p n : ℕ) (held : Option (Std.Option ℕ)) (i : ℕ) {l : List Placed} {e : ℕ} where
+module _ (o : Order) (label : Label) (s : List ℕ) (p n : ℕ) (held : Option Held) (i : ℕ) {l : List Placed} {e : ℕ} where
   pub led : p ≤ length s → see o 0 s p (recordings label (suc n) held (length s - p) i) ≡ goes l e → Led o label s p n held i l e
   unfolding recordings
   led f g =

@@ -1,5 +1,7 @@
 -- A recording: what the walk comes to, from what the code finds of its head, its descriptions and its signals.
 -- Assumes nothing.
+use Rattle.std.proofs.Common.{Some, None}
+use Rattle.std.proofs.Common.{Result, Ok, Err}
 use Rattle.std.specs.Prelude as Std
 use mathlib.Core.Path.{◌≡◌, refl, sym, ap, subst, ◌∙◌}
 use mathlib.Core.Bool.{Bool}
@@ -29,7 +31,6 @@ use Rattle.rules.specs.declared.Label.{Label}
 use Rattle.rules.specs.declared.Refusal.{Refusal}
 use Rattle.rules.proofs.Room.{stays-recording_body}
 use Rattle.records.specs.Says.{halts, head_of, subs_at, ChannelsIn, opened, OpenAt}
-use Rattle.records.specs.declared.kinds.Opened.TheVariants as Opened
 use Rattle.records.proofs.Bodies.{body-opened}
 use Rattle.rules.proofs.Cases.{most-low}
 use Rattle.records.proofs.Opened.{require-went, admit-went, admit-passed}
@@ -50,14 +51,14 @@ frames-place : (start n room bytes at p : ℕ) → bytes ≡ 16 + n → at ≡ b
 frames-place start n room bytes at p e d r l = omega arith
 
 -- a part of its own, or another
-picked : (x y : Bool) (v a b other : ℕ) → v ≡ pick x a other → y ≡ x → a ≡ b → v ≡ pick y b other
+picked : {A : Type 0} (x y : Bool) (v a b other : A) → v ≡ pick x a other → y ≡ x → a ≡ b → v ≡ pick y b other
 picked x y v a b other k e d = rw (e, ← d) k
 
 -- places that agree in each field
-alike : {a a' b b' c c' d d' e e' g g' k k' l l' m m' n n' y y' : ℕ} {x x' z z' : Bool} → a ≡ a' → b ≡ b' → c ≡ c' → d ≡ d' → e ≡ e' → x ≡ x' → g ≡ g' → z ≡ z' → y ≡ y' → k ≡ k' → l ≡ l' → m ≡ m' → n ≡ n' →
-    ◌≡◌ {A = Places} (record { start = a; end = b; channels = c; count = d; patient = e; has_events = x; events = g; has_montage = z; montage = y; frames = k; frame = l; total = m; seconds = n })
-    (record { start = a'; end = b'; channels = c'; count = d'; patient = e'; has_events = x'; events = g'; has_montage = z'; montage = y'; frames = k'; frame = l'; total = m'; seconds = n' })
-alike e₁ e₂ e₃ e₄ e₅ e₆ e₇ e₈ e₉ e₁₀ e₁₁ e₁₂ e₁₃ = cc
+alike : {a a' b b' c c' d d' e e' k k' l l' m m' n n' : ℕ} {g g' y y' : Std.Option ℕ} → a ≡ a' → b ≡ b' → c ≡ c' → d ≡ d' → e ≡ e' → g ≡ g' → y ≡ y' → k ≡ k' → l ≡ l' → m ≡ m' → n ≡ n' →
+    ◌≡◌ {A = Places} (record { start = a; end = b; channels = c; count = d; patient = e; events = g; montage = y; frames = k; frame = l; total = m; seconds = n })
+    (record { start = a'; end = b'; channels = c'; count = d'; patient = e'; events = g'; montage = y'; frames = k'; frame = l'; total = m'; seconds = n' })
+alike e₁ e₂ e₃ e₄ e₅ e₆ e₇ e₈ e₉ e₁₀ e₁₁ = cc
 
 -- the code's places are the walk's
 places_same : (o : Order) (file : List ℕ) (at n : ℕ) (before : Std.Option Places) (t : Described) (f : Frames) (X : R.Descriptions) (e : ℕ) (h : R.Head) (x : R.Placed) → Keeps o file (at + 16) n before t X e → Whole X h f x → R.span h ≡ 16 + n → t.next.at + 16 ≤ n → places_for at n t f.size f.seconds ≡ places_of at before x
@@ -76,10 +77,8 @@ places_same o file at n before t f X e h x k w s l =
     (picked t.own x.recording.own_channels t.channels (place_of (at + 16) n X.next.room) (at + x.layout.at120) (held_at (channels_in before)) k.channels_at (w.own_channels ∙ k.own) (part-place at n X.next.room (R.span h) x.layout.at120 s at120))
     (sym count)
     (picked X.patient.own x.recording.own_patient t.patient (place_of (at + 16) n X.channels.next.room) (at + x.layout.at130) (held_at (patient_in before)) k.patient_at w.own_patient (part-place at n X.channels.next.room (R.span h) x.layout.at130 s at130))
-    (sym (w.own_events ∙ k.has_events))
-    (picked t.has_events x.recording.own_events t.events (place_of (at + 16) n X.patient.next.room) (at + x.layout.at200) 0 k.events_at (w.own_events ∙ k.has_events) (part-place at n X.patient.next.room (R.span h) x.layout.at200 s at200))
-    (sym (w.own_montage ∙ k.has_montage))
-    (picked t.has_montage x.recording.own_montage t.montage (place_of (at + 16) n X.events.next.room) (at + x.layout.at350) 0 k.montage_at (w.own_montage ∙ k.has_montage) (part-place at n X.events.next.room (R.span h) x.layout.at350 s at350))
+    (picked X.events.own x.recording.own_events t.events _ _ None k.events_at w.own_events (ap Some (part-place at n X.patient.next.room (R.span h) x.layout.at200 s at200)))
+    (picked X.montage.own x.recording.own_montage t.montage _ _ None k.montage_at w.own_montage (ap Some (part-place at n X.events.next.room (R.span h) x.layout.at350 s at350)))
     (frames-place at n X.montage.next.room (R.span h) x.layout.at140 t.next.at s at140 k.room l)
     (sym (ap (λ (y : R.Layout). y.frame) w.layout))
     (sym total)
@@ -96,8 +95,8 @@ module _ (o : Order) (label : Label) (file : List ℕ) (at : ℕ) (s : List ℕ)
       see-bind o (at + 16) s (at + 16) (R.descriptions label held (R.span h)) (λ t. R.signals label t h)
       ∙ ap (λ (n : ℕ). onward (see o (at + 16) s (at + 16) (R.descriptions label held n)) (λ t e. see o (at + 16) s e (R.signals label t h))) fills
 
-  tables-stop : {r : Refusal} → described o label file (at + 16) held s before (Err r) → body ≡ halts r
-  tables-stop k = halves ∙ rw k
+  tables-stop : (r : Refusal) → described o label file (at + 16) held s before (Err r) → body ≡ halts r
+  tables-stop r k = halves ∙ rw k
 
   module _ {t : Described} (kept : described o label file (at + 16) held s before (Ok t)) where
     reached : body ≡ see o (at + 16) s (at + 16 + (t.next.at + 16)) (R.signals label kept.value h)
@@ -119,10 +118,10 @@ module _ (o : Order) (label : Label) (file : List ℕ) (at : ℕ) (s : List ℕ)
         multiplier = times;
       }
 
-      signals-stop : {r : Refusal} → SignalsOf o label file cs t.own t.basic t.next (at + 16) s m (Err r) → body ≡ halts r
-      signals-stop k = reached ∙ k kept.value h known
+      signals-stop : (r : Refusal) → SignalsOf o label file cs t.own t.basic t.next (at + 16) s m (Err r) → body ≡ halts r
+      signals-stop r k = reached ∙ k kept.value h known
 
-      body-holds : {f : Frames} (q : ℕ) → SignalsOf o label file cs t.own t.basic t.next (at + 16) s m (Ok f q) → t.next.at + 16 ≤ length s → Goes body (Places-of o file at before (places_for at (length s) t f.size f.seconds))
+      body-holds : {f : Frames} (q : ℕ) → SignalsOf o label file cs t.own t.basic t.next (at + 16) s m (Ok (f, q)) → t.next.at + 16 ≤ length s → Goes body (Places-of o file at before (places_for at (length s) t f.size f.seconds))
       body-holds {f} q k l =
           let g : Goes (see o (at + 16) s (at + 16 + (t.next.at + 16)) (R.signals label kept.value h)) (WholeAt (at + 16 + length s) kept.value h f) = k kept.value h known in
           placed f (reached ∙ g.is) g.kept.ends g.kept.whole l
@@ -170,13 +169,13 @@ module _ (o : Order) (label : Label) (file s : List ℕ) (at : ℕ) (before : St
         }
 
   pub stops-descriptions : {m : ℕ} {r : Refusal} → DescriptionsOf o label (at + 16) s before (Err r) → BodyJudged o label file s at m before (Err r)
-  stops-descriptions k = record { told = λ held h has fills times. tables-stop o label file at s before held h fills (k.told file held i.part has); continues = tt }
+  stops-descriptions k = record { told = λ held h has fills times. tables-stop o label file at s before held h fills _ (k.told file held i.part has); continues = tt }
 
   module _ {m : ℕ} {t : Described} (k : DescriptionsOf o label (at + 16) s before (Ok t)) {cs : Channels} (c : cs ≡ subs_at t.channels t.count) where
     pub stops-signals : {r : Refusal} → SignalsOf o label file cs t.own t.basic t.next (at + 16) s m (Err r) → BodyJudged o label file s at m before (Err r)
-    stops-signals j = record { told = λ held h has fills times. signals-stop o label file at s before held h fills (k.told file held i.part has) c times j; continues = tt }
+    stops-signals j = record { told = λ held h has fills times. signals-stop o label file at s before held h fills (k.told file held i.part has) c times _ j; continues = tt }
 
-    pub holds : {f : Frames} (q : ℕ) → SignalsOf o label file cs t.own t.basic t.next (at + 16) s m (Ok f q) → BodyJudged o label file s at m before (Ok (places_for at (length s) t f.size f.seconds))
+    pub holds : {f : Frames} (q : ℕ) → SignalsOf o label file cs t.own t.basic t.next (at + 16) s m (Ok (f, q)) → BodyJudged o label file s at m before (Ok (places_for at (length s) t f.size f.seconds))
     holds {f} q j = record {
       told = λ held h has fills times. body-holds o label file at s before held h fills (k.told file held i.part has) c times q j k.bounds.fits;
       continues = continues at (length file) s before t k.bounds i.inside i.held f.size f.seconds;
@@ -185,7 +184,7 @@ module _ (o : Order) (label : Label) (file s : List ℕ) (at : ℕ) (before : St
 -- what `body_again` answers
 module _ (o : Order) (label : Label) (s : List ℕ) (at : ℕ) (before : Std.Option Places) where
   pub again-stops : {r : Refusal} → DescriptionsOf o label (at + 16) s before (Err r) → BodyAgain o label s at before (Err r)
-  again-stops k = record { told = λ file held h x e is has fills g. tables-stop o label file at s before held h fills (k.told file held is has); continues = λ n l w. tt }
+  again-stops k = record { told = λ file held h x e is has fills g. tables-stop o label file at s before held h fills _ (k.told file held is has); continues = λ n l w. tt }
 
   module _ {t : Described} (k : DescriptionsOf o label (at + 16) s before (Ok t)) where
     pub again-short : {r : Refusal} → length s < t.next.at + 32 → BodyAgain o label s at before (Err r)
@@ -206,11 +205,11 @@ module _ (o : Order) (label : Label) (file : List ℕ) (p i : ℕ) where
   unfolding recording
   begins held = body-opened o 0 file (R.recording_rule label i) (R.recording_body label held) (length file - p) p
 
-  open-stop : {r : Refusal} → OpenAt o 0 file p (Kind.Recording label i) (Opened.Stop r) → (held : Option R.Held) → walk held ≡ halts r
+  open-stop : {r : Refusal} → OpenAt o 0 file p (Kind.Recording label i) (Err r) → (held : Option R.Held) → walk held ≡ halts r
   open-stop a held = begins held ∙ rw (rw zero-add at a.seen)
 
   -- the body of a record that ends at byte q, handed on as a part of its own
-  module _ {h : Head} {q : ℕ} (a : OpenAt o 0 file p (Kind.Recording label i) (Opened.On h q)) where
+  module _ {h : Head} {q : ℕ} (a : OpenAt o 0 file p (Kind.Recording label i) (Ok (h, q))) where
     fills : R.span (head_of h) ≡ 16 + length (take (q - (p + 16)) (drop (p + 16) file))
     fills =
         let st = a.stands in
@@ -251,10 +250,10 @@ module _ (file : List ℕ) (p q : ℕ) {before : Std.Option Places} (low : p + 1
     held = i.held;
   }
 
-pub at_stops : {o : Order} {label : Label} {file : List ℕ} {p i : ℕ} {before : Std.Option Places} {r : Refusal} → OpenAt o 0 file p (Kind.Recording label i) (Opened.Stop r) → RecordingAt o label file p i before (Err r)
+pub at_stops : {o : Order} {label : Label} {file : List ℕ} {p i : ℕ} {before : Std.Option Places} {r : Refusal} → OpenAt o 0 file p (Kind.Recording label i) (Err r) → RecordingAt o label file p i before (Err r)
 at_stops {o} {label} {file} {p} {i} a = record { told = λ held has. open-stop o label file p i a held; continues = tt }
 
-pub at_body : {o : Order} {label : Label} {file : List ℕ} {p i : ℕ} {before : Std.Option Places} {h : Head} {q : ℕ} {x : Result Places Refusal} → OpenAt o 0 file p (Kind.Recording label i) (Opened.On h q) →
+pub at_body : {o : Order} {label : Label} {file : List ℕ} {p i : ℕ} {before : Std.Option Places} {h : Head} {q : ℕ} {x : Result Places Refusal} → OpenAt o 0 file p (Kind.Recording label i) (Ok (h, q)) →
     BodyJudged o label file (take (q - (p + 16)) (drop (p + 16) file)) p h.multiplier before x → RecordingAt o label file p i before x
 at_body {o} {label} {file} {p} {i} {before} {h} {q} {x} a k = record {
   told = λ held has. subst (λ (v : Verdict R.Placed). recorded o file p before v x) (in_body o label file p i a held) (k.told held (head_of h) has (fills o label file p i a) refl);
@@ -269,19 +268,19 @@ module _ (o : Order) (label : Label) (file : List ℕ) (p i : ℕ) (held : Optio
   any : see o 0 file p (opened R.any_rule (length file - p)) ≡ goes begun.value begun.end
   any = opened-any o label file p (length file - p) i begun.is
 
-  not_stopped : {r : Refusal} → OpenAt o 0 file p Kind.Any (Opened.Stop r) → ⊥
+  not_stopped : {r : Refusal} → OpenAt o 0 file p Kind.Any (Err r) → ⊥
   not_stopped a = stops-goes (sym (rw zero-add at a.seen) ∙ any)
 
-  as-recording : {h : Head} {q : ℕ} → OpenAt o 0 file p Kind.Any (Opened.On h q) → OpenAt o 0 file p (Kind.Recording label i) (Opened.On h q)
+  as-recording : {h : Head} {q : ℕ} → OpenAt o 0 file p Kind.Any (Ok (h, q)) → OpenAt o 0 file p (Kind.Recording label i) (Ok (h, q))
   as-recording {h} {q} a =
       let y = goes_same (sym any ∙ rw zero-add at a.seen) in
       let st = a.stands in
       record { seen = rw zero-add (begun.is ∙ cc (y.0, y.1)); stands = record { at = st.at; end = st.end; inside = st.inside; spans = st.spans } }
 
-pub again-refused : {o : Order} {label : Label} {file : List ℕ} {p : ℕ} {before : Std.Option Places} {r : Refusal} → OpenAt o 0 file p Kind.Any (Opened.Stop r) → RecordingAgain o label file p before (Err r)
+pub again-refused : {o : Order} {label : Label} {file : List ℕ} {p : ℕ} {before : Std.Option Places} {r : Refusal} → OpenAt o 0 file p Kind.Any (Err r) → RecordingAgain o label file p before (Err r)
 again-refused {o} {label} {file} {p} a = record { told = λ held i x e has g. absurd (not_stopped o label file p i held g a); continues = tt }
 
-pub again-body : {o : Order} {label : Label} {file : List ℕ} {p : ℕ} {before : Std.Option Places} {h : Head} {q : ℕ} {x : Result Places Refusal} → OpenAt o 0 file p Kind.Any (Opened.On h q) → BodyIn file (take (q - (p + 16)) (drop (p + 16) file)) p before →
+pub again-body : {o : Order} {label : Label} {file : List ℕ} {p : ℕ} {before : Std.Option Places} {h : Head} {q : ℕ} {x : Result Places Refusal} → OpenAt o 0 file p Kind.Any (Ok (h, q)) → BodyIn file (take (q - (p + 16)) (drop (p + 16) file)) p before →
     BodyAgain o label (take (q - (p + 16)) (drop (p + 16) file)) p before x → RecordingAgain o label file p before x
 again-body {o} {label} {file} {p} {before} {h} {q} {x} a b k = record {
   told = λ held i y e has g.

@@ -1,5 +1,8 @@
 -- What the rules say of a file, by what its header and its recordings come to; and that only one answer meets the contract of `judge`.
 -- Assumes nothing.
+use Rattle.rules.specs.Reasons.{number_of, refusal_of}
+use Rattle.rules.proofs.Reasons.{refusal-is, refusal-only}
+use Rattle.std.proofs.Common.{Result, Ok, Err}
 use Rattle.rules.specs.declared.Refusal.{Refusal}
 use mathlib.Core.Path.{◌≡◌, refl, sym, ap, ◌∙◌}
 use mathlib.Core.Bool.{Bool, true, false}
@@ -82,20 +85,24 @@ accepted-unique s h k x y =
     let l : h.count ≡ k.count = cc in
     λ n. record { order = i n; heading = record { spelling = (j n).spelling; label = (j n).label; script = (j n).script }; count = l n }
 
-pub judge-unique : (s : List ℕ) (a b : Result FileHeader Refusal) → JudgedAs s a → JudgedAs s b → a ≡ b
+pub judge-unique : (s : List ℕ) (a b : Result Declared.FileHeader Refusal) → JudgedAs s a → JudgedAs s b → a ≡ b
 judge-unique s (Ok h) (Ok k) x y = ap Ok (accepted-unique s h k x y)
 judge-unique s (Ok h) (Err r) x y = refused-passed (sym y ∙ x.judged)
 judge-unique s (Err r) (Ok k) x y = refused-passed (sym x ∙ y.judged)
 judge-unique s (Err r) (Err u) x y =
-    let i : r.0 ≡ u.0 = cc in
+    let i : number_of r.0 ≡ number_of u.0 = cc in
     let j : r.1 ≡ u.1 = cc in
-    ap Err (λ n. record { 0 = i n; 1 = j n })
+    ap Err (refusal-only r u i j)
 
 -- the answer is the rules' own: what a caller knows of a file that they refuse, and of one that they pass
-pub judge-refused : (s : List ℕ) (a : Result FileHeader Refusal) {m p : ℕ} → JudgedAs s a → judge s ≡ refused m p → a ≡ Err (record { 0 = m; 1 = p })
-judge-refused s a {m} {p} x e = judge-unique s a (Err (record { 0 = m; 1 = p })) x e
+pub judge-refused : (s : List ℕ) (a : Result Declared.FileHeader Refusal) {m p : ℕ} → JudgedAs s a → judge s ≡ refused m p → a ≡ Err (refusal_of m p)
+judge-refused s (Ok h) x e = refused-passed (sym e ∙ x.judged)
+judge-refused s (Err r) {m} {p} x e =
+    let i : number_of r.0 ≡ m = cc in
+    let j : r.1 ≡ p = cc in
+    ap Err (refusal-is r i j)
 
-pub judge-accepted : (s : List ℕ) (a : Result FileHeader Refusal) {v : File} {t : List Event} → JudgedAs s a → judge s ≡ passed v [] t → a ≡ Ok (record { order = order_of s; heading = record { spelling = v.heading.spelling; label = v.heading.label; script = v.heading.script }; count = length v.recordings })
+pub judge-accepted : (s : List ℕ) (a : Result Declared.FileHeader Refusal) {v : File} {t : List Event} → JudgedAs s a → judge s ≡ passed v [] t → a ≡ Ok (record { order = order_of s; heading = record { spelling = v.heading.spelling; label = v.heading.label; script = v.heading.script }; count = length v.recordings })
 judge-accepted s a {v} {t} x e = judge-unique s a (Ok (record { order = order_of s; heading = record { spelling = v.heading.spelling; label = v.heading.label; script = v.heading.script }; count = length v.recordings })) x (record { file = v; events = t; judged = e; order = refl; heading = refl; count = refl })
 
 -- what the walk comes to over a file that is accepted

@@ -1,5 +1,6 @@
 -- What the answer of `judge` says, as the rules' outcome for the file.
 -- Assumes nothing.
+use Rattle.std.specs.Prelude.{Result, Ok, Err}
 use Rattle.rules.specs.Reasons.{number_of}
 use Rattle.std.specs.Prelude.{◌≡◌, List, [], ℕ, length}
 use Rattle.walk.specs.Walk.{Event, refused, passed}

@@ -1,5 +1,6 @@
 -- What the answer of `recording_at` says, as a verdict on the walk of a recording.
 -- Assumes nothing.
+use Rattle.std.specs.Prelude.{Result, Ok, Err, Some, None}
 use Rattle.rules.specs.declared.Refusal.{Refusal}
 use Rattle.std.specs.Prelude as Std
 use Rattle.std.specs.Prelude.{◌≡◌, List, ℕ, ◌+◌, ◌-◌, ◌≤◌, length, take, drop}
@@ -23,10 +24,8 @@ places_of start before x = record {
   channels = pick x.recording.own_channels (start + x.layout.at120) (held_at (channels_in before));
   count = length x.recording.channels;
   patient = pick x.recording.own_patient (start + x.layout.at130) (held_at (patient_in before));
-  has_events = x.recording.own_events;
-  events = pick x.recording.own_events (start + x.layout.at200) 0;
-  has_montage = x.recording.own_montage;
-  montage = pick x.recording.own_montage (start + x.layout.at350) 0;
+  events = pick x.recording.own_events (Some (start + x.layout.at200)) None;
+  montage = pick x.recording.own_montage (Some (start + x.layout.at350)) None;
   frames = start + x.layout.at140;
   frame = x.layout.frame;
   total = x.recording.basic.frames;
@@ -41,9 +40,7 @@ places_for start n t frame seconds = record {
   channels = t.channels;
   count = t.count;
   patient = t.patient;
-  has_events = t.has_events;
   events = t.events;
-  has_montage = t.has_montage;
   montage = t.montage;
   frames = start + 16 + t.next.at;
   frame = frame;

@@ -7,14 +7,10 @@ ghost use Rattle.std.specs.Prelude.{◌≡◌, ◌-◌, length};
 ghost use Rattle.std.proofs.Math.Option.{none};
 ghost use Rattle.rules.specs.Rules as R;
 ghost use Rattle.records.specs.Says.{Beyond, StepOver};
-ghost use Rattle.judge.specs.Judged.{refusal_r, refusal_j, JudgedAs};
+ghost use Rattle.judge.specs.Judged.{JudgedAs};
 ghost use Rattle.judge.specs.Recorded.{HeaderIn};
 
-use crate::recording::Recorded;
-use descriptions::Before;
-use header::Opened;
-use records::Step;
-use rules::{FileHeader, Label, Refusal};
+use rules::{FileHeader, Label, Reason, Refusal};
 use words::Order;
 
 // So many recordings from byte 32 of the file on: where they end.
@@ -24,13 +20,11 @@ fn recordings_from(o: Order, label: Label, file: &[u8], count: u32) -> Result<us
         (R.recordings label count none (length file.now - 32) 1) (Beyond 32 (length file.now)) result }
 {
     let mut p: usize = FileHeader::LENGTH;
-    let mut i: u32 = 0;
     let mut before = None;
-    while i < count {
+    for i in 0..count {
         let places = recording::recording_at(o, label, file, p, i + 1, before)?;
         p = places.end;
         before = Some(places);
-        i += 1;
     }
     Ok(p)
 }
@@ -40,14 +34,9 @@ pub fn judge(file: &[u8]) -> Result<FileHeader, Refusal>
     ensures { JudgedAs file.now result }
 {
     let h = header::file_header(file)?;
-    let order = h.order;
-    let heading = h.heading;
-    let label = heading.label;
-    let count = h.count;
-    let end = recordings_from(order, label, file, count)?;
+    let end = recordings_from(h.order, h.heading.label, file, h.count)?;
     if end < file.len() {
         return Err(Refusal(Reason::Behind, end));
     }
     Ok(h)
 }
-

@@ -3,13 +3,10 @@ ghost use Rattle.std.specs.Prelude.{◌≡◌, ◌+◌, length};
 ghost use Rattle.words.specs.Sizes.{Addressable};
 ghost use Rattle.judge.specs.Recorded.{places_for, RecordingIn, BodyIn, TablesIn, BodyJudged, RecordingAt, BodyAgain, RecordingAgain};
 
-use descriptions::{
-    Before, Described, DescriptionsJudged, Places, channels_of, judge_descriptions, of_descriptions,
-};
-use records::kinds::{Opened, of_open, open};
-use rules::{Frames, Head, Kind, Label, Refusal};
-use signals::frames::FramesJudged;
-use signals::{of_frames, signals};
+use descriptions::{Described, Places, channels_of, judge_descriptions};
+use records::kinds::open;
+use rules::{Frames, Head, Kind, Label, Reason, Refusal};
+use signals::signals;
 use words::{Order, number4};
 
 // The places of the recording at `at`, whose body has n bytes and these descriptions: its frames are so long, and of so many seconds.
@@ -26,9 +23,7 @@ fn places_for(at: usize, n: usize, t: Described, frame: usize, seconds: u32) -> 
         channels: t.channels,
         count: t.count,
         patient: t.patient,
-        has_events: t.has_events,
         events: t.events,
-        has_montage: t.has_montage,
         montage: t.montage,
         frames: base + next.at,
         frame,
@@ -84,7 +79,13 @@ pub fn recording_at(
 }
 
 // The body of a recording that the judge accepted.
-fn body_again(o: Order, label: Label, s: &[u8], at: usize, before: Option<Places>) -> Result<Places, Refusal>
+fn body_again(
+    o: Order,
+    label: Label,
+    s: &[u8],
+    at: usize,
+    before: Option<Places>,
+) -> Result<Places, Refusal>
     requires { Addressable (at + 16 + length s.now) }
     ensures { BodyAgain o label s.now at before result }
 {
@@ -103,7 +104,13 @@ fn body_again(o: Order, label: Label, s: &[u8], at: usize, before: Option<Places
 }
 
 // Where a recording stands that the judge accepted: its descriptions are read again, its frames are not.
-pub fn recording_again(o: Order, label: Label, file: &[u8], p: usize, before: Option<Places>) -> Result<Places, Refusal>
+pub fn recording_again(
+    o: Order,
+    label: Label,
+    file: &[u8],
+    p: usize,
+    before: Option<Places>,
+) -> Result<Places, Refusal>
     requires { RecordingIn (length file.now) p before }
     ensures { RecordingAgain o label file.now p before result }
 {

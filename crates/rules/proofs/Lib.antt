@@ -26,3 +26,4 @@ pub mod Here
 pub mod Digits
 pub mod CanonicalForm
 pub mod Handed
+pub mod Reasons

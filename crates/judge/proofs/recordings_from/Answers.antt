@@ -1,5 +1,6 @@
 -- `judge::recordings_from` meets its contract. The loop's invariant: the recordings up to i are read, and the walk goes on at byte p.
 -- The measure is how many are left. Assumes nothing.
+use Rattle.rules.proofs.Handed.{handed}
 use native.Mathlib.Nat.{zero-add}
 use native.Mathlib.Omega.{arith}
 use borrow.Author.Rules.{rules}
@@ -9,17 +10,16 @@ use Rattle.judge.proofs.recordings_from.Goals as goal
 pub loop-i-init : goal.loop-i-init
 loop-i-init c = record { few = search rules; place = record { low = search rules; inside = search rules }; held = tt; going = going_start }
 
-pub returns-in_default : goal.returns-in_default
-returns-in_default c =
-    let e = c.in_default.is in
-    let g = c.loop-i.invariant.going in
-    let k = rw e at c.recording_at-step.ensures in
-    rw (c.of_recording.ensures, e) (record { seen = going-stop g c.loop-i-test.true (k.told g.held g.holds); stands = tt })
+pub returns-in_err-places : goal.returns-in_err-places
+returns-in_err-places c =
+    rw (handed _ c.from_residual.ensures)
+    (let g = c.loop-i.invariant.going in
+    record { seen = going-stop g _ c.loop-i-test.true (c.in_err-places.ensures.told g.held g.holds); stands = tt })
 
 pub loop-i-preserved : goal.loop-i-preserved
 loop-i-preserved c =
     let i = c.loop-i.invariant in
-    let k = rw c.in-On.is at c.recording_at-step.ensures in
+    let k = c.in_ok-places.ensures in
     let n = k.continues in
     record {
       few = omega arith;

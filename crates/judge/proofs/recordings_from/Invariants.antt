@@ -1,5 +1,7 @@
 -- `judge::recordings_from` meets its contract. The loop's invariant: the recordings up to i are read, and the walk goes on at byte p.
 -- The measure is how many are left. Assumes nothing.
+use Rattle.descriptions.specs.declared.Places.{Places}
+use Rattle.std.proofs.Common.{Option}
 use mathlib.Core.List.{List}
 use Prim.Native.Nat.{ℕ, ◌-◌, ◌≤◌}
 use lib.ListN.{length}

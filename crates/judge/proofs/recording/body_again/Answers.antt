@@ -1,35 +1,37 @@
 -- `judge::recording::body_again` meets its contract: one law of Recorded for each return.
 -- x: behind the descriptions. Assumes nothing.
+use Rattle.std.proofs.Common.{Ok}
+use Rattle.rules.proofs.Handed.{handed}
 use native.Mathlib.Omega.{arith}
 use Prim.Native.Nat.{◌+◌}
 use Rattle.descriptions.specs.DescriptionsJudged.{DescriptionsOf}
 use Rattle.judge.proofs.Recorded.{again-stops, again-short, again-holds}
 use Rattle.judge.proofs.recording.body_again.Goals as goal
-use Rattle.judge.proofs.recording.body_again.Goals.{In-On}
+use Rattle.judge.proofs.recording.body_again.Goals.{In_ok-t}
 
 -- the descriptions that passed
-described : (x : In-On) →
+described : (x : In_ok-t) →
     let a = x.args in
-    DescriptionsOf a.o a.label (a.at + 16) a.s.now a.before (Ok x.in-On.t)
-described x = rw x.in-On.is at x.judge_descriptions-described.ensures
+    DescriptionsOf a.o a.label (a.at + 16) a.s.now a.before (Ok x.in_ok-t.t)
+described x = x.in_ok-t.ensures
 
-pub returns-in_default : goal.returns-in_default
-returns-in_default c =
+pub returns-in_err-t : goal.returns-in_err-t
+returns-in_err-t c =
     let a = c.args in
-    simp (c.of_descriptions.ensures, c.in_default.is) (again-stops a.o a.label a.s.now a.at a.before (rw c.in_default.is at c.judge_descriptions-described.ensures))
+    rw (handed _ c.from_residual.ensures) (again-stops a.o a.label a.s.now a.at a.before (c.in_err-t.ensures))
 
 pub overflow_add-place : goal.overflow_add-place
-overflow_add-place c = omega (arith, (described (goal.at.overflow_add-place c).In-On).bounds.fits, c.requires)
+overflow_add-place c = omega (arith, (described (goal.at.overflow_add-place c).In_ok-t).bounds.fits, c.requires)
 
 pub overflow_add-p : goal.overflow_add-p
-overflow_add-p c = omega (arith, (described (goal.at.overflow_add-p c).In-On).bounds.fits, c.requires)
+overflow_add-p c = omega (arith, (described (goal.at.overflow_add-p c).In_ok-t).bounds.fits, c.requires)
 
 pub returns-then-s-p : goal.returns-then-s-p
 returns-then-s-p c =
     let a = c.args in
-    again-short a.o a.label a.s.now a.at a.before (described (goal.at.returns-then-s-p c).In-On) c.if-s-p.true
+    again-short a.o a.label a.s.now a.at a.before (described (goal.at.returns-then-s-p c).In_ok-t) c.if-s-p.true
 
 pub returns : goal.returns
 returns c =
     let a = c.args in
-    rw c.places_for.ensures (again-holds a.o a.label a.s.now a.at a.before (described (goal.at.returns c).In-On) c.number4-seconds.ensures.0 c.number4-frame.ensures.0)
+    rw c.places_for.ensures (again-holds a.o a.label a.s.now a.at a.before (described (goal.at.returns c).In_ok-t) c.number4-seconds.ensures.0 c.number4-frame.ensures.0)
