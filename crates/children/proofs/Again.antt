@@ -1,5 +1,6 @@
 -- A loop over the recordings of an accepted file that finds each of them again: what it says of those that are passed.
 -- Assumes nothing.
+use Rattle.std.proofs.Common.{Result, Ok, Err, Some, None}
 use Rattle.std.specs.Prelude as Std
 use mathlib.Core.Path.{◌≡◌, sym, ◌∙◌}
 use mathlib.Core.List.{List, [], ◌∷◌, ◌++◌}
@@ -22,18 +23,18 @@ use Rattle.children.proofs.Saying.{nothing}
 use Rattle.children.proofs.Recordings.{passed-led, passed-stop, Sofar, sofar-start, sofar-next, sofar-end}
 
 -- the code has what holds for the next recording from the one before, and Q holds of those that are passed
-pub record Knowing (o : Order) (s : List ℕ) (before : Std.Option Places) (Q : List Placed → Said → Type 0) (held : Option (Std.Option ℕ)) (done : List Placed) (l : Said) : Type 0 where
+pub record Knowing (o : Order) (s : List ℕ) (before : Std.Option Places) (Q : List Placed → Said → Type 0) (held : Option Held) (done : List Placed) (l : Said) : Type 0 where
   pub holds : HeldAs o s before held
   pub is : Q done l
 
 -- the next recording is read as x, and has the places q
-pub record Next (o : Order) (label : Label) (s : List ℕ) (p i : ℕ) (before : Std.Option Places) (held : Option (Std.Option ℕ)) (q : Places) (x : Placed) : Type 0 where
+pub record Next (o : Order) (label : Label) (s : List ℕ) (p i : ℕ) (before : Std.Option Places) (held : Option Held) (q : Places) (x : Placed) : Type 0 where
   pub is : see o 0 s p (recording label held (length s - p) (i + 1)) ≡ goes x q.end
   pub same : q ≡ places_of p before x
   pub stands : HeldAs o s (Some q) (leaves x)
 
 -- the same from a verdict on it
-next_of : {o : Order} {label : Label} {s : List ℕ} {p i : ℕ} {before : Std.Option Places} {held : Option (Std.Option ℕ)} {q : Places} (x : Placed) (e : ℕ) → see o 0 s p (recording label held (length s - p) (i + 1)) ≡ goes x e →
+next_of : {o : Order} {label : Label} {s : List ℕ} {p i : ℕ} {before : Std.Option Places} {held : Option Held} {q : Places} (x : Placed) (e : ℕ) → see o 0 s p (recording label held (length s - p) (i + 1)) ≡ goes x e →
     Goes (see o 0 s p (recording label held (length s - p) (i + 1))) (Places-of o s p before q) → (e ≡ q.end) × Next o label s p i before held q x
 next_of {q = q} x e g k =
     let v = goes_same (sym k.is ∙ g) in
@@ -74,7 +75,7 @@ module _ {o : Order} {label : Label} {s : List ℕ} {count : ℕ} {Q : List Plac
       along-fits h = rw h at k.continues
 
       pub along-next : {q : Places} {Q' : List Placed → Said → Type 0} → a ≡ Ok q →
-          ((held : Option (Std.Option ℕ)) (done : List Placed) (l : Said) (x : Placed) → length done ≡ i → Next o label s p i before held q x → Q done l → Q' (done ++ (x ∷ [])) (l then said o 0 s p (recording label held (length s - p) (i + 1)))) →
+          ((held : Option Held) (done : List Placed) (l : Said) (x : Placed) → length done ≡ i → Next o label s p i before held q x → Q done l → Q' (done ++ (x ∷ [])) (l then said o 0 s p (recording label held (length s - p) (i + 1)))) →
           Along o label s count q.end (i + 1) (Some q) Q'
       along-next h step =
           let u = along-fits h in

@@ -1,7 +1,6 @@
 -- An accepted recording's body is a chain of its records: what it says is what they say, one after the other.
 -- The walks of the rules go from record to record up to a head: those before the 140 and those behind it are such links.
 -- Assumes nothing.
-use Rattle.std.specs.Prelude as Std
 use mathlib.Core.Path.{◌≡◌, refl, sym, ap, ◌∙◌}
 use mathlib.Core.Bool.{Bool, true, false}
 use mathlib.Core.List.{List, []}
@@ -280,7 +279,7 @@ module _ (o : Order) (b : ℕ) (s : List ℕ) (kn : Known) where
   subs-other g t e = false-true (sym (ap is_group e) ∙ t.group)
 
   -- the records before the 140
-  pub tables-leads : (held : Option (Std.Option ℕ)) (bytes : ℕ) {t : Descriptions} {e : ℕ} → bytes ≡ 16 + length s → see o b s b (descriptions kn.label held bytes) ≡ goes t e →
+  pub tables-leads : (held : Option Held) (bytes : ℕ) {t : Descriptions} {e : ℕ} → bytes ≡ 16 + length s → see o b s b (descriptions kn.label held bytes) ≡ goes t e →
       Leads 0 (said o b s b (descriptions kn.label held bytes)) t.montage.next e
   unfolding descriptions event_table see
   tables-leads held bytes n g =
@@ -345,7 +344,7 @@ signals-known o label b s at t h g =
     by-then o b s m₃ (padding (d.room - 16)) _ (require-went o b s m₃ _ 10 0 _ (require-went o b s m₃ _ 14 _ _ g).1).1 λ _ m₄ _ g. sym (ap (known_of label) (goes_same g).0)
 
 -- an accepted body is a chain
-pub body-chain : (o : Order) (label : Label) (b : ℕ) (s : List ℕ) (held : Option (Std.Option ℕ)) (h : Head) {x : Placed} {e : ℕ} → span h ≡ 16 + length s → see o b s b (recording_body label held h) ≡ goes x e → Chain o b s (known_of label x) 0 (said o b s b (recording_body label held h))
+pub body-chain : (o : Order) (label : Label) (b : ℕ) (s : List ℕ) (held : Option Held) (h : Head) {x : Placed} {e : ℕ} → span h ≡ 16 + length s → see o b s b (recording_body label held h) ≡ goes x e → Chain o b s (known_of label x) 0 (said o b s b (recording_body label held h))
 unfolding recording_body signals
 body-chain o label b s held h {x} n g =
     let kn : Known = known_of label x in

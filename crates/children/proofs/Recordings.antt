@@ -1,6 +1,5 @@
 -- One way over the recordings of an accepted file: the one at a byte, its body as a part of the file, and those that are passed and those that are left.
 -- Assumes nothing.
-use Rattle.std.specs.Prelude as Std
 use mathlib.Core.Path.{◌≡◌, refl, sym, ap, ◌∙◌}
 use mathlib.Core.List.{List, [], ◌∷◌, ◌++◌, append_assoc, append-nil}
 use mathlib.Core.Option.{Option, none}
@@ -33,14 +32,14 @@ use Rattle.children.specs.Recordings.{all_of, ReadAs, UpTo}
 use Rattle.children.proofs.Saying.{nothing, then-assoc, then-nothing, nothing_then, said-bind, said-give, said-gave}
 
 -- a recording that the walk accepted, up to byte e of the file s
-pub record Begun (o : Order) (label : Label) (s : List ℕ) (p : ℕ) (held : Option (Std.Option ℕ)) (i : ℕ) (x : Placed) (e : ℕ) : Type 0 where
+pub record Begun (o : Order) (label : Label) (s : List ℕ) (p : ℕ) (held : Option Held) (i : ℕ) (x : Placed) (e : ℕ) : Type 0 where
   pub opens : Opened o 0 s p (length s - p) 10 (most_of label) (λ _. leb 16) (eqb i) (recording_body label held) x e
   pub least : 16 ≤ span opens.top
   pub ends : e ≡ p + span opens.top
   pub inside : e ≤ length s
   pub rows : tell o 0 s p (recording label held (length s - p) i) ≡ record { start = p; size = span opens.top; code = opens.top.code; serial = opens.top.serial } ∷ tell o 0 s (p + 16) (recording_body label held opens.top)
 
-pub begun : (o : Order) (label : Label) (s : List ℕ) (p : ℕ) (held : Option (Std.Option ℕ)) (i : ℕ) {x : Placed} {e : ℕ} → see o 0 s p (recording label held (length s - p) i) ≡ goes x e → Begun o label s p held i x e
+pub begun : (o : Order) (label : Label) (s : List ℕ) (p : ℕ) (held : Option Held) (i : ℕ) {x : Placed} {e : ℕ} → see o 0 s p (recording label held (length s - p) i) ≡ goes x e → Begun o label s p held i x e
 unfolding recording
 begun o label s p held i g =
     let v = opened o 0 s p (length s - p) 10 (most_of label) (λ _. leb 16) (eqb i) (recording_body label held) g in
@@ -54,7 +53,7 @@ abbrev pub body_of : List ℕ → ℕ → ℕ → List ℕ
 body_of s p q = take (q - (p + 16)) (drop (p + 16) s)
 
 -- a recording that the walk accepted, up to byte q of the file s: its body is a part of the file
-pub record Within (o : Order) (label : Label) (s : List ℕ) (p q : ℕ) (held : Option (Std.Option ℕ)) (i : ℕ) (x : Placed) : Type 0 where
+pub record Within (o : Order) (label : Label) (s : List ℕ) (p q : ℕ) (held : Option Held) (i : ℕ) (x : Placed) : Type 0 where
   pub top : Head
   pub heads : Heads o 0 s p top
   pub kind : top.code ≡ 10
@@ -65,7 +64,7 @@ pub record Within (o : Order) (label : Label) (s : List ℕ) (p q : ℕ) (held :
   pub body : see o (p + 16) (body_of s p q) (p + 16) (recording_body label held top) ≡ goes x q
   pub rows : tell o 0 s p (recording label held (length s - p) i) ≡ record { start = p; size = span top; code = top.code; serial = top.serial } ∷ tell o (p + 16) (body_of s p q) (p + 16) (recording_body label held top)
 
-pub within : (o : Order) (label : Label) (s : List ℕ) (p q : ℕ) (held : Option (Std.Option ℕ)) (i : ℕ) {x : Placed} → see o 0 s p (recording label held (length s - p) i) ≡ goes x q → Within o label s p q held i x
+pub within : (o : Order) (label : Label) (s : List ℕ) (p q : ℕ) (held : Option Held) (i : ℕ) {x : Placed} → see o 0 s p (recording label held (length s - p) i) ≡ goes x q → Within o label s p q held i x
 within o label s p q held i g =
     let v = begun o label s p held i g in
     let h = v.opens.top in
@@ -87,12 +86,12 @@ within o label s p q held i g =
 
 -- what the cursor's answer at byte p says of an accepted recording there: one was found, with its head, and ends where it says
 module _ {o : Order} {s : List ℕ} {p : ℕ} where
-  pub recording-none : {X : Type 0} → NoRecord o 0 s p → (label : Label) (held : Option (Std.Option ℕ)) (i : ℕ) {x : Placed} {e : ℕ} → see o 0 s p (recording label held (length s - p) i) ≡ goes x e → X
+  pub recording-none : {X : Type 0} → NoRecord o 0 s p → (label : Label) (held : Option Held) (i : ℕ) {x : Placed} {e : ℕ} → see o 0 s p (recording label held (length s - p) i) ≡ goes x e → X
   recording-none v label held i {x} {e} g =
       let w = within o label s p e held i g in
       absurd (v.none w.top w.heads (λ z. omega (arith, w.kind)) w.admits)
 
-  module _ {h : At.Head} {q : ℕ} (v : RecordAt o 0 s p h q) (label : Label) (held : Option (Std.Option ℕ)) (i : ℕ) {x : Placed} where
+  module _ {h : At.Head} {q : ℕ} (v : RecordAt o 0 s p h q) (label : Label) (held : Option Held) (i : ℕ) {x : Placed} where
     pub recording-ends : {e : ℕ} → see o 0 s p (recording label held (length s - p) i) ≡ goes x e → e ≡ q
     recording-ends {e} g =
         let w = within o label s p e held i g in
@@ -103,7 +102,7 @@ module _ {o : Order} {s : List ℕ} {p : ℕ} where
     recording-head w = (goes_same (sym w.heads ∙ v.heads)).0
 
 -- what the recordings say: the first, and the others
-module _ {o : Order} {label : Label} {s : List ℕ} {p n : ℕ} {held : Option (Std.Option ℕ)} {i : ℕ} {l : List Placed} {e : ℕ} (v : Led o label s p n held i l e) where
+module _ {o : Order} {label : Label} {s : List ℕ} {p n : ℕ} {held : Option Held} {i : ℕ} {l : List Placed} {e : ℕ} (v : Led o label s p n held i l e) where
   abbrev later : Placed → Walk (List Placed)
   later x = recordings label n (leaves x) (length s - p - x.layout.bytes) (suc i) >>= λ r. give (x ∷ r)
 
@@ -119,7 +118,7 @@ module _ {o : Order} {label : Label} {s : List ℕ} {p n : ℕ} {held : Option (
 -- the file's recordings are read as ps: i of them are passed, and the walk goes on at byte p
 pub record Passed (o : Order) (label : Label) (s : List ℕ) (count : ℕ) (ps : List Placed) (p i : ℕ) : Type 0 where
   -- what holds for the next recording
-  pub held : Option (Std.Option ℕ)
+  pub held : Option Held
   -- those that are passed, and those that are left
   pub done : List Placed
   pub left : List Placed
@@ -192,18 +191,18 @@ module _ {o : Order} {label : Label} {s : List ℕ} {count : ℕ} {ps : List Pla
       passed-said = v.says ∙ rw (none_left, said-gave, then-nothing)
 
 -- what a loop says of the recordings that are passed: P, of what holds for the next one, of those passed, and of what was said on the way
-pub record Sofar (o : Order) (label : Label) (s : List ℕ) (count : ℕ) (ps : List Placed) (p i : ℕ) (P : Option (Std.Option ℕ) → List Placed → Said → Type 0) : Type 0 where
+pub record Sofar (o : Order) (label : Label) (s : List ℕ) (count : ℕ) (ps : List Placed) (p i : ℕ) (P : Option Held → List Placed → Said → Type 0) : Type 0 where
   pub at : Passed o label s count ps p i
   pub is : P at.held at.done at.tells
 
-module _ {o : Order} {label : Label} {s : List ℕ} {count : ℕ} {ps : List Placed} {P : Option (Std.Option ℕ) → List Placed → Said → Type 0} where
+module _ {o : Order} {label : Label} {s : List ℕ} {count : ℕ} {ps : List Placed} {P : Option Held → List Placed → Said → Type 0} where
   pub sofar-start : {e : ℕ} → ReadAs o label s count ps e → P none [] nothing → Sofar o label s count ps 32 0 P
   unfolding passed_none
   sofar-start g h = record { at = passed_none g; is = h }
 
   module _ {p i : ℕ} (v : Sofar o label s count ps p i P) where
     -- the next one, x, ends at q, and P' holds with it
-    pub sofar-next : {P' : Option (Std.Option ℕ) → List Placed → Said → Type 0} {q : ℕ} → i < count → p ≤ length s →
+    pub sofar-next : {P' : Option Held → List Placed → Said → Type 0} {q : ℕ} → i < count → p ≤ length s →
         ((x : Placed) (e : ℕ) → see o 0 s p (recording label v.at.held (length s - p) (i + 1)) ≡ goes x e →
         UpTo e q (P' (leaves x) (v.at.done ++ (x ∷ [])) (v.at.tells then said o 0 s p (recording label v.at.held (length s - p) (i + 1))))) → Sofar o label s count ps q (i + 1) P'
     sofar-next {P'} {q} many fit step =

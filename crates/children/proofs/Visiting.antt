@@ -1,6 +1,6 @@
 -- What the cursor's step comes to in a chain.
 -- Assumes nothing.
-use Rattle.rules.specs.declared.Refusal.{Refusal}
+use Rattle.std.proofs.Common.{Option, Some, None}
 use mathlib.Core.Path.{◌≡◌, sym, ap, ◌∙◌}
 use mathlib.Core.Bool.{Bool, true, ◌||◌}
 use mathlib.Core.List.{List}
@@ -22,11 +22,11 @@ use Rattle.records.specs.Says.{head_of, is_group}
 use Rattle.children.specs.Children.{Said, ◌then◌, Known, Heads, Inner, is100, is_subs, is130, is200, is140, is_maker, Links, more, last, Parted, Chain, Closed, RecordAt, NoRecord, Visits}
 
 -- the cursor's answer where it is a record
-pub recorded : {o : Order} {b : ℕ} {s : List ℕ} {p : ℕ} {a : Option (Head × ℕ)} {h : At.Head} {q : ℕ} → a ≡ Some h q → Visits o b s p a → RecordAt o b s p h q
+pub recorded : {o : Order} {b : ℕ} {s : List ℕ} {p : ℕ} {a : Option (At.Head × ℕ)} {h : At.Head} {q : ℕ} → a ≡ Some (h, q) → Visits o b s p a → RecordAt o b s p h q
 recorded e v = rw e at v
 
 -- and where it is none
-pub unrecorded : {o : Order} {b : ℕ} {s : List ℕ} {p : ℕ} {a : Option (Head × ℕ)} → a ≡ None → Visits o b s p a → NoRecord o b s p
+pub unrecorded : {o : Order} {b : ℕ} {s : List ℕ} {p : ℕ} {a : Option (At.Head × ℕ)} → a ≡ None → Visits o b s p a → NoRecord o b s p
 unrecorded e v = rw e at v
 
 low : (n m : ℕ) → 16 ≤ n → leb n m ≡ true → 16 ≤ m
@@ -70,7 +70,7 @@ module _ (o : Order) (b : ℕ) (s : List ℕ) where
 
   -- what the cursor's answer at byte p says of links from there on
   module _ {X : Type 0} {join : X → X → X} {I : ℕ → Head → X → Type 0} {E : ℕ → X → Type 0} {p : ℕ} {x : X} where
-    pub links-parted : {h : At.Head} {q : ℕ} → RecordAt o b s p h q → (E p x → ⊥) → Links o b s join I E p x → (Result Part Refusal) o b s join I E p (head_of h) q x
+    pub links-parted : {h : At.Head} {q : ℕ} → RecordAt o b s p h q → (E p x → ⊥) → Links o b s join I E p x → Parted o b s join I E p (head_of h) q x
     links-parted {h} v none (more h₁ own rest k₁ i d e) =
         let y : h₁ ≡ head_of h = (goes_same (sym k₁ ∙ v.heads)).0 in
         record { own = own; rest = rest; inner = rw y at i; on = rw v.ends (rw y at d); is = e }
@@ -89,7 +89,7 @@ module _ (o : Order) (b : ℕ) (s : List ℕ) where
 
   -- and so of a chain
   module _ {k : Known} {p : ℕ} {l : Said} where
-    pub chain-parted : {h : At.Head} {q : ℕ} → RecordAt o b s p h q → Chain o b s k p l → (Result Part Refusal) o b s ◌then◌ (λ p. Inner o b s p k) (Closed o b s) p (head_of h) q l
+    pub chain-parted : {h : At.Head} {q : ℕ} → RecordAt o b s p h q → Chain o b s k p l → Parted o b s ◌then◌ (λ p. Inner o b s p k) (Closed o b s) p (head_of h) q l
     chain-parted v = links-parted v (closed-alone v)
 
     pub chain-closed : NoRecord o b s p → Chain o b s k p l → Closed o b s p l

@@ -1,6 +1,6 @@
 -- The records that stand directly in a recording's body, one after the other, up to its delimiter; and what the cursor says of the one at a byte.
 -- Assumes nothing.
-use Rattle.rules.specs.declared.Refusal.{Refusal}
+use Rattle.std.specs.Prelude.{Option, Some, None}
 use Rattle.std.specs.Prelude.{◌≡◌, Bool, true, List, ◌++◌, ℕ, ◌+◌, ◌-◌, ◌≤◌, length}
 use Rattle.words.specs.declared.Order.{Order}
 use Rattle.walk.specs.Walk.{Row, Event, Walk, ◌>>◌, text}
@@ -91,7 +91,7 @@ pub data Links (o : Order) (b : ℕ) (s : List ℕ) {X : Type 0} (join : X → X
   last : {p : ℕ} {x : X} → E p x → Links o b s join I E p x
 
 -- the first of them: its head is h, and it ends at byte q
-pub record (Result Part Refusal) (o : Order) (b : ℕ) (s : List ℕ) {X : Type 0} (join : X → X → X) (I : ℕ → Head → X → Type 0) (E : ℕ → X → Type 0) (p : ℕ) (h : Head) (q : ℕ) (x : X) : Type 0 where
+pub record Parted (o : Order) (b : ℕ) (s : List ℕ) {X : Type 0} (join : X → X → X) (I : ℕ → Head → X → Type 0) (E : ℕ → X → Type 0) (p : ℕ) (h : Head) (q : ℕ) (x : X) : Type 0 where
   pub own : X
   pub rest : X
   pub inner : I p h own
@@ -123,6 +123,6 @@ module _ (o : Order) (b : ℕ) (s : List ℕ) (p : ℕ) where
     pub none : (h : Head) → Heads o b s p h → (h.code ≡ 0 → ⊥) → AdmitsAny h → ⊥
 
 -- the cursor's answer at byte p of the part s, which stands at b
-abbrev pub Visits : Order → ℕ → List ℕ → ℕ → Option (Head × ℕ) → Type 0
-Visits o b s p (Some h q) = RecordAt o b s p h q
+abbrev pub Visits : Order → ℕ → List ℕ → ℕ → Option (At.Head × ℕ) → Type 0
+Visits o b s p (Some (h, q)) = RecordAt o b s p h q
 Visits o b s p None = NoRecord o b s p

@@ -1,6 +1,5 @@
 -- The recordings of a file, which stand one after the other behind its header.
 -- Assumes nothing.
-use Rattle.std.specs.Prelude as Std
 use Rattle.std.specs.Prelude.{◌≡◌, List, ℕ, ◌+◌, ◌-◌, length}
 use Rattle.std.proofs.Math.Option.{Option, none}
 use Rattle.words.specs.declared.Order.{Order}
@@ -24,7 +23,7 @@ rows_of o label s count = tell o 0 s 32 (all_of label count s)
 
 -- P holds of the rows of the part s at b, where it is read as the body of a recording of that length
 abbrev pub OfBody : Order → ℕ → List ℕ → (List Row → Type 0) → Type 0
-OfBody o b s P = (label : Label) (held : Option (Std.Option ℕ)) (h : Head) (x : Placed) (e : ℕ) →
+OfBody o b s P = (label : Label) (held : Option Held) (h : Head) (x : Placed) (e : ℕ) →
     span h ≡ 16 + length s → see o b s b (recording_body label held h) ≡ goes x e → P (tell o b s b (recording_body label held h))
 
 -- a recording that is read up to byte e was found to end at q, and P holds of its rows
@@ -34,7 +33,7 @@ pub record UpTo (e q : ℕ) (P : Type 0) : Type 0 where
 
 -- where a recording of the file s is read from byte p on, it ends at q and P holds of its rows
 abbrev pub OfRecording : Order → List ℕ → ℕ → ℕ → (List Row → Type 0) → Type 0
-OfRecording o s p q P = (label : Label) (held : Option (Std.Option ℕ)) (i : ℕ) (x : Placed) (e : ℕ) → see o 0 s p (recording label held (length s - p) i) ≡ goes x e →
+OfRecording o s p q P = (label : Label) (held : Option Held) (i : ℕ) (x : Placed) (e : ℕ) → see o 0 s p (recording label held (length s - p) i) ≡ goes x e →
     UpTo e q (P (tell o 0 s p (recording label held (length s - p) i)))
 
 -- P holds of the rows of the file s, where its recordings are read

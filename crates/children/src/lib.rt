@@ -4,7 +4,6 @@
 ghost use Rattle.records.specs.Asks.{PartAt};
 ghost use Rattle.children.specs.Children.{Visits};
 
-use records::{Headed, Step};
 use rules::{Delimiter, Head, Kind};
 use words::Order;
 
@@ -13,10 +12,10 @@ pub fn record_at(o: Order, s: &[u8], base: usize, p: usize) -> Option<(Head, usi
     requires { PartAt base s.now p }
     ensures { Visits o base s.now p result }
 {
-    let h = records::head::head_at(o, s, base, p)?;
+    let h = records::head::head_at(o, s, base, p).ok()?;
     if h.code == Delimiter::CODE {
         return None;
     }
-    let end = records::kinds::admit(h, base, s.len(), Kind::Any)?;
-    Some(h, end)
+    let end = records::kinds::admit(h, base, s.len(), Kind::Any).ok()?;
+    Some((h, end))
 }

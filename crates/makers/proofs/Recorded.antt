@@ -1,5 +1,6 @@
 -- The first maker's record of a recording, and of all recordings of a file, from what the code found in each.
 -- Assumes nothing.
+use Rattle.std.specs.Prelude as Std
 use mathlib.Core.Path.{◌≡◌, sym, ap, ◌∙◌}
 use mathlib.Core.Bool.{false}
 use mathlib.Core.List.{List}
@@ -15,11 +16,10 @@ use Rattle.children.specs.Recordings.{OfBody, OfRecording, rows_of}
 use Rattle.children.proofs.Recordings.{body_of, within, recording-ends, Sofar, sofar-next, sofar-end}
 use Rattle.makers.specs.Makers.{first_maker}
 use Rattle.makers.specs.Search.{found, First}
-use Rattle.makers.specs.declared.MakerField.{MakerField}
 use Rattle.makers.proofs.Search.{first_some, first-append, first-row}
 
 -- the recording that the cursor found at p is no maker's record: the first is that of its body
-pub finds-recording : {o : Order} {s : List ℕ} {p : ℕ} {h : At.Head} {q : ℕ} → RecordAt o 0 s p h q → (r : MakerField) → OfBody o (p + 16) (body_of s p q) (First r) → OfRecording o s p q (First r)
+pub finds-recording : {o : Order} {s : List ℕ} {p : ℕ} {h : At.Head} {q : ℕ} → RecordAt o 0 s p h q → (r : Std.Option ℕ) → OfBody o (p + 16) (body_of s p q) (First r) → OfRecording o s p q (First r)
 unfolding maker_code
 finds-recording {o} {s} {p} {h} {q} v r finds label held i x e g =
     let m : e ≡ q = recording-ends v label held i g in
@@ -37,7 +37,7 @@ module _ {o : Order} {label : Label} {s : List ℕ} {count : ℕ} {ps : List Pla
   clear-end g few = sym (sofar-end g few)
 
   -- r is what was found in the next recording, which ends at q
-  module _ (g : Sofar o label s count ps p i Clear) (many : i < count) (fit : p ≤ length s) (r : MakerField) (q : ℕ) (finds : OfRecording o s p q (First r)) where
+  module _ (g : Sofar o label s count ps p i Clear) (many : i < count) (fit : p ≤ length s) (r : Std.Option ℕ) (q : ℕ) (finds : OfRecording o s p q (First r)) where
     next : Sofar o label s count ps q (i + 1) (λ _ _ l. first_maker l.rows ≡ found r)
     unfolding said ◌then◌
     next =
@@ -45,9 +45,9 @@ module _ {o : Order} {label : Label} {s : List ℕ} {count : ℕ} {ps : List Pla
         (λ x e h. let u = finds label g.at.held (i + 1) x e h in record { ends = u.ends; holds = rw (first-append, g.is) (sym u.holds) })
 
     -- it is the first of all, whatever follows
-    pub clear-found : {k : ℕ} → r ≡ MakerField.At k → found r ≡ first_maker (rows_of o label s count)
+    pub clear-found : {k : ℕ} → r ≡ Some k → found r ≡ first_maker (rows_of o label s count)
     unfolding said ◌then◌
     clear-found e = sym (ap (λ (l : Said). first_maker l.rows) next.at.says ∙ rw (first-append, next.is) (first_some (found r) _ (ap found e)))
 
-    pub clear_next : r ≡ MakerField.Nothing → Sofar o label s count ps q (i + 1) Clear
+    pub clear_next : r ≡ None → Sofar o label s count ps q (i + 1) Clear
     clear_next e = record { at = next.at; is = next.is ∙ ap found e }

@@ -1,5 +1,7 @@
 -- What the search for the first maker's record says.
 -- Assumes nothing.
+use Rattle.rules.specs.declared.Reason.TheVariants as Reason
+use Rattle.std.specs.Prelude as Std
 use Rattle.std.specs.Prelude.{◌≡◌, List, ℕ, ◌≤◌, length}
 use Rattle.std.proofs.Math.Option.{Option, none, some}
 use Rattle.words.specs.declared.Order.{Order}
@@ -7,15 +9,14 @@ use Rattle.walk.specs.Walk.{Row}
 use Rattle.rules.specs.declared.Refusal.{Refusal}
 use Rattle.children.specs.Recordings.{OfRecording}
 use Rattle.makers.specs.declared.Searched.{Searched}
-use Rattle.makers.specs.declared.MakerField.{MakerField}
 use Rattle.makers.specs.Makers.{first_maker}
 
-abbrev pub found : MakerField → Option ℕ
-found (MakerField.At p) = some p
-found MakerField.Nothing = none
+abbrev pub found : Std.Option ℕ → Option ℕ
+found (Some p) = some p
+found None = none
 
 -- the search found the first of these rows
-abbrev pub First : MakerField → List Row → Type 0
+abbrev pub First : Std.Option ℕ → List Row → Type 0
 First r rs = found r ≡ first_maker rs
 
 -- the search in the recording from byte p of the file s on
@@ -24,6 +25,6 @@ pub record SearchedAs (o : Order) (s : List ℕ) (p : ℕ) (r : Searched) : Type
   pub inside : r.end ≤ length s
   pub first : OfRecording o s p r.end (First r.found)
 
-abbrev pub refusal_f : MakerField → Refusal
-refusal_f (MakerField.At p) = record { 0 = 18; 1 = p }
-refusal_f MakerField.Nothing = record { 0 = 0; 1 = 0 }
+abbrev pub refusal_f : Std.Option ℕ → Refusal
+refusal_f (Some p) = record { 0 = Reason.Maker; 1 = p }
+refusal_f None = record { 0 = 0; 1 = 0 }

@@ -16,40 +16,23 @@ use words::Order;
 // What was found in a recording, and where it ends.
 #[derive(Clone, Copy)]
 pub struct Searched {
-    pub found: MakerField,
+    pub found: Option<usize>,
     pub end: usize,
 }
 
-// The code field of a maker's record, or none.
-#[derive(Clone, Copy)]
-pub enum MakerField {
-    At(usize),
-    Nothing,
-}
-
-// Refusal 18 at what was found.
-pub fn of_field(a: MakerField) -> Refusal
-    ensures { result ≡ refusal_f a }
-{
-    match a {
-        MakerField::At(p) => Refusal(18, p),
-        MakerField::Nothing => Refusal(0, 0),
-    }
-}
-
 // The first maker's record in a recording's body, which stands at `base`.
-fn in_body(o: Order, s: &[u8], base: usize) -> MakerField
+fn in_body(o: Order, s: &[u8], base: usize) -> Option<usize>
     requires { Addressable (base + length s.now) }
     ensures { OfBody o base s.now (First result) }
 {
     let mut p: usize = 0;
     loop {
         let there = children::record_at(o, s, base, p);
-        let Direct::Record(h, end) = there else {
-            return MakerField::Nothing;
+        let Some(h, end) = there else {
+            return None;
         };
         if records::makers::maker_code(h.code) {
-            return MakerField::At(base + p + Head::CODE);
+            return Some(base + p + Head::CODE);
         }
         p = end;
     }
@@ -61,9 +44,9 @@ fn in_recording(o: Order, file: &[u8], p: usize) -> Searched
     ensures { SearchedAs o file.now p result }
 {
     let there = children::record_at(o, file, 0, p);
-    let Direct::Record(_, end) = there else {
+    let Some(_, end) = there else {
         return Searched {
-            found: MakerField::Nothing,
+            found: None,
             end: p,
         };
     };
@@ -73,7 +56,7 @@ fn in_recording(o: Order, file: &[u8], p: usize) -> Searched
 }
 
 // The first maker's record of a file with so many recordings.
-pub fn first_maker(o: Order, file: &[u8], count: u32) -> MakerField
+pub fn first_maker(o: Order, file: &[u8], count: u32) -> Option<usize>
     requires { HeaderIn (length file.now) }
     ensures { OfFile o file.now count (First result) }
 {
@@ -82,11 +65,11 @@ pub fn first_maker(o: Order, file: &[u8], count: u32) -> MakerField
     while i < count {
         let e = in_recording(o, file, p);
         let found = e.found;
-        let MakerField::Nothing = found else {
+        let None = found else {
             return found;
         };
         p = e.end;
         i += 1;
     }
-    MakerField::Nothing
+    None
 }

@@ -1,19 +1,20 @@
 -- Leave to write into a lent buffer: the first of the refusals 18 and 17, or the bytes; and what the buffer holds afterwards.
 -- Assumes nothing.
+use Rattle.rules.specs.declared.Refusal.{Refusal}
+use Rattle.rules.specs.Reasons.{number_of}
 use Rattle.std.specs.Prelude.{◌≡◌, List, ℕ, leb}
 use Rattle.std.proofs.Math.Option.{Option, none, some}
 use Rattle.words.specs.Runs.{pasted}
 use Rattle.walk.specs.Walk.{pick}
-use Rattle.permit.specs.declared.Written.{Written}
 
 -- how many bytes were written, or a refusal and its position
 pub data Answer : Type 0 where
   bytes : ℕ → Answer
   refusal : ℕ → ℕ → Answer
 
-abbrev pub meaning : Written → Answer
-meaning (Written.Bytes n) = bytes n
-meaning (Written.Refused r) = refusal r.0 r.1
+abbrev pub meaning : Result ℕ Refusal → Answer
+meaning (Ok n) = bytes n
+meaning (Err r) = refusal (number_of r.0) r.1
 
 -- 18 at a maker's record
 abbrev pub barring : Option ℕ → ℕ → Answer
@@ -38,7 +39,7 @@ settled (bytes n) xs out = pasted out 0 xs
 settled (refusal n p) xs out = out
 
 -- what a call says that answers x, and writes xs where it answers a length
-pub record Writes (x : Answer) (xs out out' : List ℕ) (a : Written) : Type 0 where
+pub record Writes (x : Answer) (xs out out' : List ℕ) (a : Result ℕ Refusal) : Type 0 where
   -- the answer
   pub answer : meaning a ≡ x
   -- the buffer afterwards

@@ -8,45 +8,38 @@ ghost use Rattle.permit.specs.Permit.{meaning, barring, within, earlier, permitt
 use makers::MakerField;
 use rules::Refusal;
 
-// How many bytes are written, or the refusal.
-#[derive(Clone, Copy)]
-pub enum Written {
-    Bytes(usize),
-    Refused(Refusal),
-}
-
 // 18 where a maker's record was found.
-fn barred(made: MakerField, need: usize) -> Written
+fn barred(made: Option<usize>, need: usize) -> Result<usize, Refusal>
     ensures { meaning result ≡ barring (found made) need }
 {
-    let MakerField::Nothing = made else {
-        return Written::Refused(makers::of_field(made));
+    let None = made else {
+        return Err(makers::of_field(made));
     };
-    Written::Bytes(need)
+    Ok(need)
 }
 
 // 17 where the room is too small.
-fn short(need: usize, room: usize) -> Written
+fn short(need: usize, room: usize) -> Result<usize, Refusal>
     ensures { meaning result ≡ within need room }
 {
     if room < need {
-        return Written::Refused(Refusal(17, need));
+        return Err(Refusal(Reason::Room, need));
     }
-    Written::Bytes(need)
+    Ok(need)
 }
 
 // A refusal goes before what is said later.
-fn first(a: Written, b: Written) -> Written
+fn first(a: Result<usize, Refusal>, b: Result<usize, Refusal>) -> Result<usize, Refusal>
     ensures { meaning result ≡ earlier (meaning a) (meaning b) }
 {
-    let Written::Bytes(_) = a else {
+    let Ok(_) = a else {
         return a;
     };
     b
 }
 
 // The bytes that may be written, or the first refusal of 18 and 17.
-pub fn permit(made: MakerField, need: usize, room: usize) -> Written
+pub fn permit(made: Option<usize>, need: usize, room: usize) -> Result<usize, Refusal>
     ensures { meaning result ≡ permitted (found made) need room }
 {
     let maker = barred(made, need);

@@ -1,5 +1,7 @@
 -- The recordings of an accepted file, one after the other, up to the one asked for: where each stands, and which 120 and 130 hold for it.
 -- Assumes nothing.
+use Rattle.rules.specs.declared.Refusal.{Refusal}
+use Rattle.std.specs.Prelude as Std
 use mathlib.Core.Path.{◌≡◌, refl, sym, ap, ◌∙◌}
 use mathlib.Core.Bool.{Bool, true, false}
 use mathlib.Core.List.{List, [], ◌∷◌, ◌++◌, append_assoc}
@@ -26,12 +28,9 @@ use Rattle.records.specs.Says.{subs_at, ChannelsIn, ChannelsStand}
 use Rattle.records.proofs.Facts.{between_in}
 use Rattle.descriptions.specs.DescriptionsJudged.{channels_in, patient_in}
 use Rattle.descriptions.specs.DescriptionsJudged as DescriptionsJudged
-use Rattle.descriptions.specs.declared.Before.{Before}
-use Rattle.descriptions.specs.declared.Held.{Held}
 use Rattle.descriptions.specs.declared.Places.{Places}
 use Rattle.judge.specs.Judged.{AcceptedAs}
 use Rattle.judge.specs.Recorded.{places_of, Continues, RecordingAgain}
-use Rattle.judge.specs.declared.recording.Recorded.{Recorded}
 use Rattle.judge.proofs.Accepted.{went}
 use Rattle.children.proofs.Recordings.{passed-next, Sofar, sofar-start}
 use Rattle.children.proofs.Again.{Knowing, Next, again-stop, again-next}
@@ -110,16 +109,16 @@ module _ (own : R.Recording → Bool) where
 -- The walk over the recordings, from one of them on
 
 -- i recordings are read: the code has the last of them, or there is none
-abbrev pub Behind : Order → List ℕ → List R.Placed → ℕ → Before → Type 0
-Behind o s ps i Before.Nothing = i ≡ 0
-Behind o s ps i (Before.These q) = Standing o s ps i q
+abbrev pub Behind : Order → List ℕ → List R.Placed → ℕ → Std.Option Places → Type 0
+Behind o s ps i None = i ≡ 0
+Behind o s ps i (Some q) = Standing o s ps i q
 
 -- i of the recordings are passed: where the next one begins, and the places of the last of them
-pub record Came (o : Order) (s : List ℕ) (ps : List R.Placed) (p i : ℕ) (before : Before) : Type 0 where
+pub record Came (o : Order) (s : List ℕ) (ps : List R.Placed) (p i : ℕ) (before : Std.Option Places) : Type 0 where
   pub place : p ≡ 32 + bytes_before i ps
   pub reached : Behind o s ps i before
 
-abbrev pub Going : Order → Label → List ℕ → ℕ → List R.Placed → ℕ → ℕ → Before → Type 0
+abbrev pub Going : Order → Label → List ℕ → ℕ → List R.Placed → ℕ → ℕ → Std.Option Places → Type 0
 Going o label s count ps p i before = Sofar o label s count ps p i (Knowing o s before (λ _ _. Came o s ps p i before))
 
 tail-one : {A : Type 0} {a x : A} {l : List A} {i : ℕ} → One (a ∷ l) (suc i) x → One l i x
@@ -135,7 +134,7 @@ bytes-more (p ∷ ps) (suc i) x o = rw (bytes-more ps i x (tail-one o)) (omega a
 pub ok_of : (s : List ℕ) → Bytes s → (h : FileHeader) (x : AcceptedAs s h) {label : Label} → label ≡ h.heading.label → RecordingsOk label none (readings x.file.recordings)
 ok_of s b h x e = rw (e, ap (λ (g : R.Heading). g.label) x.heading) (file-ok (length s) (accepted s b x.judged).plays).recordings
 
-pub going_start : (s : List ℕ) (h : FileHeader) (x : AcceptedAs s h) (o : Order) (label : Label) → o ≡ h.order → label ≡ h.heading.label → Going o label s h.count x.file.recordings 32 0 Before.Nothing
+pub going_start : (s : List ℕ) (h : FileHeader) (x : AcceptedAs s h) (o : Order) (label : Label) → o ≡ h.order → label ≡ h.heading.label → Going o label s h.count x.file.recordings 32 0 None
 unfolding bytes_before
 going_start s h x o label e d = sofar-start {e = length s} (rw (e, d) (went s h x)) (record { holds = tt; is = record { place = refl; reached = refl } })
 
@@ -147,21 +146,21 @@ first-own ps own first k x o e =
     rw i at (first x.recording (omega (arith, o.inside, length-map ps (λ (p : R.Placed). p.recording))))
 
 -- the places that the code has of the recording before
-reached-before : (o : Order) (s : List ℕ) (ps : List R.Placed) (i : ℕ) (before : Before) → Behind o s ps i before → (j : ℕ) (y : R.Placed) → i ≡ suc j → One ps j y → (q : Places) × (before ≡ Before.These q) × (q ≡ places_at (chosen ps j y))
-reached-before o s ps i Before.Nothing r j y e q = absurd (omega arith)
-reached-before o s ps i (Before.These b) r j y e q =
+reached-before : (o : Order) (s : List ℕ) (ps : List R.Placed) (i : ℕ) (before : Std.Option Places) → Behind o s ps i before → (j : ℕ) (y : R.Placed) → i ≡ suc j → One ps j y → (q : Places) × (before ≡ Some q) × (q ≡ places_at (chosen ps j y))
+reached-before o s ps i None r j y e q = absurd (omega arith)
+reached-before o s ps i (Some b) r j y e q =
     let d : i - 1 ≡ j = omega arith in
     let t : r.this ≡ y = sym ((rw d at (numbered-one ps i r.is).1).is y) ∙ q.is y in
     (b, refl, r.same ∙ rw (d, t))
 
 -- where the next one stands
-module _ (o : Order) (label : Label) (s : List ℕ) (ps : List R.Placed) (ok : RecordingsOk label none (readings ps)) (i : ℕ) (before : Before) (r : Behind o s ps i before) (x : R.Placed) (one : One ps i x) where
+module _ (o : Order) (label : Label) (s : List ℕ) (ps : List R.Placed) (ok : RecordingsOk label none (readings ps)) (i : ℕ) (before : Std.Option Places) (r : Behind o s ps i before) (x : R.Placed) (one : One ps i x) where
   -- the record that holds: its own, or what `held` has of the recording before, whose places have it at `at`
-  next-held : (own : R.Recording → Bool) (place : R.Layout → ℕ) (held : Before → Held) (at : Places → ℕ) → ((b : Places) → DescriptionsJudged.held_at (held (Before.These b)) ≡ at b) → ((y : Chosen) → at (places_at y) ≡ held_at own place y) →
+  next-held : (own : R.Recording → Bool) (place : R.Layout → ℕ) (held : Std.Option Places → Std.Option ℕ) (at : Places → ℕ) → ((b : Places) → DescriptionsJudged.held_at (held (Some b)) ≡ at b) → ((y : Chosen) → at (places_at y) ≡ held_at own place y) →
       ((d : R.Recording) → 0 < length (readings ps) → own (get_or (readings ps) (holder own d 0 (readings ps)) d) ≡ true) → pick (own x.recording) (32 + bytes_before i ps + place x.layout) (DescriptionsJudged.held_at (held before)) ≡ held_at own place (chosen ps i x)
   next-held own place held at takes stands first =
       held-is own place ps i x one (first-own ps own first i x one) _
-      (λ j y e q. let t = reached-before o s ps i before r j y e q in ap (λ (b : Before). DescriptionsJudged.held_at (held b)) t.1 ∙ takes t.0 ∙ ap at t.2 ∙ stands (chosen ps j y))
+      (λ j y e q. let t = reached-before o s ps i before r j y e q in ap (λ (b : Std.Option Places). DescriptionsJudged.held_at (held b)) t.1 ∙ takes t.0 ∙ ap at t.2 ∙ stands (chosen ps j y))
 
   next-120 : pick x.recording.own_channels (32 + bytes_before i ps + x.layout.at120) (DescriptionsJudged.held_at (channels_in before)) ≡ at120 (chosen ps i x)
   next-120 = next-held (λ r. r.own_channels) (λ y. y.at120) channels_in (λ b. b.channels) (λ b. refl) (λ y. refl) (λ d m. (channels-hold label d 0 (readings ps) ok m).owned)
@@ -184,11 +183,11 @@ module _ (o : Order) (label : Label) (s : List ℕ) (ps : List R.Placed) (ok : R
 
 -- The answer of the code for recording i
 
-abbrev pub Met : Order → Label → List ℕ → ℕ → List R.Placed → ℕ → Recorded → Type 0
-Met o label s count ps i (Recorded.On q) = Going o label s count ps q.end i (Before.These q)
-Met o label s count ps i (Recorded.Stop r) = ⊥
+abbrev pub Met : Order → Label → List ℕ → ℕ → List R.Placed → ℕ → Result Places Refusal → Type 0
+Met o label s count ps i (Ok q) = Going o label s count ps q.end i (Some q)
+Met o label s count ps i (Err r) = ⊥
 
-module _ {o : Order} {label : Label} {s : List ℕ} {count : ℕ} {ps : List R.Placed} {p i : ℕ} (before : Before) (g : Going o label s count ps p i before) (l : i < count) (f : p ≤ length s) where
+module _ {o : Order} {label : Label} {s : List ℕ} {count : ℕ} {ps : List R.Placed} {p i : ℕ} (before : Std.Option Places) (g : Going o label s count ps p i before) (l : i < count) (f : p ≤ length s) where
   -- the next of the recordings
   next_one : {x : R.Placed} {q : ℕ} → see o 0 s p (R.recording label g.at.held (length s - p) (i + 1)) ≡ goes x q → One ps i x
   next_one {x} h =
@@ -196,7 +195,7 @@ module _ {o : Order} {label : Label} {s : List ℕ} {count : ℕ} {ps : List R.P
       let e : ps ≡ g.at.done ++ (x ∷ n.to.left) = n.to.all ∙ rw (n.more, append_assoc) in
       record { inside = omega (arith, ap length e, length-append g.at.done (x ∷ n.to.left), g.at.many); is = λ d. rw e (get_or_at g.at.done x n.to.left d i g.at.many) }
 
-  came : RecordingsOk label none (readings ps) → {q : Places} {x : R.Placed} → ChannelsIn (length s) (subs_at q.channels q.count) → Next o label s p i before g.at.held q x → Came o s ps q.end (i + 1) (Before.These q)
+  came : RecordingsOk label none (readings ps) → {q : Places} {x : R.Placed} → ChannelsIn (length s) (subs_at q.channels q.count) → Next o label s p i before g.at.held q x → Came o s ps q.end (i + 1) (Some q)
   came ok {q} {x} room n =
       let one = next_one n.is in
       record {
@@ -205,16 +204,16 @@ module _ {o : Order} {label : Label} {s : List ℕ} {count : ℕ} {ps : List R.P
       }
 
   -- by what `recording_again` says of it
-  pub met : RecordingsOk label none (readings ps) → (a : Recorded) → RecordingAgain o label s p before a → Met o label s count ps (i + 1) a
-  met ok (Recorded.On q) k = again-next g l f (Recorded.On q) k refl (λ x n. came ok k.continues.channels n)
-  met ok (Recorded.Stop r) k = again-stop g l f (Recorded.Stop r) k refl
+  pub met : RecordingsOk label none (readings ps) → (a : Result Places Refusal) → RecordingAgain o label s p before a → Met o label s count ps (i + 1) a
+  met ok (Ok q) k = again-next g l f (Ok q) k refl (λ x n. came ok k.continues.channels n)
+  met ok (Err r) k = again-stop g l f (Err r) k refl
 
-pub met-reached : (o : Order) (label : Label) (s : List ℕ) (count : ℕ) (ps : List R.Placed) (n : ℕ) (a : Recorded) → Met o label s count ps n a → Reached o s ps n a
-met-reached o label s count ps n (Recorded.On q) g = g.is.is.reached
-met-reached o label s count ps n (Recorded.Stop r) g = g
+pub met-reached : (o : Order) (label : Label) (s : List ℕ) (count : ℕ) (ps : List R.Placed) (n : ℕ) (a : Result Places Refusal) → Met o label s count ps n a → Reached o s ps n a
+met-reached o label s count ps n (Ok q) g = g.is.is.reached
+met-reached o label s count ps n (Err r) g = g
 
 -- the code has the answer for recording i, on the way to recording n
-pub record Walked (o : Order) (label : Label) (s : List ℕ) (n i : ℕ) (a : Recorded) : Type 0 where
+pub record Walked (o : Order) (label : Label) (s : List ℕ) (n i : ℕ) (a : Result Places Refusal) : Type 0 where
   pub within : i ≤ n
   pub start : ℕ
   pub bounds : Continues start (length s) a

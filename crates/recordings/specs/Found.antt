@@ -1,5 +1,6 @@
 -- What the functions say that find the recording asked for.
 -- Assumes nothing.
+use Rattle.rules.specs.Reasons.{number_of}
 use Rattle.std.specs.Prelude.{◌≡◌, List, ℕ, ◌+◌, ◌-◌, ◌≤◌, length}
 use Rattle.words.specs.Numbers.{Bytes}
 use Rattle.words.specs.declared.Order.{Order}
@@ -12,15 +13,13 @@ use Rattle.descriptions.specs.DescriptionsJudged.{Owned}
 use Rattle.descriptions.specs.declared.Places.{Places}
 use Rattle.judge.specs.Judged.{AcceptedAs}
 use Rattle.judge.specs.Recorded.{HeaderIn}
-use Rattle.judge.specs.declared.recording.Recorded.{Recorded}
 use Rattle.recordings.specs.Answers.{value, refusal, numbered}
 use Rattle.recordings.specs.Recordings.{Chosen, recording_of, start_of, at120, at130}
 use Rattle.recordings.specs.declared.Counts.{Counts}
-use Rattle.recordings.specs.declared.RecordingFound.{RecordingFound}
 
-abbrev pub refusal_recording : RecordingFound → Refusal
-refusal_recording (RecordingFound.At o q) = record { 0 = 0; 1 = 0 }
-refusal_recording (RecordingFound.Refused r) = r
+abbrev pub refusal_recording : Result (Order × Places) Refusal → Refusal
+refusal_recording (Ok (o, q)) = record { 0 = 0; 1 = 0 }
+refusal_recording (Err r) = r
 
 abbrev pub counts_of : Places → Counts
 counts_of q = record { channels = q.count; frames = q.total; seconds = q.seconds }
@@ -61,11 +60,11 @@ pub record Walkable (s : List ℕ) (n : ℕ) : Type 0 where
   pub first : 1 ≤ n
 
 -- it reaches recording n; in an accepted file nothing is refused on the way
-abbrev pub Reached : Order → List ℕ → List R.Placed → ℕ → Recorded → Type 0
-Reached o s ps n (Recorded.On q) = Standing o s ps n q
-Reached o s ps n (Recorded.Stop r) = ⊥
+abbrev pub Reached : Order → List ℕ → List R.Placed → ℕ → Result Places Refusal → Type 0
+Reached o s ps n (Ok q) = Standing o s ps n q
+Reached o s ps n (Err r) = ⊥
 
-abbrev pub ReachedAs : Order → Label → List ℕ → ℕ → Recorded → Type 0
+abbrev pub ReachedAs : Order → Label → List ℕ → ℕ → Result Places Refusal → Type 0
 ReachedAs o label s n a =
     (h : FileHeader) (x : AcceptedAs s h) → o ≡ h.order → label ≡ h.heading.label → n ≤ h.count → Reached o s x.file.recordings n a
 
@@ -86,6 +85,6 @@ pub record FoundIn (s : List ℕ) (i : ℕ) (o : Order) (q : Places) (r : Chosen
   -- its channels, in the file
   pub owned : Owned o s q.channels q.count r.this.recording.channels
 
-abbrev pub RecordingFoundAs : List ℕ → ℕ → RecordingFound → Type 0
-RecordingFoundAs s i (RecordingFound.At o q) = (r : Chosen) × FoundIn s i o q r
-RecordingFoundAs s i (RecordingFound.Refused r) = recording_of s i ≡ refusal r.0 r.1
+abbrev pub RecordingFoundAs : List ℕ → ℕ → Result (Order × Places) Refusal → Type 0
+RecordingFoundAs s i (Ok (o, q)) = (r : Chosen) × FoundIn s i o q r
+RecordingFoundAs s i (Err r) = recording_of s i ≡ refusal (number_of r.0) r.1

@@ -11,34 +11,12 @@ use judge::recording::{Recorded, recording_again};
 use rules::{FileHeader, Label, Refusal};
 use words::Order;
 
-// The file's byte order and where the recording stands, or the refusal.
-#[derive(Clone, Copy)]
-pub enum RecordingFound {
-    At(Order, Places),
-    Refused(Refusal),
-}
-
 // M, F and T.
 #[derive(Clone, Copy)]
 pub struct Counts {
     pub channels: u32,
     pub frames: u32,
     pub seconds: u32,
-}
-
-#[derive(Clone, Copy)]
-pub enum FactsTold {
-    Facts(Counts),
-    Refused(Refusal),
-}
-
-pub fn of_recording_found(a: RecordingFound) -> Refusal
-    ensures { result ≡ refusal_recording a }
-{
-    match a {
-        RecordingFound::At(_, _) => Refusal(0, 0),
-        RecordingFound::Refused(r) => r,
-    }
 }
 
 pub fn facts_of(q: Places) -> Counts
@@ -62,39 +40,33 @@ pub fn within(n: usize, count: u32) -> bool
 }
 
 // The recordings of an accepted file, one after the other: where recording n stands, or the refusal that was met on the way.
-fn recordings_to(o: Order, label: Label, file: &[u8], n: u32) -> Recorded
+fn recordings_to(o: Order, label: Label, file: &[u8], n: u32) -> Result<Places, Refusal>
     requires { Walkable file.now n }
     ensures { ReachedAs o label file.now n result }
 {
-    let mut step = recording_again(o, label, file, FileHeader::LENGTH, Before::Nothing);
+    let mut step = recording_again(o, label, file, FileHeader::LENGTH, None);
     let mut i: u32 = 1;
     while i < n {
-        let Recorded::On(places) = step else {
+        let Ok(places) = step else {
             return step;
         };
-        step = recording_again(o, label, file, places.end, Before::These(places));
+        step = recording_again(o, label, file, places.end, Some(places));
         i += 1;
     }
     step
 }
 
 // Judges the file, and finds the recording asked for.
-pub fn recording_asked(file: &[u8], recording: usize) -> RecordingFound
+pub fn recording_asked(file: &[u8], recording: usize) -> Result<(Order, Places), Refusal>
     ensures { RecordingFoundAs file.now recording result }
 {
-    let judged = judge::judge(file);
-    let Judged::Accepted(h) = judged else {
-        return RecordingFound::Refused(judge::of_judged(judged));
-    };
+    let h = judge::judge(file)?;
     if !within(recording, h.count) {
-        return RecordingFound::Refused(Refusal(19, 0));
+        return Err(Refusal(Reason::Range, 0));
     }
     let order = h.order;
     let heading = h.heading;
     let label = heading.label;
-    let last = recordings_to(order, label, file, recording as u32);
-    let Recorded::On(q) = last else {
-        return RecordingFound::Refused(judge::of_recording(last));
-    };
-    RecordingFound::At(order, q)
+    let q = recordings_to(order, label, file, recording as u32)?;
+    Ok(order, q)
 }

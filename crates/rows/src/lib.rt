@@ -175,7 +175,7 @@ fn body_rows(o: Order, s: &[u8], base: usize, out: &mut [i64], k: usize, write: 
     let mut next = k;
     loop {
         let there = children::record_at(o, s, base, p);
-        let Direct::Record(h, end) = there else {
+        let Some(h, end) = there else {
             if s.len() < p + Delimiter::LENGTH {
                 return next;
             }
@@ -200,7 +200,7 @@ fn recording_rows(o: Order, file: &[u8], p: usize, out: &mut [i64], k: usize, wr
     ensures { RecordingListed o file.now p result.at write out.old out.new k result.k }
 {
     let there = children::record_at(o, file, 0, p);
-    let Direct::Record(h, end) = there else {
+    let Some(h, end) = there else {
         return Ended { at: p, k };
     };
     let first = put(out, k, write, p, end - p, h.code, h.serial);

@@ -1,5 +1,7 @@
 -- The answer of `table` is the one that the rules fix for the file and the buffer; and only one answer and one buffer meet its contract.
 -- Assumes nothing.
+use Rattle.rules.specs.declared.Refusal.{Refusal}
+use Rattle.rules.specs.declared.Reason.TheVariants as Reason
 use mathlib.Core.Path.{◌≡◌, refl, sym, ap, ◌∙◌}
 use mathlib.Core.Bool.{Bool, true, false}
 use mathlib.Core.List.{List}
@@ -21,14 +23,13 @@ use Rattle.children.specs.Recordings.{OfFile}
 use Rattle.rows.specs.Rows.{written}
 use Rattle.rows.specs.Listing.{Wrote}
 use Rattle.table.specs.Table.{Answer, rows, refusal, meaning, counted, kept, Lists}
-use Rattle.table.specs.declared.Listed.{Listed}
 
 -- an answer is no refusal
 pub rows-refusal : {X : Type 0} {n m p : ℕ} → rows n ≡ refusal m p → X
 rows-refusal h = zero_one (cc)
 
 -- a file that is refused
-pub lists-refused : (s : List ℕ) (out : List ℤ) {n p : ℕ} → R.judge s ≡ refused n p → Lists s out out (Listed.Refused (record { 0 = n; 1 = p }))
+pub lists-refused : (s : List ℕ) (out : List ℤ) {n p : ℕ} → R.judge s ≡ refused n p → Lists s out out (Err (record { 0 = n; 1 = p }))
 lists-refused s out h = record { answer = rw h; buffer = rw h }
 
 -- rows that were counted and found to have no room, and rows that were written
@@ -59,7 +60,7 @@ module _ (s : List ℕ) (h : FileHeader) (x : AcceptedAs s h) where
     unfolding Lent.written
     leaves = (wrote-listed false out out₁ need first).holds false-true
 
-    pub lists-short : length out₁ < need → Lists s out out₁ (Listed.Refused (record { 0 = 17; 1 = need }))
+    pub lists-short : length out₁ < need → Lists s out out₁ (Err (record { 0 = Reason.Room; 1 = need }))
     lists-short l =
         let i : length out₁ ≡ length out = ap length leaves in
         record {
@@ -67,7 +68,7 @@ module _ (s : List ℕ) (h : FileHeader) (x : AcceptedAs s h) where
           buffer = rw (x.judged, leaves) (kept-short (W.rows 0 x.events) out (omega (arith, needs)));
         }
 
-    pub lists-rows : (out₂ : List ℤ) (n : ℕ) → need ≤ length out₁ → OfFile h.order s h.count (Wrote true out₁ out₂ 0 n) → Lists s out out₂ (Listed.Rows (n / 4))
+    pub lists-rows : (out₂ : List ℤ) (n : ℕ) → need ≤ length out₁ → OfFile h.order s h.count (Wrote true out₁ out₂ 0 n) → Lists s out out₂ (Ok (n / 4))
     lists-rows out₂ n l second =
         let i : length out₁ ≡ length out = ap length leaves in
         let w = wrote-listed true out₁ out₂ n second in
@@ -79,14 +80,14 @@ module _ (s : List ℕ) (h : FileHeader) (x : AcceptedAs s h) where
         }
 
 -- an answer of the code, from what it means
-abbrev again : Answer → Listed
-again (rows n) = Listed.Rows n
-again (refusal n p) = Listed.Refused (record { 0 = n; 1 = p })
+abbrev again : Answer → Result ℕ Refusal
+again (rows n) = Ok n
+again (refusal n p) = Err (record { 0 = n; 1 = p })
 
-back : (a : Listed) → again (meaning a) ≡ a
-back (Listed.Rows n) = refl
-back (Listed.Refused r) = refl
+back : (a : Result ℕ Refusal) → again (meaning a) ≡ a
+back (Ok n) = refl
+back (Err r) = refl
 
 -- one answer and one buffer for every file and every buffer
-pub table-unique : (s : List ℕ) (out out₁ out₂ : List ℤ) (a b : Listed) → Lists s out out₁ a → Lists s out out₂ b → (a ≡ b) × (out₁ ≡ out₂)
+pub table-unique : (s : List ℕ) (out out₁ out₂ : List ℤ) (a b : Result ℕ Refusal) → Lists s out out₁ a → Lists s out out₂ b → (a ≡ b) × (out₁ ≡ out₂)
 table-unique s out out₁ out₂ a b x y = (one meaning again back x.answer y.answer, x.buffer ∙ sym y.buffer)

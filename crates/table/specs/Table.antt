@@ -1,20 +1,21 @@
 -- The answer of `table` for a file and a buffer, and what the buffer holds afterwards, by the rules' outcome for the file.
 -- Assumes nothing.
+use Rattle.rules.specs.declared.Refusal.{Refusal}
+use Rattle.rules.specs.Reasons.{number_of}
 use Rattle.std.specs.Prelude.{◌≡◌, true, List, ℕ, ◌*◌, leb, ℤ, length}
 use Rattle.walk.specs.Walk as W
 use Rattle.walk.specs.Walk.{pick, Row, Outcome, refused, passed}
 use Rattle.rules.specs.Rules as R
 use Rattle.rows.specs.Rows.{written}
-use Rattle.table.specs.declared.Listed.{Listed}
 
 -- how many rows, or a refusal and its position
 pub data Answer : Type 0 where
   rows : ℕ → Answer
   refusal : ℕ → ℕ → Answer
 
-abbrev pub meaning : Listed → Answer
-meaning (Listed.Rows n) = rows n
-meaning (Listed.Refused r) = refusal r.0 r.1
+abbrev pub meaning : Result ℕ Refusal → Answer
+meaning (Ok n) = rows n
+meaning (Err r) = refusal (number_of r.0) r.1
 
 -- rows in a buffer of so many numbers: refusal 17 says how many they are where there is no room
 abbrev pub counted : List Row → ℕ → Answer
@@ -39,7 +40,7 @@ abbrev pub afterwards : List ℕ → List ℤ → List ℤ
 afterwards s out = holding (R.judge s) out
 
 -- what `table` does with the file s and a buffer
-pub record Lists (s : List ℕ) (out out' : List ℤ) (a : Listed) : Type 0 where
+pub record Lists (s : List ℕ) (out out' : List ℤ) (a : Result ℕ Refusal) : Type 0 where
   -- the answer, and the buffer afterwards
   pub answer : meaning a ≡ answer_of s (length out)
   pub buffer : out' ≡ afterwards s out

@@ -2,7 +2,6 @@
 -- Assumes nothing.
 use mathlib.Core.Path.{◌≡◌}
 use native.Mathlib.Omega.{arith}
-use Rattle.descriptions.specs.declared.Before.TheVariants as Before
 use Rattle.words.proofs.Words.{bytes}
 use Rattle.recordings.proofs.Reach.{ok_of, going_start, met, met-reached}
 use Rattle.recordings.proofs.recordings_to.Goals as goal
@@ -21,7 +20,7 @@ loop-i-init c =
       bounds = k.continues;
       meets = λ h x e d l.
           let b = bytes a.file.now (λ j. omega (arith, c.type_inv.file j)) in
-          met Before.Nothing (going_start a.file.now h x a.o a.label e d) (omega (arith, l, p.first)) p.file.header (ok_of _ b h x d) c.recording_again-step.result k;
+          met None (going_start a.file.now h x a.o a.label e d) (omega (arith, l, p.first)) p.file.header (ok_of _ b h x d) c.recording_again-step.result k;
     }
 
 pub returns-in_default : goal.returns-in_default
@@ -42,7 +41,7 @@ loop-i-preserved c =
       bounds = u.continues;
       meets = λ h x o g l.
           let b = bytes c.args.file.now (λ j. omega (arith, c.type_inv.file j)) in
-          met (Before.These c.in-On.places) (rw c.in-On.is at (i.meets h x o g l)) (omega (arith, l, c.loop-i-test.true)) (rw c.in-On.is at i.bounds).end (ok_of _ b h x g) c.recording_again-step-in-loop-i.result u;
+          met (Some c.in-On.places) (rw c.in-On.is at (i.meets h x o g l)) (omega (arith, l, c.loop-i-test.true)) (rw c.in-On.is at i.bounds).end (ok_of _ b h x g) c.recording_again-step-in-loop-i.result u;
     }
 
 pub returns : goal.returns
