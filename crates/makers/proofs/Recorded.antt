@@ -1,5 +1,6 @@
 -- The first maker's record of a recording, and of all recordings of a file, from what the code found in each.
 -- Assumes nothing.
+use Rattle.std.proofs.Common.{Some, None}
 use Rattle.std.specs.Prelude as Std
 use mathlib.Core.Path.{◌≡◌, sym, ap, ◌∙◌}
 use mathlib.Core.Bool.{false}

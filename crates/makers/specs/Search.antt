@@ -1,5 +1,6 @@
 -- What the search for the first maker's record says.
 -- Assumes nothing.
+use Rattle.std.specs.Prelude.{Some, None}
 use Rattle.rules.specs.declared.Reason.TheVariants as Reason
 use Rattle.std.specs.Prelude as Std
 use Rattle.std.specs.Prelude.{◌≡◌, List, ℕ, ◌≤◌, length}
@@ -24,7 +25,3 @@ pub record SearchedAs (o : Order) (s : List ℕ) (p : ℕ) (r : Searched) : Type
   pub on : p ≤ r.end
   pub inside : r.end ≤ length s
   pub first : OfRecording o s p r.end (First r.found)
-
-abbrev pub refusal_f : Std.Option ℕ → Refusal
-refusal_f (Some p) = record { 0 = Reason.Maker; 1 = p }
-refusal_f None = record { 0 = 0; 1 = 0 }

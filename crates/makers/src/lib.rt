@@ -7,10 +7,9 @@ ghost use Rattle.words.specs.Sizes.{Addressable};
 ghost use Rattle.records.specs.Asks.{PartAt};
 ghost use Rattle.judge.specs.Recorded.{HeaderIn};
 ghost use Rattle.children.specs.Recordings.{OfBody, OfFile};
-ghost use Rattle.makers.specs.Search.{First, SearchedAs, refusal_f};
+ghost use Rattle.makers.specs.Search.{First, SearchedAs};
 
-use children::Direct;
-use rules::{FileHeader, Head, Refusal};
+use rules::{FileHeader, Head};
 use words::Order;
 
 // What was found in a recording, and where it ends.
@@ -27,10 +26,7 @@ fn in_body(o: Order, s: &[u8], base: usize) -> Option<usize>
 {
     let mut p: usize = 0;
     loop {
-        let there = children::record_at(o, s, base, p);
-        let Some(h, end) = there else {
-            return None;
-        };
+        let (h, end) = children::record_at(o, s, base, p)?;
         if records::makers::maker_code(h.code) {
             return Some(base + p + Head::CODE);
         }
@@ -43,8 +39,7 @@ fn in_recording(o: Order, file: &[u8], p: usize) -> Searched
     requires { PartAt 0 file.now p }
     ensures { SearchedAs o file.now p result }
 {
-    let there = children::record_at(o, file, 0, p);
-    let Some(_, end) = there else {
+    let Some((_, end)) = children::record_at(o, file, 0, p) else {
         return Searched {
             found: None,
             end: p,
@@ -61,15 +56,12 @@ pub fn first_maker(o: Order, file: &[u8], count: u32) -> Option<usize>
     ensures { OfFile o file.now count (First result) }
 {
     let mut p = FileHeader::LENGTH;
-    let mut i: u32 = 0;
-    while i < count {
+    for _i in 0..count {
         let e = in_recording(o, file, p);
-        let found = e.found;
-        let None = found else {
-            return found;
-        };
+        if let Some(place) = e.found {
+            return Some(place);
+        }
         p = e.end;
-        i += 1;
     }
     None
 }

@@ -1,7 +1,10 @@
 -- A call that writes or refuses has one answer and leaves one buffer; what its leave to write says.
 -- Assumes nothing.
+use Rattle.std.proofs.Common.{Result, Ok, Err}
 use Rattle.rules.specs.declared.Refusal.{Refusal}
-use mathlib.Core.Path.{◌≡◌, refl, sym, ◌∙◌}
+use mathlib.Core.Path.{◌≡◌, refl, sym, ap, ◌∙◌}
+use Rattle.rules.specs.Reasons.{refusal_of}
+use Rattle.rules.proofs.Reasons.{refusal-is}
 use mathlib.Core.Bool.{Bool, true, false}
 use mathlib.Core.List.{List}
 use mathlib.Core.Option.{Option, none, some}
@@ -25,11 +28,11 @@ bytes-refusal h = zero_one (cc)
 -- an answer of the code, from what it means
 abbrev again : Answer → Result ℕ Refusal
 again (bytes n) = Ok n
-again (refusal n p) = Err (record { 0 = n; 1 = p })
+again (refusal n p) = Err (refusal_of n p)
 
 back : (a : Result ℕ Refusal) → again (meaning a) ≡ a
 back (Ok n) = refl
-back (Err r) = refl
+back (Err r) = ap Err (sym (refusal-is r refl refl))
 
 -- one answer, and one buffer
 pub writes-unique : (x : Answer) (xs out out₁ out₂ : List ℕ) (a b : Result ℕ Refusal) → Writes x xs out out₁ a → Writes x xs out out₂ b → (a ≡ b) × (out₁ ≡ out₂)

@@ -1,5 +1,6 @@
 -- Leave to write into a lent buffer: the first of the refusals 18 and 17, or the bytes; and what the buffer holds afterwards.
 -- Assumes nothing.
+use Rattle.std.specs.Prelude.{Result, Ok, Err}
 use Rattle.rules.specs.declared.Refusal.{Refusal}
 use Rattle.rules.specs.Reasons.{number_of}
 use Rattle.std.specs.Prelude.{◌≡◌, List, ℕ, leb}

@@ -3,19 +3,18 @@
 
 ghost use Rattle.std.specs.Prelude.{◌≡◌};
 ghost use Rattle.makers.specs.Search.{found};
-ghost use Rattle.permit.specs.Permit.{meaning, barring, within, earlier, permitted};
+ghost use Rattle.permit.specs.Permit.{meaning, barring, within, permitted};
 
-use makers::MakerField;
-use rules::Refusal;
+use rules::{Reason, Refusal};
 
 // 18 where a maker's record was found.
 fn barred(made: Option<usize>, need: usize) -> Result<usize, Refusal>
     ensures { meaning result ≡ barring (found made) need }
 {
-    let None = made else {
-        return Err(makers::of_field(made));
-    };
-    Ok(need)
+    match made {
+        Some(place) => Err(Refusal(Reason::Maker, place)),
+        None => Ok(need),
+    }
 }
 
 // 17 where the room is too small.
@@ -28,21 +27,10 @@ fn short(need: usize, room: usize) -> Result<usize, Refusal>
     Ok(need)
 }
 
-// A refusal goes before what is said later.
-fn first(a: Result<usize, Refusal>, b: Result<usize, Refusal>) -> Result<usize, Refusal>
-    ensures { meaning result ≡ earlier (meaning a) (meaning b) }
-{
-    let Ok(_) = a else {
-        return a;
-    };
-    b
-}
-
 // The bytes that may be written, or the first refusal of 18 and 17.
 pub fn permit(made: Option<usize>, need: usize, room: usize) -> Result<usize, Refusal>
     ensures { meaning result ≡ permitted (found made) need room }
 {
-    let maker = barred(made, need);
-    let space = short(need, room);
-    first(maker, space)
+    barred(made, need)?;
+    short(need, room)
 }

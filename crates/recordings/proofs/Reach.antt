@@ -1,5 +1,6 @@
 -- The recordings of an accepted file, one after the other, up to the one asked for: where each stands, and which 120 and 130 hold for it.
 -- Assumes nothing.
+use Rattle.std.proofs.Common.{Result, Ok, Err, Some, None}
 use Rattle.rules.specs.declared.Refusal.{Refusal}
 use Rattle.std.specs.Prelude as Std
 use mathlib.Core.Path.{◌≡◌, refl, sym, ap, ◌∙◌}

@@ -1,5 +1,6 @@
 -- What the functions say that find the recording asked for.
 -- Assumes nothing.
+use Rattle.std.specs.Prelude.{Result, Ok, Err, Some, None}
 use Rattle.rules.specs.Reasons.{number_of}
 use Rattle.std.specs.Prelude.{◌≡◌, List, ℕ, ◌+◌, ◌-◌, ◌≤◌, length}
 use Rattle.words.specs.Numbers.{Bytes}
@@ -17,10 +18,6 @@ use Rattle.recordings.specs.Answers.{value, refusal, numbered}
 use Rattle.recordings.specs.Recordings.{Chosen, recording_of, start_of, at120, at130}
 use Rattle.recordings.specs.declared.Counts.{Counts}
 
-abbrev pub refusal_recording : Result (Order × Places) Refusal → Refusal
-refusal_recording (Ok (o, q)) = record { 0 = 0; 1 = 0 }
-refusal_recording (Err r) = r
-
 abbrev pub counts_of : Places → Counts
 counts_of q = record { channels = q.count; frames = q.total; seconds = q.seconds }
 
@@ -32,10 +29,8 @@ places_at r = record {
   channels = at120 r;
   count = length r.this.recording.channels;
   patient = at130 r;
-  has_events = r.this.recording.own_events;
-  events = pick r.this.recording.own_events (start_of r + r.this.layout.at200) 0;
-  has_montage = r.this.recording.own_montage;
-  montage = pick r.this.recording.own_montage (start_of r + r.this.layout.at350) 0;
+  events = pick r.this.recording.own_events (Some (start_of r + r.this.layout.at200)) None;
+  montage = pick r.this.recording.own_montage (Some (start_of r + r.this.layout.at350)) None;
   frames = start_of r + r.this.layout.at140;
   frame = r.this.layout.frame;
   total = r.this.recording.basic.frames;

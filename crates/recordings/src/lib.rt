@@ -3,12 +3,11 @@
 
 ghost use Rattle.std.specs.Prelude.{◌≡◌};
 ghost use Rattle.rules.specs.Rules as R;
-ghost use Rattle.recordings.specs.Found.{refusal_recording, counts_of, Walkable, ReachedAs, RecordingFoundAs};
+ghost use Rattle.recordings.specs.Found.{counts_of, Walkable, ReachedAs, RecordingFoundAs};
 
-use descriptions::{Before, Places};
-use judge::Judged;
-use judge::recording::{Recorded, recording_again};
-use rules::{FileHeader, Label, Refusal};
+use descriptions::Places;
+use judge::recording::recording_again;
+use rules::{FileHeader, Label, Reason, Refusal};
 use words::Order;
 
 // M, F and T.
@@ -44,16 +43,11 @@ fn recordings_to(o: Order, label: Label, file: &[u8], n: u32) -> Result<Places, 
     requires { Walkable file.now n }
     ensures { ReachedAs o label file.now n result }
 {
-    let mut step = recording_again(o, label, file, FileHeader::LENGTH, None);
-    let mut i: u32 = 1;
-    while i < n {
-        let Ok(places) = step else {
-            return step;
-        };
-        step = recording_again(o, label, file, places.end, Some(places));
-        i += 1;
+    let mut places = recording_again(o, label, file, FileHeader::LENGTH, None)?;
+    for _i in 1..n {
+        places = recording_again(o, label, file, places.end, Some(places))?;
     }
-    step
+    Ok(places)
 }
 
 // Judges the file, and finds the recording asked for.
@@ -64,9 +58,6 @@ pub fn recording_asked(file: &[u8], recording: usize) -> Result<(Order, Places),
     if !within(recording, h.count) {
         return Err(Refusal(Reason::Range, 0));
     }
-    let order = h.order;
-    let heading = h.heading;
-    let label = heading.label;
-    let q = recordings_to(order, label, file, recording as u32)?;
-    Ok(order, q)
+    let q = recordings_to(h.order, h.heading.label, file, recording as u32)?;
+    Ok((h.order, q))
 }

@@ -8,7 +8,6 @@ ghost use Rattle.rows.specs.Listing.{series_rows, channel_rows, frame_rows, held
 ghost use Rattle.rows.specs.Listing.{Wrote, WroteUpTo, WroteIf, Ahead, SeriesAhead, RecordAhead, BodyAhead, RecordingAhead};
 ghost use Rattle.rows.specs.Listing.{BodyListed, RecordingListed, FileListed};
 
-use children::Direct;
 use records::channels::{is_group, sub_code};
 use rules::{Channel, Channels, Delimiter, FileHeader, Frame, Frames, Head};
 use words::{Order, number4, signed4};
@@ -64,11 +63,9 @@ fn series_rows(
 {
     let mut at = start;
     let mut next = k;
-    let mut i: u32 = 0;
-    while i < count {
+    for i in 0..count {
         next = put(out, next, write, at, step, code, i + 1);
         at += step;
-        i += 1;
     }
     next
 }
@@ -174,8 +171,7 @@ fn body_rows(o: Order, s: &[u8], base: usize, out: &mut [i64], k: usize, write: 
     let mut p: usize = 0;
     let mut next = k;
     loop {
-        let there = children::record_at(o, s, base, p);
-        let Some(h, end) = there else {
+        let Some((h, end)) = children::record_at(o, s, base, p) else {
             if s.len() < p + Delimiter::LENGTH {
                 return next;
             }
@@ -199,8 +195,7 @@ fn recording_rows(o: Order, file: &[u8], p: usize, out: &mut [i64], k: usize, wr
     requires { RecordingAhead file.now p k }
     ensures { RecordingListed o file.now p result.at write out.old out.new k result.k }
 {
-    let there = children::record_at(o, file, 0, p);
-    let Some(h, end) = there else {
+    let Some((h, end)) = children::record_at(o, file, 0, p) else {
         return Ended { at: p, k };
     };
     let first = put(out, k, write, p, end - p, h.code, h.serial);
@@ -216,12 +211,10 @@ pub fn file_rows(o: Order, file: &[u8], count: u32, out: &mut [i64], write: bool
 {
     let mut at = FileHeader::LENGTH;
     let mut k = 0;
-    let mut i: u32 = 0;
-    while i < count {
+    for _i in 0..count {
         let e = recording_rows(o, file, at, out, k, write);
         at = e.at;
         k = e.k;
-        i += 1;
     }
     k
 }

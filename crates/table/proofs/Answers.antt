@@ -1,5 +1,6 @@
 -- The answer of `table` is the one that the rules fix for the file and the buffer; and only one answer and one buffer meet its contract.
 -- Assumes nothing.
+use Rattle.std.proofs.Common.{Result, Ok, Err}
 use Rattle.rules.specs.declared.Refusal.{Refusal}
 use Rattle.rules.specs.declared.Reason.TheVariants as Reason
 use mathlib.Core.Path.{◌≡◌, refl, sym, ap, ◌∙◌}

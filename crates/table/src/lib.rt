@@ -3,8 +3,7 @@
 
 ghost use Rattle.table.specs.Table.{Lists};
 
-use judge::Judged;
-use rules::Refusal;
+use rules::{Reason, Refusal};
 
 // Judges the file, then writes its records' position, length, code and serial into `out`.
 pub fn table(file: &[u8], out: &mut [i64]) -> Result<usize, Refusal>

@@ -1,4 +1,4 @@
--- `makers::first_maker` meets its contract. The loop's invariant: the first of all recordings is the first of those that are left, whose number is the measure.
+-- `makers::first_maker` meets its contract. The loop's invariant: the first of all recordings is the first of those that are left.
 -- Assumes nothing.
 use mathlib.Core.Path.{refl}
 use native.Mathlib.Omega.{arith}
@@ -12,10 +12,10 @@ pub loop-i-init : goal.loop-i-init
 unfolding first_maker
 loop-i-init c = record { few = omega arith; inside = omega arith; clear = λ label ps e g. sofar-start g refl }
 
-pub returns-in_default : goal.returns-in_default
-returns-in_default c =
+pub returns-in-Some : goal.returns-in-Some
+returns-in-Some c =
     let v = c.loop-i.invariant in
-    λ label ps e g. clear-found (v.clear label ps e g) c.loop-i-test.true v.inside _ _ c.in_recording-e.ensures.first c.in_default.is
+    λ label ps e g. rw c.in-Some.is at (clear-found (v.clear label ps e g) c.loop-i-test.true v.inside _ _ c.in_recording-e.ensures.first c.in-Some.is)
 
 pub loop-i-preserved : goal.loop-i-preserved
 loop-i-preserved c =
@@ -23,7 +23,7 @@ loop-i-preserved c =
     record {
       few = search rules;
       inside = c.in_recording-e.ensures.inside;
-      clear = λ label ps e g. clear_next (v.clear label ps e g) c.loop-i-test.true v.inside _ _ c.in_recording-e.ensures.first c.in-Nothing.is;
+      clear = λ label ps e g. clear_next (v.clear label ps e g) c.loop-i-test.true v.inside _ _ c.in_recording-e.ensures.first c.in_default.is;
     }
 
 pub returns : goal.returns

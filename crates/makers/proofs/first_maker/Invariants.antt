@@ -1,4 +1,4 @@
--- `makers::first_maker` meets its contract. The loop's invariant: the first of all recordings is the first of those that are left, whose number is the measure.
+-- `makers::first_maker` meets its contract. The loop's invariant: the first of all recordings is the first of those that are left.
 -- Assumes nothing.
 use mathlib.Core.List.{List}
 use Prim.Native.Nat.{ℕ, ◌-◌, ◌≤◌}
@@ -17,7 +17,4 @@ pub record Going (o : Order) (file : List ℕ) (count p i : ℕ) : Type 0 where
   pub clear : (label : Label) (ps : List Placed) (e : ℕ) → ReadAs o label file count ps e → Sofar o label file count ps p i Clear
 
 abbrev pub invariant-loop-i : goal.invariant-loop-i
-invariant-loop-i l = Going l.o l.file l.count l.p l.i
-
-abbrev pub decreases-loop-i : goal.decreases-loop-i
-decreases-loop-i l = l.count - l.i
+invariant-loop-i l = Going l.o l.file l.count l.p l._i

@@ -1,5 +1,6 @@
 -- `recordings::recordings_to` meets its contract: each answer of `recording_again` is that of the next recording.
 -- Assumes nothing.
+use Rattle.std.proofs.Common.{Some, None}
 use mathlib.Core.Path.{◌≡◌}
 use native.Mathlib.Omega.{arith}
 use Rattle.words.proofs.Words.{bytes}

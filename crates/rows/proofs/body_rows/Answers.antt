@@ -13,28 +13,28 @@ loop-h-init c = record { inside = omega arith; reaches = omega arith; same = ref
 pub returns-then-s-p : goal.returns-then-s-p
 returns-then-s-p c =
     let w = c.loop-h.invariant in
-    let v = unrecorded c.in_default.is c.record_at-there.ensures in
+    let v = unrecorded c.in_default.is c.record_at.ensures in
     record { reaches = omega arith; wrote = λ label held h x e n g. listed-short w.inside (w.listed label held h x e n g) v c.if-s-p.true }
 
 pub returns-in_default : goal.returns-in_default
 returns-in_default c =
     let w = c.loop-h.invariant in
-    let v = unrecorded c.in_default.is c.record_at-there.ensures in
+    let v = unrecorded c.in_default.is c.record_at.ensures in
     let u = c.put.ensures in
     record { reaches = omega (arith, u.next); wrote = λ label held h x e n g. listed-all w.inside (w.listed label held h x e n g) v u }
 
 pub record_rows-next-requires : goal.record_rows-next-requires
 record_rows-next-requires c =
-    let v = recorded c.in-Record.is c.record_at-there.ensures in
+    let v = recorded c.in-Some.is c.record_at.ensures in
     record { starts = omega (arith, v.place, v.least); inside = v.inside; short = search rules; low = omega (arith, v.place) }
 
 pub loop-h-smaller : goal.loop-h-smaller
 loop-h-smaller c =
-    let v = recorded c.in-Record.is c.record_at-there.ensures in
+    let v = recorded c.in-Some.is c.record_at.ensures in
     omega (arith, v.least, v.inside)
 
 pub loop-h-preserved : goal.loop-h-preserved
 loop-h-preserved c =
     let w = c.loop-h.invariant in
-    let v = recorded c.in-Record.is c.record_at-there.ensures in
+    let v = recorded c.in-Some.is c.record_at.ensures in
     record { inside = v.inside; reaches = c.record_rows-next.ensures.reaches; same = search rules; listed = λ label held h x e n g. listed_more w.inside (w.listed label held h x e n g) v c.record_rows-next.ensures.wrote }

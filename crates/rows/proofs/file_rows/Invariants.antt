@@ -22,7 +22,4 @@ pub record Going (o : Order) (file : List ℕ) (count : ℕ) (out₀ : List ℤ)
   pub listed : (label : Label) (ps : List Placed) (e : ℕ) → ReadAs o label file count ps e → Sofar o label file count ps at i (Listed write out₀ out k)
 
 abbrev pub invariant-loop-i : goal.invariant-loop-i
-invariant-loop-i l = Going l.o l.file l.count l.initial.out l.write l.out l.at l.k l.i
-
-abbrev pub decreases-loop-i : goal.decreases-loop-i
-decreases-loop-i l = l.count - l.i
+invariant-loop-i l = Going l.o l.file l.count l.initial.out l.write l.out l.at l.k l._i

@@ -18,6 +18,3 @@ pub record Going (out₀ : List ℤ) (k : ℕ) (write : Bool) (start step code c
 
 abbrev pub invariant-loop-i : goal.invariant-loop-i
 invariant-loop-i l = Going l.initial.out l.k l.write l.start l.step l.code l.count l.out l.at l.next l.i
-
-abbrev pub decreases-loop-i : goal.decreases-loop-i
-decreases-loop-i l = l.count - l.i
