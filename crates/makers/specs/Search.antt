@@ -1,13 +1,11 @@
 -- What the search for the first maker's record says.
 -- Assumes nothing.
 use Rattle.std.specs.Prelude.{Some, None}
-use Rattle.rules.specs.declared.Reason.TheVariants as Reason
 use Rattle.std.specs.Prelude as Std
 use Rattle.std.specs.Prelude.{◌≡◌, List, ℕ, ◌≤◌, length}
 use Rattle.std.proofs.Math.Option.{Option, none, some}
 use Rattle.words.specs.declared.Order.{Order}
 use Rattle.walk.specs.Walk.{Row}
-use Rattle.rules.specs.declared.Refusal.{Refusal}
 use Rattle.children.specs.Recordings.{OfRecording}
 use Rattle.makers.specs.declared.Searched.{Searched}
 use Rattle.makers.specs.Makers.{first_maker}

@@ -18,6 +18,8 @@ use Rattle.walk.proofs.Apart.{zero_one, false-true}
 use Rattle.walk.proofs.Unique.{one}
 use Rattle.rules.specs.Rules as R
 use Rattle.rules.specs.declared.FileHeader.{FileHeader}
+use Rattle.rules.specs.Reasons.{number_of, refusal_of}
+use Rattle.rules.proofs.Reasons.{refusal-is}
 use Rattle.judge.specs.Judged.{AcceptedAs}
 use Rattle.judge.proofs.Accepted.{went, listed}
 use Rattle.children.specs.Recordings.{OfFile}
@@ -30,8 +32,8 @@ pub rows-refusal : {X : Type 0} {n m p : ℕ} → rows n ≡ refusal m p → X
 rows-refusal h = zero_one (cc)
 
 -- a file that is refused
-pub lists-refused : (s : List ℕ) (out : List ℤ) {n p : ℕ} → R.judge s ≡ refused n p → Lists s out out (Err (record { 0 = n; 1 = p }))
-lists-refused s out h = record { answer = rw h; buffer = rw h }
+pub lists-refused : (s : List ℕ) (out : List ℤ) (r : Refusal) → R.judge s ≡ refused (number_of r.0) r.1 → Lists s out out (Err r)
+lists-refused s out r h = record { answer = rw h; buffer = rw h }
 
 -- rows that were counted and found to have no room, and rows that were written
 counted-short : (rs : List Row) (room : ℕ) → room < 4 * length rs → refusal 17 (4 * length rs) ≡ counted rs room
@@ -83,11 +85,11 @@ module _ (s : List ℕ) (h : FileHeader) (x : AcceptedAs s h) where
 -- an answer of the code, from what it means
 abbrev again : Answer → Result ℕ Refusal
 again (rows n) = Ok n
-again (refusal n p) = Err (record { 0 = n; 1 = p })
+again (refusal n p) = Err (refusal_of n p)
 
 back : (a : Result ℕ Refusal) → again (meaning a) ≡ a
 back (Ok n) = refl
-back (Err r) = refl
+back (Err r) = ap Err (sym (refusal-is r refl refl))
 
 -- one answer and one buffer for every file and every buffer
 pub table-unique : (s : List ℕ) (out out₁ out₂ : List ℤ) (a b : Result ℕ Refusal) → Lists s out out₁ a → Lists s out out₂ b → (a ≡ b) × (out₁ ≡ out₂)

@@ -1,7 +1,7 @@
 -- `makers::first_maker` meets its contract. The loop's invariant: the first of all recordings is the first of those that are left.
 -- Assumes nothing.
 use mathlib.Core.List.{List}
-use Prim.Native.Nat.{ℕ, ◌-◌, ◌≤◌}
+use Prim.Native.Nat.{ℕ, ◌≤◌}
 use lib.ListN.{length}
 use Rattle.words.specs.declared.Order.{Order}
 use Rattle.rules.specs.Rules.{Placed}

@@ -12,8 +12,7 @@ use Rattle.recordings.proofs.recording_asked.Goals as goal
 pub returns-in_err-h : goal.returns-in_err-h
 returns-in_err-h c =
     rw (handed _ c.from_residual.ensures)
-    (let e = c.in_err-h.was in
-    rw (e) (asked-refused c.args.file.now c.args.recording (rw e at c.judge.ensures)))
+    (asked-refused c.args.file.now c.args.recording c.in_err-h.ensures)
 
 pub returns-then-not-within : goal.returns-then-not-within
 returns-then-not-within c =

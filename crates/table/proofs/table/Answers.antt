@@ -8,7 +8,7 @@ use Rattle.table.proofs.table.Goals as goal
 
 pub returns-in_err-h : goal.returns-in_err-h
 returns-in_err-h c =
-    rw (handed _ c.from_residual.ensures) (lists-refused c.args.file.now c.args.out.now (c.in_err-h.ensures))
+    rw (handed _ c.from_residual.ensures) (lists-refused c.args.file.now c.args.out.now _ c.in_err-h.ensures)
 
 pub file_rows-need-requires : goal.file_rows-need-requires
 file_rows-need-requires c =
