@@ -1,5 +1,6 @@
 -- The frame asked for: in an accepted file it stands where the code looks for it, and its walk gives there what the reading holds.
 -- Assumes nothing.
+use Rattle.std.proofs.Common.{Ok}
 use mathlib.Core.Path.{◌≡◌, refl, ap}
 use mathlib.Core.Bool.{true, false}
 use mathlib.Core.List.{List, [], ◌∷◌}
@@ -24,7 +25,6 @@ use Rattle.recordings.proofs.Chosen.{numbered-in, numbered-out, numbered-one, On
 use Rattle.recordings.proofs.Standing.{found-seen, found-ends}
 use Rattle.samples.specs.Asked.{FrameFoundAs}
 use Rattle.samples.specs.Frames.{ChosenFrame, frame_of}
-use Rattle.samples.specs.declared.FrameFound.TheVariants as FrameFound
 
 -- a number inside its range has its element
 pub numbered-some : {A : Type 0} (l : List A) (n : ℕ) → R.between 1 (length l) n ≡ true → (a : A) × (numbered l n ≡ value a)
@@ -90,7 +90,7 @@ module _ {s : List ℕ} {i : ℕ} {o : Order} {q : Places} {r : Chosen} (h : Fou
   pub frame-outside : R.between 1 q.total j ≡ false → frame_of s i j ≡ refusal 19 0
   frame-outside t = rw (h.is, numbered-out r.this.recording.frames j (rw h.frames at t))
 
-  pub frame-found-at : R.between 1 q.total j ≡ true → FrameFoundAs s i j (FrameFound.At o q (q.frames + 32 + q.frame * (j - 1)))
+  pub frame-found-at : R.between 1 q.total j ≡ true → FrameFoundAs s i j (Ok (o, q, (q.frames + 32 + q.frame * (j - 1))))
   frame-found-at t =
       let y = numbered-some r.this.recording.frames j (rw h.frames at t) in
       let n = numbered-one r.this.recording.frames j y.1 in

@@ -1,5 +1,6 @@
 -- The samples asked for: in an accepted file they stand where the code looks for them, and each is what the bytes at its place mean.
 -- Assumes nothing.
+use Rattle.std.proofs.Common.{Ok}
 use mathlib.Core.Path.{◌≡◌, refl, sym, ap, ◌∙◌}
 use mathlib.Core.Bool.{true, false}
 use mathlib.Core.List.{List, [], map}
@@ -25,7 +26,6 @@ use Rattle.recordings.proofs.Standing.{found-seen}
 use Rattle.samples.specs.Asked.{FrameStands, RunInside, RunAt, RunIn, SamplesFoundAs, run_of}
 use Rattle.samples.specs.Frames.{ChosenFrame, frame_of, Samples, samples_of}
 use Rattle.samples.specs.Placed.{place_in}
-use Rattle.samples.specs.declared.SamplesFound.TheVariants as SamplesFound
 use Rattle.samples.specs.declared.Run.{Run}
 use Rattle.samples.proofs.Stretch.{run_inside}
 use Rattle.samples.proofs.Readings.{all_one, Reads, reads-numbered}
@@ -158,7 +158,7 @@ module _ {s : List ℕ} {i j : ℕ} {o : Order} {q : Places} {at : ℕ} {f : Cho
               ((samples-in s h.found.bytes i j f h.is k y is).each m (omega (arith, v, ap (λ (x : Run). x.place.count) e)));
         }
 
-  pub samples-found-at : R.between 1 q.count k ≡ true → (run : Run) → RunAt o s (q.channels + 32) (k - 1) q.seconds at run → SamplesFoundAs s i j k (SamplesFound.At o q run)
+  pub samples-found-at : R.between 1 q.count k ≡ true → (run : Run) → RunAt o s (q.channels + 32) (k - 1) q.seconds at run → SamplesFoundAs s i j k (Ok (o, q, run))
   samples-found-at t run g =
       let cs : List R.Channel = f.of.this.recording.channels in
       let y = numbered-some cs k (rw h.found.owned.stand.count t) in

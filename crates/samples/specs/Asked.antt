@@ -1,5 +1,7 @@
 -- What the functions say that find the frame and the samples asked for.
 -- Assumes nothing.
+use Rattle.std.specs.Prelude.{Result, Ok, Err}
+use Rattle.rules.specs.Reasons.{number_of}
 use Rattle.std.specs.Prelude.{◌≡◌, List, ℕ, ◌+◌, ◌*◌, ◌≤◌, ◌<◌, length, take}
 use Rattle.words.specs.Numbers.{number_at}
 use Rattle.words.specs.declared.Order.{Order}
@@ -14,19 +16,9 @@ use Rattle.recordings.specs.Answers.{value, refusal, indexed}
 use Rattle.recordings.specs.Found.{FoundIn}
 use Rattle.samples.specs.Frames.{ChosenFrame, frame_of, time_of, format_of, Samples, samples_of}
 use Rattle.samples.specs.Placed.{place_in}
-use Rattle.samples.specs.declared.FrameFound.{FrameFound}
-use Rattle.samples.specs.declared.SamplesFound.{SamplesFound}
 use Rattle.samples.specs.declared.Run.{Run}
 use Rattle.samples.specs.declared.Time.{Time}
 use Rattle.samples.specs.declared.Track.{Track}
-
-abbrev pub refusal_frame : FrameFound → Refusal
-refusal_frame (FrameFound.At o q at) = record { 0 = 0; 1 = 0 }
-refusal_frame (FrameFound.Refused r) = r
-
-abbrev pub refusal_samples : SamplesFound → Refusal
-refusal_samples (SamplesFound.At o q run) = record { 0 = 0; 1 = 0 }
-refusal_samples (SamplesFound.Refused r) = r
 
 -- A frame: it stands at `at`, where the walk of a frame gives it
 
@@ -45,9 +37,9 @@ pub record FrameStands (s : List ℕ) (i j : ℕ) (o : Order) (q : Places) (at :
   -- what the walk gives there
   pub seen : Goes (see o 0 s at (R.frame label q.frame q.seconds f.of.this.recording.channels room j)) (λ x e. x ≡ f.frame)
 
-abbrev pub FrameFoundAs : List ℕ → ℕ → ℕ → FrameFound → Type 0
-FrameFoundAs s i j (FrameFound.At o q at) = (f : ChosenFrame) × FrameStands s i j o q at f
-FrameFoundAs s i j (FrameFound.Refused r) = frame_of s i j ≡ refusal r.0 r.1
+abbrev pub FrameFoundAs : List ℕ → ℕ → ℕ → Result (Order × Places × ℕ) Refusal → Type 0
+FrameFoundAs s i j (Ok (o, q, at)) = (f : ChosenFrame) × FrameStands s i j o q at f
+FrameFoundAs s i j (Err r) = frame_of s i j ≡ refusal (number_of r.0) r.1
 
 -- the time r is the clock of the frame that a walk gives at `at`
 abbrev pub ClockAt : Order → List ℕ → ℕ → Time → Type 0
@@ -109,6 +101,6 @@ pub record RunIn (s : List ℕ) (i j k : ℕ) (o : Order) (q : Places) (run : Ru
       indexed x.values n ≡
       value (value_of run.format (R.width run.format) (number_at o (R.width run.format) s (run.place.position + R.width run.format * n)))
 
-abbrev pub SamplesFoundAs : List ℕ → ℕ → ℕ → ℕ → SamplesFound → Type 0
-SamplesFoundAs s i j k (SamplesFound.At o q run) = (x : Samples) × RunIn s i j k o q run x
-SamplesFoundAs s i j k (SamplesFound.Refused r) = samples_of s i j k ≡ refusal r.0 r.1
+abbrev pub SamplesFoundAs : List ℕ → ℕ → ℕ → ℕ → Result (Order × Places × Run) Refusal → Type 0
+SamplesFoundAs s i j k (Ok (o, q, run)) = (x : Samples) × RunIn s i j k o q run x
+SamplesFoundAs s i j k (Err r) = samples_of s i j k ≡ refusal (number_of r.0) r.1

@@ -7,11 +7,10 @@ ghost use Rattle.rules.specs.Rules as R;
 ghost use Rattle.rules.specs.Reading.{value_of};
 ghost use Rattle.samples.specs.Frames.{float_in, number_in};
 ghost use Rattle.samples.specs.Placed.{part_in, PartAnswer};
-ghost use Rattle.samples.specs.Asked.{refusal_frame, refusal_samples, FrameFoundAs, SamplesFoundAs, track_at, ClockAt, Reachable, RunAt};
+ghost use Rattle.samples.specs.Asked.{FrameFoundAs, SamplesFoundAs, track_at, ClockAt, Reachable, RunAt};
 
 use descriptions::Places;
-use recordings::RecordingFound;
-use rules::{Channel, Channels, Frame, Frames, Refusal};
+use rules::{Channel, Channels, Frame, Frames, Reason, Refusal};
 use words::{Order, int2, int3, int4, is_nan, number2, number4};
 
 #[derive(Clone, Copy)]
@@ -21,24 +20,12 @@ pub struct Time {
     pub second: u32,
 }
 
-#[derive(Clone, Copy)]
-pub enum ClockTold {
-    At(Time),
-    Refused(Refusal),
-}
-
 // Where samples stand in a file: the first byte, the bytes of one, and how many there are.
 #[derive(Clone, Copy)]
 pub struct Place {
     pub position: usize,
     pub width: usize,
     pub count: usize,
-}
-
-#[derive(Clone, Copy)]
-pub enum PlaceTold {
-    At(Place),
-    Refused(Refusal),
 }
 
 // Where a channel's samples stand in every frame of a recording: by the file's byte order and the channel's format, the place in the first frame, the bytes
@@ -51,12 +38,6 @@ pub struct Track {
     pub step: usize,
     pub frames: u32,
     pub seconds: u32,
-}
-
-#[derive(Clone, Copy)]
-pub enum TrackTold {
-    At(Track),
-    Refused(Refusal),
 }
 
 // A part of a file: its first byte, and its length.
@@ -74,49 +55,11 @@ pub enum Number {
     Pattern(u32),
 }
 
-#[derive(Clone, Copy)]
-pub enum SampleTold {
-    Value(Number),
-    Refused(Refusal),
-}
-
-// The file's byte order, where the recording stands, and where its frame stands; or the refusal.
-#[derive(Clone, Copy)]
-pub enum FrameFound {
-    At(Order, Places, usize),
-    Refused(Refusal),
-}
-
 // The samples of a channel in a frame: their format, and their place.
 #[derive(Clone, Copy)]
 pub struct Run {
     pub format: u32,
     pub place: Place,
-}
-
-// The file's byte order, where the recording stands, and the samples asked for; or the refusal.
-#[derive(Clone, Copy)]
-pub enum SamplesFound {
-    At(Order, Places, Run),
-    Refused(Refusal),
-}
-
-pub fn of_frame_found(a: FrameFound) -> Refusal
-    ensures { result ≡ refusal_frame a }
-{
-    match a {
-        FrameFound::At(_, _, _) => Refusal(0, 0),
-        FrameFound::Refused(r) => r,
-    }
-}
-
-pub fn of_samples_found(a: SamplesFound) -> Refusal
-    ensures { result ≡ refusal_samples a }
-{
-    match a {
-        SamplesFound::At(_, _, _) => Refusal(0, 0),
-        SamplesFound::Refused(r) => r,
-    }
 }
 
 // Whether n of something behind `before` of it are at most `room`, whatever the numbers are.
@@ -170,19 +113,20 @@ pub fn part(file: &[u8], place: Place) -> &[u8]
 }
 
 // The frame asked for.
-pub fn frame_asked(file: &[u8], recording: usize, frame: usize) -> FrameFound
+pub fn frame_asked(
+    file: &[u8],
+    recording: usize,
+    frame: usize,
+) -> Result<(Order, Places, usize), Refusal>
     ensures { FrameFoundAs file.now recording frame result }
 {
-    let found = recordings::recording_asked(file, recording);
-    let RecordingFound::At(order, q) = found else {
-        return FrameFound::Refused(recordings::of_recording_found(found));
-    };
+    let (order, q) = recordings::recording_asked(file, recording)?;
     if !recordings::within(frame, q.total) {
-        return FrameFound::Refused(Refusal(19, 0));
+        return Err(Refusal(Reason::Range, 0));
     }
     let before = records::less(frame, 1);
     let at = q.frames + Frames::FIRST + q.frame * before;
-    FrameFound::At(order, q, at)
+    Ok((order, q, at))
 }
 
 // The clock of the record 145 at byte `at` of s.
@@ -230,19 +174,21 @@ fn run_at(o: Order, s: &[u8], subs: usize, c: u32, t: u32, at: usize) -> Run
 }
 
 // The samples asked for.
-pub fn samples_asked(file: &[u8], recording: usize, frame: usize, channel: usize) -> SamplesFound
+pub fn samples_asked(
+    file: &[u8],
+    recording: usize,
+    frame: usize,
+    channel: usize,
+) -> Result<(Order, Places, Run), Refusal>
     ensures { SamplesFoundAs file.now recording frame channel result }
 {
-    let framed = frame_asked(file, recording, frame);
-    let FrameFound::At(order, q, at) = framed else {
-        return SamplesFound::Refused(of_frame_found(framed));
-    };
+    let (order, q, at) = frame_asked(file, recording, frame)?;
     if !recordings::within(channel, q.count) {
-        return SamplesFound::Refused(Refusal(19, 0));
+        return Err(Refusal(Reason::Range, 0));
     }
     let subs = q.channels + Channels::SUBS;
     let c = (channel - 1) as u32;
-    SamplesFound::At(order, q, run_at(order, file, subs, c, q.seconds, at))
+    Ok((order, q, run_at(order, file, subs, c, q.seconds, at)))
 }
 
 // The track of a channel, by its samples in the first frame.

@@ -1,5 +1,7 @@
 -- `samples::frame_asked` meets its contract: from the recording found, by the laws of Framing.
 -- Assumes nothing.
+use Rattle.std.proofs.Common.{Ok}
+use Rattle.rules.proofs.Handed.{handed}
 use mathlib.Core.Path.{◌≡◌, sym, ◌∙◌}
 use mathlib.Core.Bool.{true}
 use Prim.Native.Nat.{◌+◌, ◌-◌, ◌*◌, ◌≤◌}
@@ -7,20 +9,18 @@ use native.Mathlib.Nat.{mul-le-mul_left}
 use native.Mathlib.Omega.{arith}
 use Rattle.rules.specs.Rules as R
 use Rattle.samples.specs.Asked.{FrameFoundAs}
-use Rattle.samples.specs.declared.FrameFound.TheVariants as FrameFound
 use Rattle.recordings.specs.Found.{RecordingFoundAs}
-use Rattle.recordings.specs.declared.RecordingFound.TheVariants as RecordingFound
 use Rattle.samples.proofs.Framing.{frame_refused, frame-outside, frame-found-at}
 use Rattle.samples.proofs.frame_asked.Goals as goal
 use Rattle.samples.proofs.frame_asked.Goals.{After-less-before, After-within}
 
 -- the recording found
-known : (x : After-within) → RecordingFoundAs x.args.file.now x.args.recording (RecordingFound.At x.in-At.order x.in-At.q)
-known x = rw x.in-At.is at x.recording_asked-found.ensures
+known : (x : After-within) → RecordingFoundAs x.args.file.now x.args.recording (Ok (x.in_ok-order.order, x.in_ok-order.q))
+known x = x.in_ok-order.ensures
 
 -- its number is inside its range
 ranged : (c : After-less-before) →
-    R.between 1 c.in-At.q.total c.args.frame ≡ true
+    R.between 1 c.in_ok-order.q.total c.args.frame ≡ true
 ranged c = sym c.within.ensures ∙ c.if-not-within.false
 
 -- the frame, where the code looks for it
@@ -28,21 +28,21 @@ framed : (c : After-less-before) →
     let x = c in
     let z = x in
     FrameFoundAs z.args.file.now z.args.recording z.args.frame
-    (FrameFound.At x.in-At.order x.in-At.q (x.in-At.q.frames + 32 + x.in-At.q.frame * (z.args.frame - 1)))
+    (Ok (x.in_ok-order.order, x.in_ok-order.q, (x.in_ok-order.q.frames + 32 + x.in_ok-order.q.frame * (z.args.frame - 1))))
 framed c =
     let y = known (goal.at.After-less-before c).After-within in
     frame-found-at y.1 _ (ranged c)
 
 -- the frames that the code passes are no more than those before it
 passed : (c : goal.After-struct_known-2-1) →
-    let q = c.in-At.q in
+    let q = c.in_ok-order.q in
     q.frame * c.less-before.result ≤ q.frame * (c.args.frame - 1)
 passed c = mul-le-mul_left _ (omega (arith, c.less-before.ensures))
 
-pub returns-in_default : goal.returns-in_default
-returns-in_default c =
-    let e = c.in_default.is in
-    rw (c.of_recording_found.ensures, e) (frame_refused _ _ _ (rw e at c.recording_asked-found.ensures))
+pub returns-in_err-order : goal.returns-in_err-order
+returns-in_err-order c =
+    rw (handed _ c.from_residual.ensures)
+    (frame_refused _ _ _ c.in_err-order.ensures)
 
 pub returns-then-not-within : goal.returns-then-not-within
 returns-then-not-within c =

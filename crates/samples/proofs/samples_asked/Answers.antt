@@ -1,5 +1,7 @@
 -- `samples::samples_asked` meets its contract: from the frame found, by the laws of Sampling.
 -- Assumes nothing.
+use Rattle.std.proofs.Common.{Ok}
+use Rattle.rules.proofs.Handed.{handed}
 use mathlib.Core.Path.{◌≡◌, sym, ◌∙◌}
 use mathlib.Core.Bool.{true}
 use Prim.Native.Nat.{◌≤◌}
@@ -9,35 +11,34 @@ use Rattle.rules.specs.Rules as R
 use Rattle.records.proofs.Facts.{between_in}
 use Rattle.records.specs.Says.{subs_at, ChannelsIn}
 use Rattle.samples.specs.Asked.{FrameFoundAs}
-use Rattle.samples.specs.declared.FrameFound.TheVariants as FrameFound
 use Rattle.samples.proofs.Sampling.{samples-refused, samples-outside, samples-found-at}
 use Rattle.samples.proofs.samples_asked.Goals as goal
 use Rattle.samples.proofs.samples_asked.Goals.{After-struct_known-1, After-within, Else-not-within}
 
 -- the frame found
 known : (x : After-within) →
-    FrameFoundAs x.args.file.now x.args.recording x.args.frame (FrameFound.At x.in-At.order x.in-At.q x.in-At.at)
-known x = rw x.in-At.is at x.frame_asked-framed.ensures
+    FrameFoundAs x.args.file.now x.args.recording x.args.frame (Ok (x.in_ok-order.order, x.in_ok-order.q, x.in_ok-order.at))
+known x = x.in_ok-order.ensures
 
 -- the channel's number is inside its range
 ranged : (c : Else-not-within) →
-    R.between 1 c.in-At.q.count c.args.channel ≡ true
+    R.between 1 c.in_ok-order.q.count c.args.channel ≡ true
 ranged c = sym c.within.ensures ∙ c.if-not-within.false
 
 -- the channels have room in the file, and the one asked for is among them
 roomy : (c : After-struct_known-1) →
     let x = c in
     let z = x in
-    ChannelsIn (length z.args.file.now) (subs_at x.in-At.q.channels x.in-At.q.count) × (1 ≤ z.args.channel) × (z.args.channel ≤ x.in-At.q.count)
+    ChannelsIn (length z.args.file.now) (subs_at x.in_ok-order.q.channels x.in_ok-order.q.count) × (1 ≤ z.args.channel) × (z.args.channel ≤ x.in_ok-order.q.count)
 roomy c =
     let y = known (goal.at.After-struct_known-1 c).After-within in
     let l = between_in _ _ _ (ranged (goal.at.After-struct_known-1 c).Else-not-within) in
     (y.1.found.owned.room, l.0, l.1)
 
-pub returns-in_default : goal.returns-in_default
-returns-in_default c =
-    let e = c.in_default.is in
-    rw (c.of_frame_found.ensures, e) (samples-refused _ _ _ _ (rw e at c.frame_asked-framed.ensures))
+pub returns-in_err-order : goal.returns-in_err-order
+returns-in_err-order c =
+    rw (handed _ c.from_residual.ensures)
+    (samples-refused _ _ _ _ c.in_err-order.ensures)
 
 pub returns-then-not-within : goal.returns-then-not-within
 returns-then-not-within c =
