@@ -10,7 +10,7 @@ use lib.Dec.{T, ltb}
 use lib.IntN.{ℤ, pos, negsuc}
 use lib.Signed.{lt_z}
 use mir.Facts.{to_z-of_z, sfits_widen}
-use mir.Syntax.{Width, w32, w64}
+use mir.Syntax.{w32, w64}
 use mir.Val.{SFits, to_z, of_z}
 use Rattle.walk.specs.Walk.{pick}
 use Rattle.overview.specs.Overview.{lower, higher, foremost}
@@ -87,18 +87,6 @@ widened-append x xs ys = λ n. record { smallest = foremost-append lower x.small
 pub widened-both : (x : Extremes) (z : ℤ) (zs : List ℤ) → both_of x (extremes_of (z ∷ zs)) ≡ widened x (z ∷ zs)
 widened-both x z zs = λ n. record { smallest = foremost-both lt_z smaller x.smallest z zs n; largest = foremost-both (λ a b. lt_z b a) larger x.largest z zs n }
 
--- what the code's test of two numbers says of them
-pub tested : {w : Width} {a b : ℤ} → SFits w a → SFits w b → {x : Bool} → lt_z (to_z w (of_z w a)) (to_z w (of_z w b)) ≡ x → lt_z a b ≡ x
-tested h k e = rw (to_z-of_z h, to_z-of_z k) at e
-
 -- a number of 32 bits is the same in 64
 pub recast : {z : ℤ} → SFits w32 z → to_z w64 (of_z w64 (to_z w32 (of_z w32 z))) ≡ z
 recast h = ap (λ (x : ℤ). to_z w64 (of_z w64 x)) (to_z-of_z h) ∙ to_z-of_z {w = w64} (sfits_widen (tt {0}) h)
-
--- it fits where it stands
-pub refits : (w : Width) (z : ℤ) → SFits w z → SFits w (to_z w (of_z w z))
-refits w z h = rw (to_z-of_z h) h
-
--- what a call made of x and n, kept in so many bits, where n is v
-pub kept_in : (w : Width) (f : ℤ → ℤ → ℤ) (x : ℤ) {r n v : ℤ} → SFits w r → r ≡ f x n → n ≡ v → to_z w (of_z w r) ≡ f x v
-kept_in w f x h e d = to_z-of_z h ∙ (e ∙ ap (f x) d)

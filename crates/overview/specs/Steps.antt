@@ -16,6 +16,7 @@ use Rattle.decode.specs.Wide.{Wide}
 use Rattle.overview.specs.Overview.{lower, higher, foremost, envelope_of, within, range_of}
 use Rattle.overview.specs.declared.Envelope.{Envelope}
 use Rattle.overview.specs.declared.extremes.Extremes.{Extremes}
+use Rattle.overview.specs.declared.extremes.Bounds.{Bounds}
 
 abbrev pub refusal_track : TrackTold → Refusal
 refusal_track (TrackTold.At t) = record { 0 = 0; 1 = 0 }
@@ -44,6 +45,10 @@ extremes_of (z ∷ zs) = widened (record { smallest = z; largest = z }) zs
 
 abbrev pub both_of : Extremes → Extremes → Extremes
 both_of x y = record { smallest = lower x.smallest y.smallest; largest = higher x.largest y.largest }
+
+-- those that a loop keeps, by what each number means
+abbrev pub meant_by : {A : Type 0} → (A → ℤ) → Bounds A → Extremes
+meant_by means x = record { smallest = means x.smallest; largest = means x.largest }
 
 -- r is that of the numbers of w bytes that s is
 abbrev pub ExtremesAre : Order → ℕ → List ℕ → Extremes → Type 0

@@ -1,10 +1,12 @@
-// The smallest and the largest of the whole numbers in a part of a file. The order is told as a bool and the width as a number, so that each call that tells
-// them as constants is made a loop of its own by the compiler, and a wide one: numbers of 16 bits are kept in 16 bits. Two parts as long as each other are gone
-// through side by side, since memory brings both in the time of one.
-ghost use Rattle.std.specs.Prelude.{◌≡◌};
-ghost use Rattle.decode.specs.Wide.{order_for};
+// The smallest and the largest of the whole numbers in a part of a file. The width and the order are const parameters, so that each pair of them has a loop of
+// its own, and a wide one: numbers of two bytes are kept in 16 bits. Two parts as long as each other are gone through side by side, since memory brings both in
+// the time of one.
+ghost use Rattle.std.specs.Prelude.{◌≡◌, ◌*◌, [], ◌∷◌, ℤ};
+ghost use Rattle.words.specs.Numbers.{number_at};
+ghost use Rattle.words.specs.Values.{signed};
+ghost use Rattle.decode.specs.Wide.{order_for, NumberAt};
 ghost use Rattle.overview.specs.Overview.{lower, higher};
-ghost use Rattle.overview.specs.Steps.{NumbersOf, ExtremesAre, PairOf, PairAre, both_of};
+ghost use Rattle.overview.specs.Steps.{NumbersOf, ExtremesAre, PairOf, PairAre, both_of, widened, extremes_of, meant_by};
 
 use decode::{long_at, short_at};
 use words::Order;
@@ -16,82 +18,138 @@ pub struct Extremes {
     pub largest: i32,
 }
 
-// Of two numbers of 16 bits, the smaller and the larger.
-fn lower_short(a: i16, b: i16) -> i16
-    ensures { result ≡ lower a b }
-{
-    if b < a { b } else { a }
+// A number as a loop keeps it.
+trait Kept: Copy {
+    ghost means: { Self → ℤ };
+
+    fn lower(self, other: Self) -> Self
+        ensures { means result ≡ lower (means self) (means other) };
+
+    fn higher(self, other: Self) -> Self
+        ensures { means result ≡ higher (means self) (means other) };
+
+    fn long(self) -> i32
+        ensures { result ≡ means self };
 }
 
-fn higher_short(a: i16, b: i16) -> i16
-    ensures { result ≡ higher a b }
-{
-    if a < b { b } else { a }
-}
+impl Kept for i16 {
+    ghost means = { λ z. z };
 
-// Of 32 bits.
-fn lower_long(a: i32, b: i32) -> i32
-    ensures { result ≡ lower a b }
-{
-    if b < a { b } else { a }
-}
-
-fn higher_long(a: i32, b: i32) -> i32
-    ensures { result ≡ higher a b }
-{
-    if a < b { b } else { a }
-}
-
-// Of numbers of two bytes, one or more.
-fn of_shorts(big: bool, s: &[u8]) -> Extremes
-    requires { NumbersOf 2 s.now }
-    ensures { ExtremesAre (order_for big) 2 s.now result }
-{
-    let mut smallest = short_at(big, s, 0);
-    let mut largest = smallest;
-    let mut at = 2;
-    while at < s.len() {
-        let n = short_at(big, s, at);
-        smallest = lower_short(smallest, n);
-        largest = higher_short(largest, n);
-        at += 2;
+    fn lower(self, other: i16) -> i16 {
+        self.min(other)
     }
-    Extremes {
-        smallest: smallest as i32,
-        largest: largest as i32,
+
+    fn higher(self, other: i16) -> i16 {
+        self.max(other)
+    }
+
+    fn long(self) -> i32 {
+        i32::from(self)
     }
 }
 
-// The same of two, three or four bytes.
-fn of_longs(big: bool, width: usize, s: &[u8]) -> Extremes
+impl Kept for i32 {
+    ghost means = { λ z. z };
+
+    fn lower(self, other: i32) -> i32 {
+        self.min(other)
+    }
+
+    fn higher(self, other: i32) -> i32 {
+        self.max(other)
+    }
+
+    fn long(self) -> i32 {
+        self
+    }
+}
+
+// One that is read from W bytes.
+trait Number<const W: usize>: Kept {
+    fn read(big: bool, s: &[u8], at: usize) -> Self
+        requires { NumberAt W s.now at }
+        ensures { Self.means result ≡ signed W (number_at (order_for big) W s.now at) };
+}
+
+impl Number<2> for i16 {
+    fn read(big: bool, s: &[u8], at: usize) -> i16 {
+        short_at(big, s, at)
+    }
+}
+
+impl<const W: usize> Number<W> for i32 {
+    fn read(big: bool, s: &[u8], at: usize) -> i32 {
+        long_at(big, W, s, at)
+    }
+}
+
+// The smallest and the largest of the numbers read so far.
+#[derive(Clone, Copy)]
+struct Bounds<T> {
+    smallest: T,
+    largest: T,
+}
+
+#[tactic(auto, unfolding(crate::specs::Overview::foremost))]
+impl<T: Kept> Bounds<T> {
+    fn of(n: T) -> Bounds<T>
+        ensures { meant_by T.means result ≡ extremes_of (T.means n ∷ []) }
+    {
+        Bounds {
+            smallest: n,
+            largest: n,
+        }
+    }
+
+    fn and(self, n: T) -> Bounds<T>
+        ensures { meant_by T.means result ≡ widened (meant_by T.means self) (T.means n ∷ []) }
+    {
+        Bounds {
+            smallest: self.smallest.lower(n),
+            largest: self.largest.higher(n),
+        }
+    }
+
+    fn long(self) -> Extremes
+        ensures { result ≡ meant_by T.means self }
+    {
+        Extremes {
+            smallest: self.smallest.long(),
+            largest: self.largest.long(),
+        }
+    }
+}
+
+// The number behind i others, in a function that knows its order and uses it once: there the compiler makes one load of its bytes.
+fn nth<const W: usize, T: Number<W>, const BIG: bool>(s: &[u8], i: usize) -> T
+    requires { NumberAt W s.now (i * W) }
+    ensures { T.means result ≡ signed W (number_at (order_for BIG) W s.now (i * W)) }
+{
+    T::read(BIG, s, i * W)
+}
+
+// Of numbers of W bytes, one or more.
+fn of_numbers<const W: usize, T: Number<W>, const BIG: bool>(s: &[u8]) -> Extremes
+    requires { NumbersOf W s.now }
+    ensures { ExtremesAre (order_for BIG) W s.now result }
+{
+    let mut x = Bounds::of(nth::<W, T, BIG>(s, 0));
+    for i in 1..s.len() / W {
+        x = x.and(nth::<W, T, BIG>(s, i));
+    }
+    x.long()
+}
+
+// By the width.
+fn of_width<const BIG: bool>(width: usize, s: &[u8]) -> Extremes
     requires { NumbersOf width s.now }
-    ensures { ExtremesAre (order_for big) width s.now result }
+    ensures { ExtremesAre (order_for BIG) width s.now result }
 {
-    let first = long_at(big, width, s, 0);
-    let mut smallest = first;
-    let mut largest = first;
-    let mut at = width;
-    while at < s.len() {
-        let n = long_at(big, width, s, at);
-        smallest = lower_long(smallest, n);
-        largest = higher_long(largest, n);
-        at += width;
+    match width {
+        2 => of_numbers::<2, i16, BIG>(s),
+        3 => of_numbers::<3, i32, BIG>(s),
+        _ => of_numbers::<4, i32, BIG>(s),
     }
-    Extremes { smallest, largest }
-}
-
-// By the width, which the compiler knows in each call.
-fn of_width(big: bool, width: usize, s: &[u8]) -> Extremes
-    requires { NumbersOf width s.now }
-    ensures { ExtremesAre (order_for big) width s.now result }
-{
-    if width == 2 {
-        return of_shorts(big, s);
-    }
-    if width == 3 {
-        return of_longs(big, 3, s);
-    }
-    of_longs(big, 4, s)
 }
 
 // Of the numbers of this width in a part of a file.
@@ -100,8 +158,8 @@ pub fn of_part(o: Order, width: usize, s: &[u8]) -> Extremes
     ensures { ExtremesAre o width s.now result }
 {
     match o {
-        Order::Little => of_width(false, width, s),
-        Order::Big => of_width(true, width, s),
+        Order::Little => of_width::<false>(width, s),
+        Order::Big => of_width::<true>(width, s),
     }
 }
 
@@ -110,84 +168,35 @@ pub fn of_both(x: Extremes, y: Extremes) -> Extremes
     ensures { result ≡ both_of x y }
 {
     Extremes {
-        smallest: lower_long(x.smallest, y.smallest),
-        largest: higher_long(x.largest, y.largest),
+        smallest: x.smallest.min(y.smallest),
+        largest: x.largest.max(y.largest),
     }
 }
 
-// Of two parts, numbers of two bytes.
-fn pair_of_shorts(big: bool, s: &[u8], t: &[u8]) -> Extremes
-    requires { PairOf 2 s.now t.now }
-    ensures { PairAre (order_for big) 2 s.now t.now result }
+// Of two parts of numbers of W bytes, which one after the other take 1.3 times as long in frames of a second.
+fn pair_of_numbers<const W: usize, T: Number<W>, const BIG: bool>(s: &[u8], t: &[u8]) -> Extremes
+    requires { PairOf W s.now t.now }
+    ensures { PairAre (order_for BIG) W s.now t.now result }
 {
-    let one = short_at(big, s, 0);
-    let other = short_at(big, t, 0);
-    let mut smallest = one;
-    let mut largest = one;
-    let mut lowest = other;
-    let mut highest = other;
-    let mut at = 2;
-    while at < s.len() {
-        let n = short_at(big, s, at);
-        let m = short_at(big, t, at);
-        smallest = lower_short(smallest, n);
-        largest = higher_short(largest, n);
-        lowest = lower_short(lowest, m);
-        highest = higher_short(highest, m);
-        at += 2;
+    let mut x = Bounds::of(nth::<W, T, BIG>(s, 0));
+    let mut y = Bounds::of(nth::<W, T, BIG>(t, 0));
+    for i in 1..s.len() / W {
+        x = x.and(nth::<W, T, BIG>(s, i));
+        y = y.and(nth::<W, T, BIG>(t, i));
     }
-    let x = Extremes {
-        smallest: smallest as i32,
-        largest: largest as i32,
-    };
-    let y = Extremes {
-        smallest: lowest as i32,
-        largest: highest as i32,
-    };
-    of_both(x, y)
+    of_both(x.long(), y.long())
 }
 
-// The same of two, three or four bytes.
-fn pair_of_longs(big: bool, width: usize, s: &[u8], t: &[u8]) -> Extremes
+// By the width, as for one part: no closure is generic in the width, so the two loops can't share this.
+fn pair_of_width<const BIG: bool>(width: usize, s: &[u8], t: &[u8]) -> Extremes
     requires { PairOf width s.now t.now }
-    ensures { PairAre (order_for big) width s.now t.now result }
+    ensures { PairAre (order_for BIG) width s.now t.now result }
 {
-    let one = long_at(big, width, s, 0);
-    let other = long_at(big, width, t, 0);
-    let mut smallest = one;
-    let mut largest = one;
-    let mut lowest = other;
-    let mut highest = other;
-    let mut at = width;
-    while at < s.len() {
-        let n = long_at(big, width, s, at);
-        let m = long_at(big, width, t, at);
-        smallest = lower_long(smallest, n);
-        largest = higher_long(largest, n);
-        lowest = lower_long(lowest, m);
-        highest = higher_long(highest, m);
-        at += width;
+    match width {
+        2 => pair_of_numbers::<2, i16, BIG>(s, t),
+        3 => pair_of_numbers::<3, i32, BIG>(s, t),
+        _ => pair_of_numbers::<4, i32, BIG>(s, t),
     }
-    let x = Extremes { smallest, largest };
-    let y = Extremes {
-        smallest: lowest,
-        largest: highest,
-    };
-    of_both(x, y)
-}
-
-// By the width.
-fn pair_of_width(big: bool, width: usize, s: &[u8], t: &[u8]) -> Extremes
-    requires { PairOf width s.now t.now }
-    ensures { PairAre (order_for big) width s.now t.now result }
-{
-    if width == 2 {
-        return pair_of_shorts(big, s, t);
-    }
-    if width == 3 {
-        return pair_of_longs(big, 3, s, t);
-    }
-    pair_of_longs(big, 4, s, t)
 }
 
 // Of the numbers of this width in two parts of a file.
@@ -196,7 +205,7 @@ pub fn of_pair(o: Order, width: usize, s: &[u8], t: &[u8]) -> Extremes
     ensures { PairAre o width s.now t.now result }
 {
     match o {
-        Order::Little => pair_of_width(false, width, s, t),
-        Order::Big => pair_of_width(true, width, s, t),
+        Order::Little => pair_of_width::<false>(width, s, t),
+        Order::Big => pair_of_width::<true>(width, s, t),
     }
 }
