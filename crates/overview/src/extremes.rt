@@ -18,7 +18,7 @@ pub struct Extremes {
     pub largest: i32,
 }
 
-// A number as a loop keeps it.
+// A number as a loop keeps it: by its own type's methods, since bodies shared over `Ord` would want a law of the order from each type, which is no plainer.
 trait Kept: Copy {
     ghost means: { Self → ℤ };
 
