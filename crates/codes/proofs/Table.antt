@@ -1,13 +1,14 @@
--- A table of codes that is searched; and, since no code stands twice in the standard's, that the order of the search does not matter.
+-- No code stands twice in the standard's table, so that the order in which it is searched does not matter.
 -- Assumes nothing.
 use mathlib.Core.Path.{◌≡◌, refl, sym, ap, ◌∙◌}
-use mathlib.Core.Bool.{Bool, true, false, ◌&&◌, not}
+use mathlib.Core.Bool.{Bool, true, ◌&&◌, not}
 use mathlib.Core.List.{List, [], ◌∷◌}
 use Prim.Native.Nat.{ℕ, zero, suc}
 use borrow.Author.Tests.{eq-eqb, ne_eqb}
 use lib.Dec.{eqb}
 use Rattle.walk.proofs.Apart.{false-true}
 use Rattle.recordings.specs.Answers.{value, indexed}
+use Rattle.rules.proofs.Renew.{and-true}
 use Rattle.recordings.proofs.Chosen.{refusal-value}
 use Rattle.codes.specs.Codes.{Published, published, kind_in, unpublished, kind_of, KindIs}
 use Rattle.codes.specs.declared.EventKind.{EventKind}
@@ -22,17 +23,13 @@ abbrev apart : List Published → Bool
 apart [] = true
 apart (p ∷ ps) = fresh p.code ps && apart ps
 
-both : (a b : Bool) → a && b ≡ true → (a ≡ true) × (b ≡ true)
-both true b h = (refl, h)
-both false b h = false-true h
-
 fresh-not : (c : ℕ) (l : List Published) → fresh c l ≡ true → (i : ℕ) (p : Published) → indexed l i ≡ value p → c ≡ p.code → ⊥
 unfolding indexed
 fresh-not c [] h i p e f = refusal-value e
 fresh-not c (q ∷ l) h zero p e f =
     let g : q ≡ p = cc in
-    false-true (rw (eq-eqb c q.code (f ∙ ap (λ (x : Published). x.code) (sym g))) at (both (not (eqb c q.code)) (fresh c l) h).0)
-fresh-not c (q ∷ l) h (suc i) p e f = fresh-not c l (both (not (eqb c q.code)) (fresh c l) h).1 i p e f
+    false-true (rw (eq-eqb c q.code (f ∙ ap (λ (x : Published). x.code) (sym g))) at (and-true (not (eqb c q.code)) (fresh c l) h).0)
+fresh-not c (q ∷ l) h (suc i) p e f = fresh-not c l (and-true (not (eqb c q.code)) (fresh c l) h).1 i p e f
 
 distinct : (l : List Published) → apart l ≡ true → (i j : ℕ) (p q : Published) → indexed l i ≡ value p → indexed l j ≡ value q → p.code ≡ q.code → i ≡ j
 unfolding indexed
@@ -40,11 +37,11 @@ distinct [] h i j p q e f g = refusal-value e
 distinct (x ∷ l) h zero zero p q e f g = refl
 distinct (x ∷ l) h zero (suc j) p q e f g =
     let k : x ≡ p = cc in
-    absurd (fresh-not x.code l (both (fresh x.code l) (apart l) h).0 j q f (ap (λ (y : Published). y.code) k ∙ g))
+    absurd (fresh-not x.code l (and-true (fresh x.code l) (apart l) h).0 j q f (ap (λ (y : Published). y.code) k ∙ g))
 distinct (x ∷ l) h (suc i) zero p q e f g =
     let k : x ≡ q = cc in
-    absurd (fresh-not x.code l (both (fresh x.code l) (apart l) h).0 i p e (ap (λ (y : Published). y.code) k ∙ sym g))
-distinct (x ∷ l) h (suc i) (suc j) p q e f g = ap suc (distinct l (both (fresh x.code l) (apart l) h).1 i j p q e f g)
+    absurd (fresh-not x.code l (and-true (fresh x.code l) (apart l) h).0 i p e (ap (λ (y : Published). y.code) k ∙ sym g))
+distinct (x ∷ l) h (suc i) (suc j) p q e f g = ap suc (distinct l (and-true (fresh x.code l) (apart l) h).1 i j p q e f g)
 
 listed : (l : List Published) (other : EventKind) → apart l ≡ true → (i : ℕ) (p : Published) → indexed l i ≡ value p → kind_in l other p.code ≡ p.kind
 unfolding indexed kind_in
@@ -52,7 +49,7 @@ listed [] other h i p e = refusal-value e
 listed (q ∷ l) other h zero p e =
     let g : q ≡ p = cc in
     rw (g, eq-eqb p.code p.code refl)
-listed (q ∷ l) other h (suc i) p e = rw (ne_eqb p.code q.code (λ f. fresh-not q.code l (both (fresh q.code l) (apart l) h).0 i p e (sym f))) (listed l other (both (fresh q.code l) (apart l) h).1 i p e)
+listed (q ∷ l) other h (suc i) p e = rw (ne_eqb p.code q.code (λ f. fresh-not q.code l (and-true (fresh q.code l) (apart l) h).0 i p e (sym f))) (listed l other (and-true (fresh q.code l) (apart l) h).1 i p e)
 
 unlisted : (l : List Published) (other : EventKind) (c : ℕ) → ((i : ℕ) (p : Published) → indexed l i ≡ value p → c ≡ p.code → ⊥) → kind_in l other c ≡ other
 unfolding indexed kind_in

@@ -12,7 +12,7 @@ ghost use Rattle.decode.specs.Wide.{order_for, whole, NumberAt};
 use rules::Channel;
 use words::Order;
 
-// The signed number of two bytes.
+// The signed number of two bytes. A function for each width: the method that puts its bytes together is that of a type, which no const parameter names.
 fn short(big: bool, bytes: [u8; 2]) -> i16
     ensures { result ≡ whole big 2 bytes }
 {
@@ -75,7 +75,7 @@ fn fill<A: Copy, T: Copy, F: Fn(A) -> T>(places: &[A], d: &mut [T], means: F)
     }
 }
 
-// The whole numbers of a channel of this format.
+// The whole numbers of a channel of this format. An arm for each width, since the bytes of a place are a type of their own.
 fn numbers_in(big: bool, format: u32, s: &[u8], d: &mut [i64])
     requires { length s.now ≡ length d.old * R.width format }
     ensures { Decoded (pos 0) (signed (R.width format)) (order_for big) (R.width format) s.now d.old d.new }
