@@ -49,7 +49,9 @@ listed [] other h i p e = refusal-value e
 listed (q ∷ l) other h zero p e =
     let g : q ≡ p = cc in
     rw (g, eq-eqb p.code p.code refl)
-listed (q ∷ l) other h (suc i) p e = rw (ne_eqb p.code q.code (λ f. fresh-not q.code l (and-true (fresh q.code l) (apart l) h).0 i p e (sym f))) (listed l other (and-true (fresh q.code l) (apart l) h).1 i p e)
+listed (q ∷ l) other h (suc i) p e =
+    let (new, rest) = and-true (fresh q.code l) (apart l) h in
+    rw (ne_eqb p.code q.code (λ f. fresh-not q.code l new i p e (sym f))) (listed l other rest i p e)
 
 unlisted : (l : List Published) (other : EventKind) (c : ℕ) → ((i : ℕ) (p : Published) → indexed l i ≡ value p → c ≡ p.code → ⊥) → kind_in l other c ≡ other
 unfolding indexed kind_in

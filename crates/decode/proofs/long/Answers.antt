@@ -11,8 +11,10 @@ use Rattle.decode.proofs.long.Goals as goal
 
 pub returns-then-big : goal.returns-then-big
 returns-then-big c =
-    rw c.if-big.true (cast-is w32 4 refl refl (record { sfits = c.from_be_bytes.type_inv }) c.from_be_bytes.ensures (omega (arith, word-4 Big c.args.bytes (search rules))))
+    let h = word-4 Big c.args.bytes (search rules) in
+    rw c.if-big.true (cast-is w32 4 refl refl (record { sfits = c.from_be_bytes.type_inv }) c.from_be_bytes.ensures (omega arith))
 
 pub returns : goal.returns
 returns c =
-    rw c.if-big.false (cast-is w32 4 refl refl (record { sfits = c.from_le_bytes.type_inv }) c.from_le_bytes.ensures (omega (arith, word-4 Little c.args.bytes (search rules))))
+    let h = word-4 Little c.args.bytes (search rules) in
+    rw c.if-big.false (cast-is w32 4 refl refl (record { sfits = c.from_le_bytes.type_inv }) c.from_le_bytes.ensures (omega arith))

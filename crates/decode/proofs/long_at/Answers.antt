@@ -4,14 +4,17 @@ use mathlib.Core.Path.{◌≡◌, ap, ◌∙◌}
 use native.Mathlib.Omega.{arith}
 use mir.Facts.{to_z-of_z}
 use Rattle.words.specs.Values.{signed}
+use Rattle.decode.specs.Wide.{order_for}
 use Rattle.decode.proofs.Places.{place-3, place-4}
 use Rattle.decode.proofs.long_at.Goals as goal
 
 pub returns-then-width-eq3 : goal.returns-then-width-eq3
 returns-then-width-eq3 c =
-    rw c.if-width-eq3.true (to_z-of_z {w = mir.Syntax.w32} (record { sfits = c.triple.type_inv }) ∙ (c.triple.ensures ∙ ap (signed 3) (place-3 _ c.args.s.now c.args.at (omega (arith, c.requires.inside)))))
+    let p = place-3 (order_for c.args.big) c.args.s.now c.args.at (omega (arith, c.requires.inside)) in
+    rw c.if-width-eq3.true (to_z-of_z {w = mir.Syntax.w32} (record { sfits = c.triple.type_inv }) ∙ (c.triple.ensures ∙ ap (signed 3) p))
 
 pub returns : goal.returns
 returns c =
     let e : c.args.width ≡ 4 = omega (arith, c.requires.wide.least, c.requires.wide.most) in
-    rw e (to_z-of_z {w = mir.Syntax.w32} (record { sfits = c.long.type_inv }) ∙ (c.long.ensures ∙ ap (signed 4) (place-4 _ c.args.s.now c.args.at (omega (arith, c.requires.inside)))))
+    let p = place-4 (order_for c.args.big) c.args.s.now c.args.at (omega (arith, c.requires.inside)) in
+    rw e (to_z-of_z {w = mir.Syntax.w32} (record { sfits = c.long.type_inv }) ∙ (c.long.ensures ∙ ap (signed 4) p))

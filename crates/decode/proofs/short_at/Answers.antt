@@ -7,4 +7,5 @@ use Rattle.decode.proofs.Places.{place-2}
 use Rattle.decode.proofs.short_at.Goals as goal
 
 pub returns : goal.returns
-returns c = to_z-of_z {w = mir.Syntax.w16} (record { sfits = c.short.type_inv }) ∙ (c.short.ensures ∙ ap (signed 2) (place-2 _ c.args.s.now c.args.at c.requires))
+returns c =
+    to_z-of_z {w = mir.Syntax.w16} (record { sfits = c.short.type_inv }) ∙ (c.short.ensures ∙ ap (signed 2) (place-2 _ c.args.s.now c.args.at c.requires))

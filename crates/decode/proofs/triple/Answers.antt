@@ -9,8 +9,10 @@ use Rattle.decode.proofs.triple.Goals as goal
 
 pub returns-then-big : goal.returns-then-big
 returns-then-big c =
-    rw c.if-big.true (moved-is _ _ _ (record { sfits = c.from_be_bytes.type_inv }) c.from_be_bytes.ensures (omega (arith, word-3 Big c.args.bytes (search rules))))
+    let h = word-3 Big c.args.bytes (search rules) in
+    rw c.if-big.true (moved-is _ _ _ (record { sfits = c.from_be_bytes.type_inv }) c.from_be_bytes.ensures (omega arith))
 
 pub returns : goal.returns
 returns c =
-    rw c.if-big.false (moved-is _ _ _ (record { sfits = c.from_le_bytes.type_inv }) c.from_le_bytes.ensures (omega (arith, word-3 Little c.args.bytes (search rules))))
+    let h = word-3 Little c.args.bytes (search rules) in
+    rw c.if-big.false (moved-is _ _ _ (record { sfits = c.from_le_bytes.type_inv }) c.from_le_bytes.ensures (omega arith))
