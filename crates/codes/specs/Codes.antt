@@ -5,11 +5,14 @@ use Rattle.walk.specs.Walk.{pick}
 use Rattle.recordings.specs.Answers.{Answer, value, refusal, outside, indexed}
 use Rattle.codes.specs.declared.EventKind.{EventKind}
 use Rattle.codes.specs.declared.KindTold.{KindTold}
-use Rattle.codes.specs.declared.Published.{Published}
 
 -- a published code, and its kind
+pub record Published : Type 0 where
+  pub code : ℕ
+  pub kind : EventKind
+
 abbrev pub is : ℕ → EventKind → Published
-is c k = record { 0 = c; 1 = k }
+is c k = record { code = c; kind = k }
 
 -- the standard's table, in its order and by its hexadecimal column, which decides at the end of INST: the decimal one has 8 there
 unfoldable pub published : List Published
@@ -31,7 +34,7 @@ published =
 -- the kind beside the code c in a table, or else this one
 unfoldable pub kind_in : List Published → EventKind → ℕ → EventKind
 kind_in [] other c = other
-kind_in (p ∷ ps) other c = pick (eqb c p.0) p.1 (kind_in ps other c)
+kind_in (p ∷ ps) other c = pick (eqb c p.code) p.kind (kind_in ps other c)
 
 -- a user's own has bit 12 set, whatever the bits above it are
 abbrev pub unpublished : ℕ → EventKind
@@ -57,10 +60,10 @@ KindAnswer c a = meaning a ≡ kind_told c
 
 -- the code is not published
 abbrev pub Unlisted : ℕ → Type 0
-Unlisted c = (i : ℕ) (p : Published) → indexed published i ≡ value p → c ≡ p.0 → ⊥
+Unlisted c = (i : ℕ) (p : Published) → indexed published i ≡ value p → c ≡ p.code → ⊥
 
 -- what document 02 says of the kind k of the code c
 pub record KindIs (c : ℕ) (k : EventKind) : Type 0 where
-  pub listed : (i : ℕ) (p : Published) → indexed published i ≡ value p → c ≡ p.0 → k ≡ p.1
+  pub listed : (i : ℕ) (p : Published) → indexed published i ≡ value p → c ≡ p.code → k ≡ p.kind
   pub user : Unlisted c → c / 4096 % 2 ≡ 1 → k ≡ EventKind.User
   pub reserved : Unlisted c → (c / 4096 % 2 ≡ 1 → ⊥) → k ≡ EventKind.Reserved

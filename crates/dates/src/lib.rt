@@ -6,24 +6,17 @@ ghost use Rattle.rules.specs.Rules as R;
 ghost use Rattle.dates.specs.Dates.{date_of};
 
 // The first of the three numbers that no date has.
-#[derive(Clone, Copy)]
-pub enum DateJudged {
-    Fine,
-    WrongYear,
-    WrongMonth,
-    WrongDay,
+#[derive(Clone, Copy, Debug, PartialEq, Eq)]
+pub enum WrongDate {
+    Year,
+    Month,
+    Day,
 }
 
 fn leap(y: u32) -> bool
     ensures { result ≡ R.leap y }
 {
-    if y % 4 != 0 {
-        return false;
-    }
-    if y % 100 != 0 {
-        return true;
-    }
-    y % 400 == 0
+    y % 4 == 0 && (y % 100 != 0 || y % 400 == 0)
 }
 
 // January has 31 days, the next month 30, and so on by turns; August, seven months later, begins anew with 31.
@@ -48,23 +41,20 @@ fn dated(y: u32, high: u32, n: u32) -> bool
     if y == 0 {
         return n == 0;
     }
-    if n < 1 {
-        return false;
-    }
-    n <= high
+    (1..=high).contains(&n)
 }
 
-pub fn judge_date(year: u32, month: u32, day: u32) -> DateJudged
+pub fn judge_date(year: u32, month: u32, day: u32) -> Result<(), WrongDate>
     ensures { result ≡ date_of year month day }
 {
     if 9999 < year {
-        return DateJudged::WrongYear;
+        return Err(WrongDate::Year);
     }
     if !dated(year, 12, month) {
-        return DateJudged::WrongMonth;
+        return Err(WrongDate::Month);
     }
     if !dated(year, days_in(year, month), day) {
-        return DateJudged::WrongDay;
+        return Err(WrongDate::Day);
     }
-    DateJudged::Fine
+    Ok(())
 }

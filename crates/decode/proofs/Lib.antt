@@ -1,3 +1,3 @@
-pub mod Loops
-pub mod Centred
-pub mod Turned
+pub mod Casts
+pub mod Filled
+pub mod Places

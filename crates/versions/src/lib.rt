@@ -1,14 +1,14 @@
 // What each version of the format allows.
-#![tactic(auto)]
+#![tactic(auto, unfolding(rules::specs::Rules::allows))]
 
 ghost use Rattle.std.specs.Prelude.{◌≡◌};
 ghost use Rattle.rules.specs.Rules as R;
-ghost use Rattle.versions.specs.Allowed.{allows_of, older_with};
+ghost use Rattle.versions.specs.Allowed.{allows_of};
 
 use rules::{Channel, Head, Label, Version};
 
 // Form 01; script U; the largest multiplier; type 20; the largest format; a recording without an event table of its own.
-#[derive(Clone, Copy)]
+#[derive(Clone, Copy, Debug, PartialEq, Eq)]
 pub struct Allowed {
     pub electrodes: bool,
     pub unicode: bool,
@@ -18,27 +18,31 @@ pub struct Allowed {
     pub eventless: bool,
 }
 
-// What a version before 000300 allows: no script U, no multiplier, format 1.
-fn older(electrodes: bool, twenty: bool, eventless: bool) -> Allowed
-    ensures { allows_of result ≡ older_with electrodes twenty eventless }
-{
-    Allowed {
-        electrodes,
-        unicode: false,
-        multiplier: 0,
-        twenty,
-        format: Channel::SHORTS,
-        eventless,
-    }
-}
+// What 000100 allows; the two after it allow one or three things more, and 000300 all.
+const OLDEST: Allowed = Allowed {
+    electrodes: false,
+    unicode: false,
+    multiplier: 0,
+    twenty: false,
+    format: Channel::SHORTS,
+    eventless: false,
+};
 
 pub fn allows(v: Version) -> Allowed
     ensures { allows_of result ≡ R.allows v }
 {
     match v {
-        Version::V100 => older(false, false, false),
-        Version::V110 => older(false, true, false),
-        Version::V200 => older(true, true, true),
+        Version::V100 => OLDEST,
+        Version::V110 => Allowed {
+            twenty: true,
+            ..OLDEST
+        },
+        Version::V200 => Allowed {
+            electrodes: true,
+            twenty: true,
+            eventless: true,
+            ..OLDEST
+        },
         Version::V300 => Allowed {
             electrodes: true,
             unicode: true,
@@ -54,7 +58,5 @@ pub fn allows(v: Version) -> Allowed
 pub fn most_of(label: Label) -> u32
     ensures { result ≡ R.most_of label }
 {
-    let version = label.version;
-    let allowed = allows(version);
-    allowed.multiplier
+    allows(label.version).multiplier
 }

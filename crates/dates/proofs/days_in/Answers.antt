@@ -10,8 +10,8 @@ returns-then-m-ne2 c = simp (tests, c.if-m-ne2.true) (months c.args.m c.requires
 
 pub returns-then-leap : goal.returns-then-leap
 unfolding days_in month_days
-returns-then-leap c = simp (tests, c.if-leap.true, ← c.leap.ensures, c.if-m-ne2.false)
+returns-then-leap c = simp (c.if-leap.true, ← c.leap.ensures, c.if-m-ne2.false)
 
 pub returns : goal.returns
 unfolding days_in month_days
-returns c = simp (tests, c.if-leap.false, ← c.leap.ensures, c.if-m-ne2.false)
+returns c = simp (c.if-leap.false, ← c.leap.ensures, c.if-m-ne2.false)

@@ -5,12 +5,12 @@ use Rattle.dates.proofs.leap.Goals as goal
 
 pub returns-then-y-ne0 : goal.returns-then-y-ne0
 unfolding leap
-returns-then-y-ne0 c = simp (tests, c.if-y-ne0.true)
+returns-then-y-ne0 c = simp (tests, c.if-y-ne0.true, c.if-y-eq0.true)
 
-pub returns-then-y-ne0-2 : goal.returns-then-y-ne0-2
+pub returns-else-y-ne0 : goal.returns-else-y-ne0
 unfolding leap
-returns-then-y-ne0-2 c = simp (tests, c.if-y-ne0-2.true, c.if-y-ne0.false)
+returns-else-y-ne0 c = simp (c.if-y-ne0.false, c.if-y-eq0.true)
 
-pub returns : goal.returns
+pub returns-else-y-eq0 : goal.returns-else-y-eq0
 unfolding leap
-returns c = simp (tests, c.if-y-ne0-2.false, c.if-y-ne0.false)
+returns-else-y-eq0 c = simp (tests, c.if-y-eq0.false)

@@ -1,18 +1,20 @@
--- `decode::long_at` meets its contract: a number of at most four bytes has its place in 32 bits.
+-- `decode::long_at` meets its contract: the number of the bytes at the place, by the width.
 -- Assumes nothing.
-use mathlib.Core.Path.{◌∙◌}
-use mir.Syntax.{w32}
-use mir.Val.{SFits}
-use Rattle.decode.proofs.Centred.{wide-mag, recast, refit}
+use mathlib.Core.Path.{◌≡◌, ap, ◌∙◌}
+use native.Mathlib.Omega.{arith}
+use mir.Facts.{to_z-of_z}
+use Rattle.words.specs.Values.{signed}
+use Rattle.decode.specs.Wide.{order_for}
+use Rattle.decode.proofs.Places.{place-3, place-4}
 use Rattle.decode.proofs.long_at.Goals as goal
 
-narrow : (c : goal.After-whole) → SFits w32 c.whole.result
-narrow c =
-    let p = c.requires in
-    record { sfits = rw c.whole.ensures (wide-mag _ _ _ (λ i. (c.type_inv.s i).fits) _ p.wide p.inside) }
-
-pub overflow_cast-result : goal.overflow_cast-result
-overflow_cast-result c = refit (record { sfits = c.whole.type_inv }) (narrow c)
+pub returns-then-width-eq3 : goal.returns-then-width-eq3
+returns-then-width-eq3 c =
+    let p = place-3 (order_for c.args.big) c.args.s.now c.args.at (omega (arith, c.requires.inside)) in
+    rw c.if-width-eq3.true (to_z-of_z {w = mir.Syntax.w32} (record { sfits = c.triple.type_inv }) ∙ (c.triple.ensures ∙ ap (signed 3) p))
 
 pub returns : goal.returns
-returns c = recast (record { sfits = c.whole.type_inv }) (narrow c) ∙ c.whole.ensures
+returns c =
+    let e : c.args.width ≡ 4 = omega (arith, c.requires.wide.least, c.requires.wide.most) in
+    let p = place-4 (order_for c.args.big) c.args.s.now c.args.at (omega (arith, c.requires.inside)) in
+    rw e (to_z-of_z {w = mir.Syntax.w32} (record { sfits = c.long.type_inv }) ∙ (c.long.ensures ∙ ap (signed 4) p))

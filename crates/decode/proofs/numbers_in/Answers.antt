@@ -1,30 +1,45 @@
--- `decode::numbers_in` meets its contract: each arm is the loop at its width.
+-- `decode::numbers_in` meets its contract: each arm fills the buffer at its width.
 -- Assumes nothing.
+use mathlib.Core.List.{[]}
 use mathlib.Core.Path.{◌≡◌}
-use borrow.Author.Rules.{rules}
+use Prim.Native.Nat.{◌*◌}
+use native.Mathlib.Omega.{arith}
+use lib.IntN.{pos}
+use lib.ListN.{length}
 use Rattle.rules.specs.Rules as R
 use Rattle.samples.proofs.Stretch.{width-2, width-3, width-4}
+use Rattle.decode.proofs.Filled.{decoded}
 use Rattle.decode.proofs.numbers_in.Goals as goal
-use Rattle.decode.proofs.numbers_in.Goals.{Else-format-eq-TRIPLES}
 
--- the width that is left
-long : (c : Else-format-eq-TRIPLES) → R.width c.args.format ≡ 4
-long c = width-4 _ c.if-format-eq-SHORTS.false c.if-format-eq-TRIPLES.false
+pub fill-requires-clause-room : goal.fill-requires-clause-room
+fill-requires-clause-room c =
+    let h : length c.args.s.now ≡ length c.args.d.now * 2 = rw (width-2 _ c.in-1.is) at c.requires in
+    omega (arith, c.as_chunks.ensures.front_len)
 
-pub wholes-requires : goal.wholes-requires
-wholes-requires c = record { wide = search rules; source = rw (width-2 _ c.if-format-eq-SHORTS.true) at c.requires }
+pub returns-in-1 : goal.returns-in-1
+returns-in-1 c =
+    let w : R.width c.args.format ≡ 2 = width-2 _ c.in-1.is in
+    let h : length c.args.s.now ≡ length c.args.d.now * 2 = rw w at c.requires in
+    rw w (decoded h (omega arith) c.as_chunks.ensures.front c.fill.auto.d (λ q l _. c.fill.ensures [] (pos 0) q l))
 
-pub wholes-requires-then-format-eq-TRIPLES : goal.wholes-requires-then-format-eq-TRIPLES
-wholes-requires-then-format-eq-TRIPLES c = record { wide = search rules; source = rw (width-3 _ c.if-format-eq-TRIPLES.true) at c.requires }
+pub fill-requires-in-2-clause-room : goal.fill-requires-in-2-clause-room
+fill-requires-in-2-clause-room c =
+    let h : length c.args.s.now ≡ length c.args.d.now * 3 = rw (width-3 _ c.in-2.is) at c.requires in
+    omega (arith, c.as_chunks-in-2.ensures.front_len)
 
-pub wholes-requires-else-format-eq-TRIPLES : goal.wholes-requires-else-format-eq-TRIPLES
-wholes-requires-else-format-eq-TRIPLES c = record { wide = search rules; source = rw (long (goal.at.wholes-requires-else-format-eq-TRIPLES c).Else-format-eq-TRIPLES) at c.requires }
+pub returns-in-2 : goal.returns-in-2
+returns-in-2 c =
+    let w : R.width c.args.format ≡ 3 = width-3 _ c.in-2.is in
+    let h : length c.args.s.now ≡ length c.args.d.now * 3 = rw w at c.requires in
+    rw w (decoded h (omega arith) c.as_chunks-in-2.ensures.front c.fill-in-2.auto.d (λ q l _. c.fill-in-2.ensures [] (pos 0) q l))
 
-pub returns-then-format-eq-SHORTS : goal.returns-then-format-eq-SHORTS
-returns-then-format-eq-SHORTS c = rw (width-2 _ c.if-format-eq-SHORTS.true) c.wholes.ensures
+pub fill-requires-in_default-clause-room : goal.fill-requires-in_default-clause-room
+fill-requires-in_default-clause-room c =
+    let h : length c.args.s.now ≡ length c.args.d.now * 4 = rw (width-4 c.args.format (omega arith) (omega arith)) at c.requires in
+    omega (arith, c.as_chunks-in_default.ensures.front_len)
 
-pub returns-then-format-eq-TRIPLES : goal.returns-then-format-eq-TRIPLES
-returns-then-format-eq-TRIPLES c = rw (width-3 _ c.if-format-eq-TRIPLES.true) c.wholes-then-format-eq-TRIPLES.ensures
-
-pub returns-else-format-eq-TRIPLES : goal.returns-else-format-eq-TRIPLES
-returns-else-format-eq-TRIPLES c = rw (long (goal.at.returns-else-format-eq-TRIPLES c).Else-format-eq-TRIPLES) c.wholes-else-format-eq-TRIPLES.ensures
+pub returns-in_default : goal.returns-in_default
+returns-in_default c =
+    let w : R.width c.args.format ≡ 4 = width-4 c.args.format (omega arith) (omega arith) in
+    let h : length c.args.s.now ≡ length c.args.d.now * 4 = rw w at c.requires in
+    rw w (decoded h (omega arith) c.as_chunks-in_default.ensures.front c.fill-in_default.auto.d (λ q l _. c.fill-in_default.ensures [] (pos 0) q l))

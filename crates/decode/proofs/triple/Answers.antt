@@ -1,10 +1,18 @@
--- `decode::triple` meets its contract, by the law of a word that is moved by half of the words.
+-- `decode::triple` meets its contract: the bits of its word above an empty byte, moved down.
 -- Assumes nothing.
-use mathlib.Core.Path.{refl, ◌∙◌}
+use native.Mathlib.Omega.{arith}
 use borrow.Author.Rules.{rules}
-use mir.Facts.{to_z-of_z}
-use Rattle.decode.proofs.Centred.{centred}
+use Rattle.words.specs.declared.Order.TheVariants.{Little, Big}
+use Rattle.decode.proofs.Casts.{moved-is}
+use Rattle.decode.proofs.Places.{word-3}
 use Rattle.decode.proofs.triple.Goals as goal
 
+pub returns-then-big : goal.returns-then-big
+returns-then-big c =
+    let h = word-3 Big c.args.bytes (search rules) in
+    rw c.if-big.true (moved-is _ _ _ (record { sfits = c.from_be_bytes.type_inv }) c.from_be_bytes.ensures (omega arith))
+
 pub returns : goal.returns
-returns c = to_z-of_z {w = mir.Syntax.w64} (record { sfits = c.less.type_inv }) ∙ (c.less.ensures ∙ centred 8388607 c.args.n (search rules) 3 refl)
+returns c =
+    let h = word-3 Little c.args.bytes (search rules) in
+    rw c.if-big.false (moved-is _ _ _ (record { sfits = c.from_le_bytes.type_inv }) c.from_le_bytes.ensures (omega arith))
