@@ -1,5 +1,6 @@
 -- The 130 or the 200 that holds for a recording that was found: its items stand where the code's places say.
 -- Assumes nothing.
+use Rattle.std.proofs.Common.{Some, None}
 use mathlib.Core.Path.{◌≡◌, refl, sym, ap, ◌∙◌, subst}
 use mathlib.Core.Bool.{Bool, true, false}
 use mathlib.Core.List.{List, []}
@@ -15,7 +16,6 @@ use Rattle.rules.specs.Rules as R
 use Rattle.rules.proofs.Asked.{Rest, event-rest}
 use Rattle.rules.proofs.Held.{patient-rest-holds}
 use Rattle.records.specs.declared.items.Holder.{Holder}
-use Rattle.descriptions.specs.declared.Held.{Held}
 use Rattle.descriptions.specs.declared.Places.{Places}
 use Rattle.descriptions.proofs.Parts.{at-nothing}
 use Rattle.recordings.specs.Answers.{Answer, value, refusal, outside, numbered, indexed}
@@ -24,7 +24,7 @@ use Rattle.recordings.specs.Found.{FoundIn}
 use Rattle.recordings.proofs.Chosen.{refusal-value, One, ChosenIn, chosen-in}
 use Rattle.recordings.proofs.Standing.{found-seen, found-ends}
 use Rattle.questions.specs.Questions.{items_of, items_at, item_in, item_of}
-use Rattle.questions.specs.Holding.{events_in, holding_of}
+use Rattle.questions.specs.Holding.{holding_of}
 use Rattle.questions.specs.declared.items.Entry.{Entry}
 use Rattle.questions.proofs.Entries.{ItemAt, items-inside, item-there}
 
@@ -105,32 +105,32 @@ module _ (s : List ℕ) (b : Bytes s) (i : ℕ) (r : Chosen) (is : recording_of 
 -- a recording that the code found
 module _ {s : List ℕ} {i : ℕ} {o : Order} {q : Places} {r : Chosen} (f : FoundIn s i o q r) where
   -- where the code holds a place, the items that hold stand there
-  holds_at : (k : Holder) (at : ℕ) → holding_of k q ≡ Held.At at → ItemsSeen o s at (items_of k r) × (at ≡ items_at k r)
+  holds_at : (k : Holder) (at : ℕ) → holding_of k q ≡ Some at → ItemsSeen o s at (items_of k r) × (at ≡ items_at k r)
   holds_at Holder.Patient at h = let e : at ≡ at130 r = cc in (rw (e, f.order) (patient-held s f.bytes i r f.is), e)
   holds_at Holder.Event at h = go r.this.recording.own_events refl (sym (ap (holding_of Holder.Event) f.same) ∙ h)
     where
-      go : (b : Bool) → r.this.recording.own_events ≡ b → events_in b (pick b (start_of r + r.this.layout.at200) 0) ≡ Held.At at →
+      go : (b : Bool) → r.this.recording.own_events ≡ b → pick b (Some (start_of r + r.this.layout.at200)) None ≡ Some at →
           ItemsSeen o s at (pick b r.this.recording.events []) × (at ≡ start_of r + r.this.layout.at200)
       go true own g = let e : at ≡ start_of r + r.this.layout.at200 = cc in (rw (e, f.order) (events-held s f.bytes i r f.is own), e)
       go false own g = at-nothing (sym g)
 
   -- where it holds none, there are none
-  holds-nothing : (k : Holder) → holding_of k q ≡ Held.Nothing → items_of k r ≡ []
+  holds-nothing : (k : Holder) → holding_of k q ≡ None → items_of k r ≡ []
   holds-nothing Holder.Patient h = at-nothing h
   holds-nothing Holder.Event h = go r.this.recording.own_events (sym (ap (holding_of Holder.Event) f.same) ∙ h)
     where
-      go : (b : Bool) → events_in b (pick b (start_of r + r.this.layout.at200) 0) ≡ Held.Nothing → pick b r.this.recording.events [] ≡ []
+      go : (b : Bool) → pick b (Some (start_of r + r.this.layout.at200)) None ≡ None → pick b r.this.recording.events [] ≡ []
       go true g = at-nothing g
       go false g = refl
 
-  pub asked-nothing : (k : Holder) (j : ℕ) → holding_of k q ≡ Held.Nothing → refusal 19 0 ≡ item_of k s i j
+  pub asked-nothing : (k : Holder) (j : ℕ) → holding_of k q ≡ None → refusal 19 0 ≡ item_of k s i j
   unfolding item_in
   asked-nothing k j h = rw (f.is, item_in, holds-nothing k h, numbered-none j)
 
-  pub asked-inside : (k : Holder) (at : ℕ) → holding_of k q ≡ Held.At at → at ≤ length s
+  pub asked-inside : (k : Holder) (at : ℕ) → holding_of k q ≡ Some at → at ≤ length s
   asked-inside k at h = items-seen-inside (holds_at k at h).0
 
   -- what is said of the items at a place
-  pub asked-item : (k : Holder) (at j : ℕ) (a : Answer Entry) → holding_of k q ≡ Held.At at →
+  pub asked-item : (k : Holder) (at j : ℕ) (a : Answer Entry) → holding_of k q ≡ Some at →
       ((ok : ℕ → Bool) (room : ℕ) (h : R.Head) (is : List R.Item) (e : ℕ) → e ≤ length s → see o 0 s (at + 16) (R.items ok room h) ≡ goes is e → a ≡ item_in is at j) → a ≡ item_of k s i j
   asked-item k at j a h says = let x = holds_at k at h in rw (f.is, ← x.1) (says x.0.ok x.0.room x.0.head (items_of k r) x.0.end x.0.ends x.0.seen)

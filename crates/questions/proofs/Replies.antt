@@ -1,5 +1,6 @@
 -- The answers to the questions about a channel, a montage, a frame's clock and samples, from what the code found in the file.
 -- Assumes nothing.
+use Rattle.std.proofs.Common.{Some, None}
 use mathlib.Core.Path.{◌≡◌, refl, sym, ap, ◌∙◌}
 use mathlib.Core.Bool.{Bool, true, false}
 use mathlib.Core.List.{List}
@@ -10,6 +11,8 @@ use lib.ListN.{length}
 use Rattle.words.specs.Numbers.{number_at}
 use Rattle.words.specs.declared.Order.{Order}
 use Rattle.walk.specs.See.{goes, see}
+use Rattle.walk.specs.Walk.{pick}
+use Rattle.descriptions.proofs.Parts.{at-nothing}
 use Rattle.rules.specs.Rules as R
 use Rattle.rules.specs.declared.Label.{Label}
 use Rattle.rules.specs.Reading.{Value, value_of}
@@ -64,6 +67,13 @@ module _ {s : List ℕ} {i : ℕ} {o : Order} {q : Places} {r : Chosen} (h : Fou
 
 -- A recording's own montage
 
+outside-none : (j : ℕ) → R.between 1 0 j ≡ false
+outside-none j = go (R.between 1 0 j) refl
+  where
+    go : (x : Bool) → R.between 1 0 j ≡ x → x ≡ false
+    go true e = let l = between_in 1 0 j e in absurd (omega (arith, l.0, l.1))
+    go false e = refl
+
 pub montage-count-refused : (s : List ℕ) (i : ℕ) {n p : ℕ} → recording_of s i ≡ refusal n p → refusal n p ≡ montage_count_of s i
 montage-count-refused s i h = rw h
 
@@ -74,22 +84,26 @@ module _ {s : List ℕ} {i : ℕ} {o : Order} {q : Places} {r : Chosen} (h : Fou
   abbrev chosen : ChosenIn s i r
   chosen = chosen-in s h.bytes i r h.is
 
-  own_is : q.has_montage ≡ r.this.recording.own_montage
-  own_is = ap (λ (p : Places). p.has_montage) h.same
+  own_is : q.montage ≡ pick r.this.recording.own_montage (Some (montage_at r)) None
+  own_is = ap (λ (p : Places). p.montage) h.same
 
   -- where it has one, it stands where the code's places say
-  stands : r.this.recording.own_montage ≡ true → (q.montage ≡ montage_at r) × MontageStands s r
-  stands own = (ap (λ (p : Places). p.montage) h.same ∙ rw own, montage-stands s h.bytes chosen.judged i r h.is own)
+  stands : {p : ℕ} → q.montage ≡ Some p → (p ≡ montage_at r) × MontageStands s r
+  stands {p} e = go r.this.recording.own_montage refl (sym own_is ∙ e)
+    where
+      go : (x : Bool) → r.this.recording.own_montage ≡ x → pick x (Some (montage_at r)) None ≡ Some p → (p ≡ montage_at r) × MontageStands s r
+      go true own g = (cc, montage-stands s h.bytes chosen.judged i r h.is own)
+      go false own g = at-nothing (sym g)
 
   pub montage-inside : MontageInside q (length s)
-  montage-inside own = let m = stands (sym own_is ∙ own) in omega (arith, m.0, m.1.inside)
+  montage-inside p e = let m = stands e in omega (arith, m.0, m.1.inside)
 
   pub montage-many : montage_channels o s q ≡ length r.this.recording.montage
   unfolding montage_channels
   montage-many = go r.this.recording.own_montage refl
     where
       go : (x : Bool) → r.this.recording.own_montage ≡ x → montage_channels o s q ≡ length r.this.recording.montage
-      go true e = let m = stands e in rw (own_is, e, m.0, h.order) (sym m.1.count)
+      go true e = rw (own_is, e, h.order) (sym (montage-stands s h.bytes chosen.judged i r h.is e).count)
       go false e = rw (own_is, e, montage-none s h.bytes chosen.judged i r h.is e)
 
   pub montage-count-told : value (montage_channels o s q) ≡ montage_count_of s i
@@ -99,27 +113,22 @@ module _ {s : List ℕ} {i : ℕ} {o : Order} {q : Places} {r : Chosen} (h : Fou
     pub montage-outside : R.between 1 (montage_channels o s q) j ≡ false → refusal 19 0 ≡ montage_of s i j
     montage-outside t = rw (h.is, numbered-out r.this.recording.montage j (rw montage-many at t))
 
-    module _ (t : R.between 1 (montage_channels o s q) j ≡ true) where
-      -- a channel that is asked for is its own
-      own-there : r.this.recording.own_montage ≡ true
-      own-there = go r.this.recording.own_montage refl
-        where
-          go : (x : Bool) → r.this.recording.own_montage ≡ x → r.this.recording.own_montage ≡ true
-          go true e = e
-          go false e =
-              let l = between_in 1 (montage_channels o s q) j t in
-              absurd (omega (arith, l.0, l.1, montage-many, ap length (montage-none s h.bytes chosen.judged i r h.is e)))
+    -- none is asked for where it has none
+    pub montage-absent : q.montage ≡ None → refusal 19 0 ≡ montage_of s i j
+    unfolding montage_channels
+    montage-absent e = montage-outside (rw e (outside-none j))
 
-      pub montage-roomy : (q.montage + 32 + 256 * montage_channels o s q ≤ length s) × (1 ≤ j) × (j ≤ montage_channels o s q)
-      montage-roomy = let m = stands own-there in let l = between_in 1 (montage_channels o s q) j t in (omega (arith, m.0, m.1.inside, montage-many), l.0, l.1)
+    module _ {p : ℕ} (at : q.montage ≡ Some p) (t : R.between 1 (montage_channels o s q) j ≡ true) where
+      pub montage-roomy : (p + 32 + 256 * montage_channels o s q ≤ length s) × (1 ≤ j) × (j ≤ montage_channels o s q)
+      montage-roomy = let m = stands at in let l = between_in 1 (montage_channels o s q) j t in (omega (arith, m.0, m.1.inside, montage-many), l.0, l.1)
 
-      pub montage-told : (w : Wired) → WiredAt o s (q.montage + 32 + 256 * (j - 1)) w → value w ≡ montage_of s i j
+      pub montage-told : (w : Wired) → WiredAt o s (p + 32 + 256 * (j - 1)) w → value w ≡ montage_of s i j
       montage-told w told =
           let y = numbered-some r.this.recording.montage j (rw montage-many at t) in there y.1 (montage-seen s h.bytes chosen.judged i r h.is j y.1)
         where
           there : {c : R.Channel} → numbered r.this.recording.montage j ≡ value c → ChannelSeen (R.montage_sub (length r.this.recording.channels)) s (wired_at r j) j c → value w ≡ montage_of s i j
           there {c} nth x =
-              let e : q.montage + 32 + 256 * (j - 1) ≡ wired_at r j = omega (arith, (stands own-there).0) in
+              let e : p + 32 + 256 * (j - 1) ≡ wired_at r j = omega (arith, (stands at).0) in
               rw (h.is, nth) (ap value (told (R.montage_sub (length r.this.recording.channels)) x.room j c x.end refl refl (rw (e, h.order) x.seen) ∙ ap (wired_of c) e))
 
 -- A clock

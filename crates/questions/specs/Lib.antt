@@ -1,6 +1,5 @@
 pub mod Values
 pub mod Questions
-pub mod Meanings
 pub mod Holding
 pub mod Promised
 pub mod Tied

@@ -4,7 +4,7 @@ ghost use Rattle.questions.specs.Values.{some_nan, floats_of, calibration_at, Fi
 ghost use Rattle.questions.specs.Holding.{MontageInside, montage_channels};
 
 use descriptions::Places;
-use rules::{Channel, Channels, Electrode, Head, Refusal};
+use rules::{Channel, Channels, Electrode, Head};
 use words::{Order, int4, is_nan, number4};
 
 // A text of the file: its first byte, and how many bytes it has.
@@ -40,30 +40,12 @@ pub struct Descriptor {
     pub comment: Text,
 }
 
-#[derive(Clone, Copy)]
-pub enum ChannelTold {
-    Channel(Descriptor),
-    Refused(Refusal),
-}
-
 // A montage's channel, with its inputs.
 #[derive(Clone, Copy)]
 pub struct Wired {
     pub channel: Descriptor,
     pub g1: i32,
     pub g2: i32,
-}
-
-#[derive(Clone, Copy)]
-pub enum MontageTold {
-    Channel(Wired),
-    Refused(Refusal),
-}
-
-#[derive(Clone, Copy)]
-pub enum MontageCountTold {
-    Channels(u32),
-    Refused(Refusal),
 }
 
 // Whether one of the four is a NaN's pattern.
@@ -179,8 +161,8 @@ pub fn montage_channels(o: Order, s: &[u8], q: Places) -> u32
     requires { MontageInside q (length s.now) }
     ensures { result ≡ montage_channels o s.now q }
 {
-    if q.has_montage {
-        return number4(o, s, q.montage + Channels::COUNT);
-    }
-    0
+    let Some(montage) = q.montage else {
+        return 0;
+    };
+    number4(o, s, montage + Channels::COUNT)
 }

@@ -1,5 +1,5 @@
 // What the file header says.
-use rules::{Refusal, Spelling};
+use rules::Spelling;
 use words::Order;
 
 // The version and the form are the numbers of their digits; the script is its letter.
@@ -11,10 +11,4 @@ pub struct Header {
     pub order: Order,
     pub script: u32,
     pub recordings: u32,
-}
-
-#[derive(Clone, Copy)]
-pub enum HeaderTold {
-    Header(Header),
-    Refused(Refusal),
 }

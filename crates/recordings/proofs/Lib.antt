@@ -1,3 +1,4 @@
 pub mod Chosen
 pub mod Standing
 pub mod Reach
+pub mod Answers

@@ -1,10 +1,17 @@
 -- What a question is answered: values, or a refusal and its position.
 -- Assumes nothing.
-use Rattle.std.specs.Prelude.{List, [], ◌∷◌, ℕ, zero, suc}
+use Rattle.std.specs.Prelude.{Result, Ok, Err, List, [], ◌∷◌, ℕ, zero, suc}
+use Rattle.rules.specs.declared.Refusal.{Refusal}
+use Rattle.rules.specs.Reasons.{number_of}
 
 pub data Answer (A : Type 0) : Type 0 where
   value : A → Answer A
   refusal : ℕ → ℕ → Answer A
+
+-- what the code's answer says
+abbrev pub meaning : {A : Type 0} → Result A Refusal → Answer A
+meaning (Ok x) = value x
+meaning (Err r) = refusal (number_of r.0) r.1
 
 -- one question after the other: the first refusal is handed up
 infixl 10 ◌>>=◌

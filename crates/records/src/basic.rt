@@ -7,7 +7,7 @@ ghost use Rattle.records.specs.Says.{basic_of, basiced, resumed, counts_tested, 
 
 use crate::kinds::open;
 use crate::{between, field};
-use dates::{DateJudged, judge_date};
+use dates::{WrongDate, judge_date};
 use rules::{Basic, Channels, Head, Kind, Reason, Refusal};
 use words::Order;
 
@@ -47,12 +47,11 @@ fn date_ok(o: Order, s: &[u8], at: usize) -> Result<(), Refusal>
     let year = field(o, s, Basic::YEAR);
     let month = field(o, s, Basic::MONTH);
     let day = field(o, s, Basic::DAY);
-    let judged = judge_date(year, month, day);
-    match judged {
-        DateJudged::Fine => Ok(()),
-        DateJudged::WrongYear => Err(Refusal(Reason::Value, at + Basic::YEAR)),
-        DateJudged::WrongMonth => Err(Refusal(Reason::Value, at + Basic::MONTH)),
-        DateJudged::WrongDay => Err(Refusal(Reason::Value, at + Basic::DAY)),
+    match judge_date(year, month, day) {
+        Ok(()) => Ok(()),
+        Err(WrongDate::Year) => Err(Refusal(Reason::Value, at + Basic::YEAR)),
+        Err(WrongDate::Month) => Err(Refusal(Reason::Value, at + Basic::MONTH)),
+        Err(WrongDate::Day) => Err(Refusal(Reason::Value, at + Basic::DAY)),
     }
 }
 

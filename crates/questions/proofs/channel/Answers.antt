@@ -1,5 +1,7 @@
 -- `questions::channel` meets its contract: from the recording found, by the laws of Replies.
 -- Assumes nothing.
+use Rattle.std.proofs.Common.{Ok}
+use Rattle.rules.proofs.Handed.{handed}
 use mathlib.Core.Path.{◌≡◌, sym, ◌∙◌}
 use mathlib.Core.Bool.{true}
 use Prim.Native.Nat.{◌≤◌}
@@ -9,34 +11,33 @@ use Rattle.rules.specs.Rules as R
 use Rattle.records.proofs.Facts.{between_in}
 use Rattle.records.specs.Says.{subs_at, ChannelsIn}
 use Rattle.recordings.specs.Found.{RecordingFoundAs}
-use Rattle.recordings.specs.declared.RecordingFound.TheVariants as RecordingFound
 use Rattle.questions.proofs.Replies.{channel-refused, channel-outside, channel-told}
 use Rattle.questions.proofs.channel.Goals as goal
 use Rattle.questions.proofs.channel.Goals.{After-struct_known-1, After-within, Else-not-within}
 
 -- the recording found
-known : (x : After-within) → RecordingFoundAs x.args.file.now x.args.recording (RecordingFound.At x.in-At.order x.in-At.q)
-known x = rw x.in-At.is at x.recording_asked-found.ensures
+known : (x : After-within) → RecordingFoundAs x.args.file.now x.args.recording (Ok (x.in_ok-order.order, x.in_ok-order.q))
+known x = x.in_ok-order.ensures
 
 -- the channel's number is inside its range
 ranged : (c : Else-not-within) →
-    R.between 1 c.in-At.q.count c.args.channel ≡ true
+    R.between 1 c.in_ok-order.q.count c.args.channel ≡ true
 ranged c = sym c.within.ensures ∙ c.if-not-within.false
 
 -- the channels have room in the file, and the one asked for is among them
 roomy : (c : After-struct_known-1) →
     let x = c in
     let z = x in
-    ChannelsIn (length z.args.file.now) (subs_at x.in-At.q.channels x.in-At.q.count) × (1 ≤ z.args.channel) × (z.args.channel ≤ x.in-At.q.count)
+    ChannelsIn (length z.args.file.now) (subs_at x.in_ok-order.q.channels x.in_ok-order.q.count) × (1 ≤ z.args.channel) × (z.args.channel ≤ x.in_ok-order.q.count)
 roomy c =
     let y = known (goal.at.After-struct_known-1 c).After-within in
     let l = between_in _ _ _ (ranged (goal.at.After-struct_known-1 c).Else-not-within) in
     (y.1.owned.room, l.0, l.1)
 
-pub returns-in_default : goal.returns-in_default
-returns-in_default c =
-    let e = c.in_default.is in
-    rw (c.of_recording_found.ensures, e) (channel-refused _ _ _ (rw e at c.recording_asked-found.ensures))
+pub returns-in_err-order : goal.returns-in_err-order
+returns-in_err-order c =
+    rw (handed _ c.from_residual.ensures)
+    (channel-refused _ _ _ c.in_err-order.ensures)
 
 pub returns-then-not-within : goal.returns-then-not-within
 returns-then-not-within c =

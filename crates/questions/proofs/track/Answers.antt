@@ -1,14 +1,15 @@
 -- `questions::track` meets its contract: from the samples of the first frame, by the laws of Tracking.
 -- Assumes nothing.
+use Rattle.rules.proofs.Handed.{handed}
 use Rattle.samples.proofs.Tracking.{track-refused, track-told}
 use Rattle.questions.proofs.track.Goals as goal
 
-pub returns-in_default : goal.returns-in_default
-returns-in_default c =
-    let e = c.in_default.is in
-    rw (c.of_samples_found.ensures, e) (track-refused _ _ _ (rw e at c.samples_asked-ran.ensures))
+pub returns-in_err-order : goal.returns-in_err-order
+returns-in_err-order c =
+    rw (handed _ c.from_residual.ensures)
+    (track-refused _ _ _ c.in_err-order.ensures)
 
 pub returns : goal.returns
 returns c =
-    let y = rw c.in-At.is at c.samples_asked-ran.ensures in
+    let y = c.in_ok-order.ensures in
     rw c.track_of.ensures (track-told y.1)

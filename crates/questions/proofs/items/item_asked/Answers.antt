@@ -1,36 +1,33 @@
 -- `questions::items::item_asked` meets its contract: by the laws of Owners, what `item_in` says of the record at the place that `holding` gives. x: behind the recording found.
 -- Assumes nothing.
+use Rattle.std.proofs.Common.{Ok}
 use mathlib.Core.Path.{sym, ◌∙◌}
+use Rattle.rules.proofs.Handed.{handed, lacked}
 use Rattle.recordings.specs.Found.{RecordingFoundAs}
-use Rattle.recordings.specs.declared.RecordingFound.TheVariants as RecordingFound
 use Rattle.questions.proofs.Owners.{asked-refused, asked-nothing, asked-inside, asked-item}
 use Rattle.questions.proofs.items.item_asked.Goals as goal
-use Rattle.questions.proofs.items.item_asked.Goals.{After-holding-held}
+use Rattle.questions.proofs.items.item_asked.Goals.{In_ok-order}
 
 -- the recording found
-known : (x : After-holding-held) → RecordingFoundAs x.args.file.now x.args.recording (RecordingFound.At x.in-At.order x.in-At.q)
-known x = rw x.in-At.is at x.recording_asked-found.ensures
+known : (x : In_ok-order) → RecordingFoundAs x.args.file.now x.args.recording (Ok (x.in_ok-order.order, x.in_ok-order.q))
+known x = x.in_ok-order.ensures
 
-pub returns-in_default : goal.returns-in_default
-returns-in_default c =
+pub returns-in_err-order : goal.returns-in_err-order
+returns-in_err-order c =
     let a = c.args in
-    simp (c.of_recording_found.ensures, c.in_default.is)
-    (asked-refused a.k a.file.now a.recording a.item (rw c.in_default.is at c.recording_asked-found.ensures))
+    rw (handed _ c.from_residual.ensures) (asked-refused a.k a.file.now a.recording a.item c.in_err-order.ensures)
+
+pub returns-in_err-at : goal.returns-in_err-at
+returns-in_err-at c =
+    let a = c.args in
+    let none = c.in_err-at.ensures.ok_part in
+    rw (lacked _ none c.in_err-at.ensures.value c.from_residual-in_err-at.ensures)
+    (asked-nothing (known (goal.at.returns-in_err-at c).In_ok-order).1 a.k a.item (sym c.holding.ensures ∙ none))
 
 pub item_in-requires : goal.item_in-requires
-item_in-requires c =
-    let a = c.args in
-    let f = known (goal.at.item_in-requires c).After-holding-held in
-    asked-inside f.1 a.k _ (sym c.holding-held.ensures ∙ c.in-At-held.is)
+item_in-requires c = asked-inside (known (goal.at.item_in-requires c).In_ok-order).1 c.args.k _ (sym c.holding.ensures ∙ c.in_ok-at.ensures.ok_part)
 
-pub returns-in-Nothing : goal.returns-in-Nothing
-returns-in-Nothing c =
+pub returns : goal.returns
+returns c =
     let a = c.args in
-    let f = known (goal.at.returns-in-Nothing c).After-holding-held in
-    asked-nothing f.1 a.k a.item (sym c.holding-held.ensures ∙ c.in-Nothing.is)
-
-pub returns-in-At-held : goal.returns-in-At-held
-returns-in-At-held c =
-    let a = c.args in
-    let f = known (goal.at.returns-in-At-held c).After-holding-held in
-    asked-item f.1 a.k _ a.item _ (sym c.holding-held.ensures ∙ c.in-At-held.is) c.item_in.ensures
+    asked-item (known (goal.at.returns c).In_ok-order).1 a.k _ a.item _ (sym c.holding.ensures ∙ c.in_ok-at.ensures.ok_part) c.item_in.ensures

@@ -27,5 +27,5 @@ loop-i-preserved c =
 pub returns : goal.returns
 returns c =
     let l = c.loop-i in
-    let z : l.i ≡ c.args.n = omega arith in
+    let z : l._i ≡ c.args.n = omega arith in
     record { inside = search rules; passed = rw z at l.invariant.2 }
