@@ -5,29 +5,22 @@ ghost use Rattle.std.specs.Prelude.{◌≡◌};
 ghost use Rattle.words.specs.Floats.{bits_of};
 ghost use Rattle.words.specs.Numbers.{letter_of};
 ghost use Rattle.words.specs.Values.{unsigned};
-ghost use Rattle.permit.specs.Permit.{meaning};
-ghost use Rattle.recordings.specs.Answers.{value, refusal};
-ghost use Rattle.codes.specs.Codes as Codes;
-ghost use Rattle.questions.specs.Meanings.{meaning_h, meaning_f, meaning_d, meaning_n, meaning_m, meaning_i, meaning_t, meaning_p, meaning_k, meaning_s};
-ghost use Rattle.index.specs.Index as Index;
-ghost use Rattle.runs.specs.Runs as Runs;
-ghost use Rattle.answers.specs.Flat.{counted, stopped, counted_bytes, headed, unheaded};
+ghost use Rattle.permit.specs.Permit as Permit;
+ghost use Rattle.rules.specs.Reasons.{number_of};
+ghost use Rattle.table.specs.Table as Table;
+ghost use Rattle.recordings.specs.Answers.{value, refusal, meaning};
+ghost use Rattle.answers.specs.Flat.{counted, stopped, counted_rows, counted_bytes, headed, unheaded};
 ghost use Rattle.answers.specs.Flat.{spelling_number, flat_heading, flat_facts, patterns_of, flat_channel, flat_montage};
 ghost use Rattle.answers.specs.Flat.{flat_item, flat_clock, flat_count, flat_place, flat_track, flat_part, flat_sample};
 ghost use Rattle.answers.specs.Flat.{kind_number, flat_kind};
 
-use codes::{EventKind, KindTold};
-use index::Indexed;
-use permit::Written;
-use questions::channels::{
-    Calibration, ChannelTold, Descriptor, MontageCountTold, MontageTold, Wired,
-};
-use questions::headers::{Header as HeaderValues, HeaderTold};
-use questions::items::ItemTold;
-use recordings::FactsTold;
+use codes::EventKind;
+use questions::channels::{Calibration, Descriptor, Wired};
+use questions::headers::Header as HeaderValues;
+use questions::items::Entry;
+use recordings::Counts;
 use rules::{FileHeader, Refusal, Spelling};
-use runs::Ran;
-use samples::{ClockTold, Cut, Number, PlaceTold, SampleTold, Track as TrackValues, TrackTold};
+use samples::{Cut, Number, Place as PlaceValues, Time, Track as TrackValues};
 use words::Order;
 
 // How many rows, bytes, samples or channels.
@@ -212,10 +205,10 @@ pub fn answered(count: usize) -> Counted
 }
 
 pub fn refused(r: Refusal) -> Counted
-    ensures { result ≡ stopped r.0 r.1 }
+    ensures { result ≡ stopped (number_of r.0) r.1 }
 {
     Counted {
-        refusal: r.0,
+        refusal: r.0.number(),
         position: r.1 as u64,
         count: 0,
     }
@@ -235,10 +228,10 @@ pub fn header_told(order: u32, h: FileHeader) -> Header
 }
 
 pub fn header_refused(r: Refusal) -> Header
-    ensures { result ≡ unheaded r.0 r.1 }
+    ensures { result ≡ unheaded (number_of r.0) r.1 }
 {
     Header {
-        refusal: r.0,
+        refusal: r.0.number(),
         position: r.1 as u64,
         order: 0,
         script: 0,
@@ -281,13 +274,13 @@ fn heading_told(x: HeaderValues) -> Heading
     }
 }
 
-pub fn heading_of(a: HeaderTold) -> Heading
-    ensures { result ≡ flat_heading (meaning_h a) }
+pub fn heading_of(a: Result<HeaderValues, Refusal>) -> Heading
+    ensures { result ≡ flat_heading (meaning a) }
 {
     match a {
-        HeaderTold::Header(x) => heading_told(x),
-        HeaderTold::Refused(r) => Heading {
-            refusal: r.0,
+        Ok(x) => heading_told(x),
+        Err(r) => Heading {
+            refusal: r.0.number(),
             position: r.1 as u64,
             spelling: 0,
             version: 0,
@@ -319,19 +312,19 @@ fn word(z: i32) -> u32
     4294967295 - ((-1 - z) as u32)
 }
 
-pub fn facts_of(a: FactsTold) -> Facts
-    ensures { result ≡ flat_facts (meaning_f a) }
+pub fn facts_of(a: Result<Counts, Refusal>) -> Facts
+    ensures { result ≡ flat_facts (meaning a) }
 {
     match a {
-        FactsTold::Facts(x) => Facts {
+        Ok(x) => Facts {
             refusal: 0,
             position: 0,
             channels: x.channels,
             frames: x.frames,
             seconds: x.seconds,
         },
-        FactsTold::Refused(r) => Facts {
-            refusal: r.0,
+        Err(r) => Facts {
+            refusal: r.0.number(),
             position: r.1 as u64,
             channels: 0,
             frames: 0,
@@ -400,10 +393,10 @@ fn channel_told(x: Descriptor) -> Channel
 }
 
 fn channel_refused(r: Refusal) -> Channel
-    ensures { result ≡ flat_channel (refusal r.0 r.1) }
+    ensures { result ≡ flat_channel (refusal (number_of r.0) r.1) }
 {
     Channel {
-        refusal: r.0,
+        refusal: r.0.number(),
         position: r.1 as u64,
         number: 0,
         flags: 0,
@@ -428,21 +421,21 @@ fn channel_refused(r: Refusal) -> Channel
     }
 }
 
-pub fn channel_of(a: ChannelTold) -> Channel
-    ensures { result ≡ flat_channel (meaning_d a) }
+pub fn channel_of(a: Result<Descriptor, Refusal>) -> Channel
+    ensures { result ≡ flat_channel (meaning a) }
 {
     match a {
-        ChannelTold::Channel(x) => channel_told(x),
-        ChannelTold::Refused(r) => channel_refused(r),
+        Ok(x) => channel_told(x),
+        Err(r) => channel_refused(r),
     }
 }
 
-pub fn montage_count_of(a: MontageCountTold) -> Counted
-    ensures { result ≡ flat_count (meaning_n a) }
+pub fn montage_count_of(a: Result<u32, Refusal>) -> Counted
+    ensures { result ≡ flat_count (meaning a) }
 {
     match a {
-        MontageCountTold::Channels(n) => answered(n as usize),
-        MontageCountTold::Refused(r) => refused(r),
+        Ok(n) => answered(n as usize),
+        Err(r) => refused(r),
     }
 }
 
@@ -457,12 +450,12 @@ fn montage_told(x: Wired) -> Montage
     }
 }
 
-pub fn montage_of(a: MontageTold) -> Montage
-    ensures { result ≡ flat_montage (meaning_m a) }
+pub fn montage_of(a: Result<Wired, Refusal>) -> Montage
+    ensures { result ≡ flat_montage (meaning a) }
 {
     match a {
-        MontageTold::Channel(x) => montage_told(x),
-        MontageTold::Refused(r) => Montage {
+        Ok(x) => montage_told(x),
+        Err(r) => Montage {
             channel: channel_refused(r),
             g1: 0,
             g2: 0,
@@ -470,19 +463,19 @@ pub fn montage_of(a: MontageTold) -> Montage
     }
 }
 
-pub fn item_of(a: ItemTold) -> Item
-    ensures { result ≡ flat_item (meaning_i a) }
+pub fn item_of(a: Result<Entry, Refusal>) -> Item
+    ensures { result ≡ flat_item (meaning a) }
 {
     match a {
-        ItemTold::Item(x) => Item {
+        Ok(x) => Item {
             refusal: 0,
             position: 0,
             code: x.code,
             text: x.text.at as u64,
             text_length: x.text.length as u64,
         },
-        ItemTold::Refused(r) => Item {
-            refusal: r.0,
+        Err(r) => Item {
+            refusal: r.0.number(),
             position: r.1 as u64,
             code: 0,
             text: 0,
@@ -491,19 +484,19 @@ pub fn item_of(a: ItemTold) -> Item
     }
 }
 
-pub fn clock_of(a: ClockTold) -> Clock
-    ensures { result ≡ flat_clock (meaning_t a) }
+pub fn clock_of(a: Result<Time, Refusal>) -> Clock
+    ensures { result ≡ flat_clock (meaning a) }
 {
     match a {
-        ClockTold::At(x) => Clock {
+        Ok(x) => Clock {
             refusal: 0,
             position: 0,
             hour: x.hour,
             minute: x.minute,
             second: x.second,
         },
-        ClockTold::Refused(r) => Clock {
-            refusal: r.0,
+        Err(r) => Clock {
+            refusal: r.0.number(),
             position: r.1 as u64,
             hour: 0,
             minute: 0,
@@ -512,28 +505,31 @@ pub fn clock_of(a: ClockTold) -> Clock
     }
 }
 
-pub fn written_of(a: Written) -> Counted
-    ensures { result ≡ counted_bytes (meaning a) }
+// How many rows, bytes, entries or samples were written.
+pub fn counted_of(a: Result<usize, Refusal>) -> Counted
+    ensures values { result ≡ flat_count (meaning a) }
+    ensures bytes { result ≡ counted_bytes (Permit.meaning a) }
+    ensures rows { result ≡ counted_rows (Table.meaning a) }
 {
     match a {
-        Written::Bytes(n) => answered(n),
-        Written::Refused(r) => refused(r),
+        Ok(n) => answered(n),
+        Err(r) => refused(r),
     }
 }
 
-pub fn place_of(a: PlaceTold) -> Place
-    ensures { result ≡ flat_place (meaning_p a) }
+pub fn place_of(a: Result<PlaceValues, Refusal>) -> Place
+    ensures { result ≡ flat_place (meaning a) }
 {
     match a {
-        PlaceTold::At(p) => Place {
+        Ok(p) => Place {
             refusal: 0,
             position: 0,
             start: p.position as u64,
             width: p.width as u64,
             count: p.count as u64,
         },
-        PlaceTold::Refused(r) => Place {
-            refusal: r.0,
+        Err(r) => Place {
+            refusal: r.0.number(),
             position: r.1 as u64,
             start: 0,
             width: 0,
@@ -560,13 +556,13 @@ fn track_told(x: TrackValues) -> Track
     }
 }
 
-pub fn track_of(a: TrackTold) -> Track
-    ensures { result ≡ flat_track (meaning_k a) }
+pub fn track_of(a: Result<TrackValues, Refusal>) -> Track
+    ensures { result ≡ flat_track (meaning a) }
 {
     match a {
-        TrackTold::At(x) => track_told(x),
-        TrackTold::Refused(r) => Track {
-            refusal: r.0,
+        Ok(x) => track_told(x),
+        Err(r) => Track {
+            refusal: r.0.number(),
             position: r.1 as u64,
             order: 0,
             format: 0,
@@ -586,24 +582,6 @@ pub fn part_of(p: Cut) -> Part
     Part {
         start: p.start as u64,
         length: p.length as u64,
-    }
-}
-
-pub fn index_of(a: Indexed) -> Counted
-    ensures { result ≡ flat_count (Index.meaning a) }
-{
-    match a {
-        Indexed::Entries(n) => answered(n),
-        Indexed::Refused(r) => refused(r),
-    }
-}
-
-pub fn run_of(a: Ran) -> Counted
-    ensures { result ≡ flat_count (Runs.meaning a) }
-{
-    match a {
-        Ran::Numbers(n) => answered(n),
-        Ran::Refused(r) => refused(r),
     }
 }
 
@@ -635,13 +613,13 @@ fn sample_told(x: Number) -> Sample
     }
 }
 
-pub fn sample_of(a: SampleTold) -> Sample
-    ensures { result ≡ flat_sample (meaning_s a) }
+pub fn sample_of(a: Result<Number, Refusal>) -> Sample
+    ensures { result ≡ flat_sample (meaning a) }
 {
     match a {
-        SampleTold::Value(x) => sample_told(x),
-        SampleTold::Refused(r) => Sample {
-            refusal: r.0,
+        Ok(x) => sample_told(x),
+        Err(r) => Sample {
+            refusal: r.0.number(),
             position: r.1 as u64,
             is_float: 0,
             value: 0,
@@ -672,17 +650,17 @@ fn kind_number(kind: EventKind) -> u32
     }
 }
 
-pub fn kind_of(a: KindTold) -> Kind
-    ensures { result ≡ flat_kind (Codes.meaning a) }
+pub fn kind_of(a: Result<EventKind, Refusal>) -> Kind
+    ensures { result ≡ flat_kind (meaning a) }
 {
     match a {
-        KindTold::Kind(k) => Kind {
+        Ok(k) => Kind {
             refusal: 0,
             position: 0,
             kind: kind_number(k),
         },
-        KindTold::Refused(r) => Kind {
-            refusal: r.0,
+        Err(r) => Kind {
+            refusal: r.0.number(),
             position: r.1 as u64,
             kind: 0,
         },

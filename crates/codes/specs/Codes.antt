@@ -1,10 +1,10 @@
 -- What an event's code stands for: a kind that the standard publishes (000, A-5-2), a user's own, or reserved (document 02, request 7).
 -- Assumes nothing.
-use Rattle.std.specs.Prelude.{◌≡◌, List, [], ◌∷◌, ℕ, ◌/◌, ◌%◌, leb, eqb}
+use Rattle.rules.specs.declared.Refusal.{Refusal}
+use Rattle.std.specs.Prelude.{Result, ◌≡◌, List, [], ◌∷◌, ℕ, ◌/◌, ◌%◌, leb, eqb}
 use Rattle.walk.specs.Walk.{pick}
-use Rattle.recordings.specs.Answers.{Answer, value, refusal, outside, indexed}
+use Rattle.recordings.specs.Answers.{Answer, value, outside, indexed, meaning}
 use Rattle.codes.specs.declared.EventKind.{EventKind}
-use Rattle.codes.specs.declared.KindTold.{KindTold}
 
 -- a published code, and its kind
 pub record Published : Type 0 where
@@ -49,11 +49,7 @@ kind_of c = kind_in published (unpublished c) c
 abbrev pub kind_told : ℕ → Answer EventKind
 kind_told c = pick (leb c 65535) (value (kind_of c)) outside
 
-abbrev pub meaning : KindTold → Answer EventKind
-meaning (KindTold.Kind k) = value k
-meaning (KindTold.Refused r) = refusal r.0 r.1
-
-abbrev pub KindAnswer : ℕ → KindTold → Type 0
+abbrev pub KindAnswer : ℕ → Result EventKind Refusal → Type 0
 KindAnswer c a = meaning a ≡ kind_told c
 
 -- The same without a search

@@ -4,7 +4,7 @@
 ghost use Rattle.std.specs.Prelude.{◌≡◌};
 ghost use Rattle.codes.specs.Codes.{kind_of, KindAnswer};
 
-use rules::Refusal;
+use rules::{Reason, Refusal};
 
 // The kinds that the standard publishes, in its order; then a user's own, and reserved for all other codes.
 #[derive(Clone, Copy, Debug, PartialEq, Eq)]
@@ -24,12 +24,6 @@ pub enum EventKind {
     MeasurementResumed,
     User,
     Reserved,
-}
-
-#[derive(Clone, Copy)]
-pub enum KindTold {
-    Kind(EventKind),
-    Refused(Refusal),
 }
 
 // The largest code: it has 16 bits.
@@ -62,11 +56,11 @@ fn kind_by_standard(code: u64) -> EventKind
     }
 }
 
-pub fn event_kind(code: u64) -> KindTold
+pub fn event_kind(code: u64) -> Result<EventKind, Refusal>
     ensures { KindAnswer code result }
 {
     if MOST < code {
-        return KindTold::Refused(Refusal(19, 0));
+        return Err(Refusal(Reason::Range, 0));
     }
-    KindTold::Kind(kind_by_standard(code))
+    Ok(kind_by_standard(code))
 }

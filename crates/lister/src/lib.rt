@@ -9,7 +9,6 @@ ghost use Rattle.std.specs.Prelude.{◌<◌, ◌≡◌, nat_abs, min, IfOk, ℕ,
 ghost use Rattle.lister.specs.Listing.{line_at, lines_in, refusal_line, listing_of, printed_of};
 
 use std::io::{self, Read, Write};
-use table::Listed;
 
 // The longest file that is listed. It has at most 2,048 records, of four numbers each.
 const MOST: usize = 32768;
@@ -90,10 +89,9 @@ pub fn print_listing<W: Write>(to: &mut W, file: &[u8]) -> io::Result<()>
     ensures { OnOk result (Appends (W.contents to.old) (W.contents to.new) (listing_of file.now)) }
 {
     let mut out = [0i64; 8192];
-    let listed = table::table(file, &mut out);
-    match listed {
-        Listed::Rows(n) => print_rows(to, &out, n),
-        Listed::Refused(r) => print_refusal(to, r.0 as u64, r.1 as u64),
+    match table::table(file, &mut out) {
+        Ok(n) => print_rows(to, &out, n),
+        Err(r) => print_refusal(to, r.0.number() as u64, r.1 as u64),
     }
 }
 
