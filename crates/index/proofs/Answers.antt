@@ -1,5 +1,8 @@
 -- The answer of `index` is the one that the rules fix for the file and the buffer; and only one answer and one buffer meet its contract.
 -- Assumes nothing.
+use Rattle.std.proofs.Common.{Result, Ok, Err}
+use Rattle.rules.specs.declared.Refusal.{Refusal}
+use Rattle.rules.specs.declared.Reason.TheVariants as Reason
 use mathlib.Core.Path.{◌≡◌, refl, sym, ap, ◌∙◌}
 use mathlib.Core.Bool.{true, false}
 use mathlib.Core.List.{List}
@@ -14,15 +17,16 @@ use Rattle.walk.proofs.Apart.{false-true}
 use Rattle.walk.proofs.Unique.{one}
 use Rattle.rules.specs.Rules as R
 use Rattle.rules.specs.declared.FileHeader.{FileHeader}
+use Rattle.rules.specs.Reasons.{number_of, refusal_of}
+use Rattle.rules.proofs.Reasons.{refusal-is}
 use Rattle.judge.specs.Judged.{AcceptedAs}
 use Rattle.recordings.specs.Answers.{Answer, value, refusal}
 use Rattle.index.specs.Events.{Entry, entries}
 use Rattle.index.specs.Index.{meaning, numbers, entries_of, Indexes}
-use Rattle.index.specs.declared.Indexed.{Indexed}
 
 -- a file that is refused
-pub indexes-refused : (s : List ℕ) (out : List ℤ) {n p : ℕ} → R.judge s ≡ refused n p → Indexes s out out (Indexed.Refused (record { 0 = n; 1 = p }))
-indexes-refused s out h = record { answer = rw h; buffer = rw h }
+pub indexes-refused : (s : List ℕ) (out : List ℤ) (r : Refusal) → R.judge s ≡ refused (number_of r.0) r.1 → Indexes s out out (Err r)
+indexes-refused s out r h = record { answer = rw h; buffer = rw h }
 
 -- a file that is accepted
 module _ (s : List ℕ) (h : FileHeader) (x : AcceptedAs s h) (out out₁ : List ℤ) (need : ℕ) (first : Wrote numbers 5 false out out₁ 0 need (entries_of s (R.judge s))) where
@@ -40,13 +44,13 @@ module _ (s : List ℕ) (h : FileHeader) (x : AcceptedAs s h) (out out₁ : List
   unfolding written
   leaves = listed.holds false-true
 
-  pub indexes-short : length out₁ < need → Indexes s out out₁ (Indexed.Refused (record { 0 = 17; 1 = need }))
+  pub indexes-short : length out₁ < need → Indexes s out out₁ (Err (record { 0 = Reason.Room; 1 = need }))
   indexes-short l =
       let i : length out₁ ≡ length out = ap length leaves in
       let e = lt-leb (5 * length es) (length out) (omega (arith, needs)) in
       record { answer = rw (x.judged, e, needs); buffer = rw (x.judged, e, leaves) }
 
-  pub indexes-entries : (out₂ : List ℤ) (n : ℕ) → need ≤ length out₁ → Wrote numbers 5 true out₁ out₂ 0 n (entries_of s (R.judge s)) → Indexes s out out₂ (Indexed.Entries (n / 5))
+  pub indexes-entries : (out₂ : List ℤ) (n : ℕ) → need ≤ length out₁ → Wrote numbers 5 true out₁ out₂ 0 n (entries_of s (R.judge s)) → Indexes s out out₂ (Ok (n / 5))
   indexes-entries out₂ n l second =
       let i : length out₁ ≡ length out = ap length leaves in
       let e = le-leb (5 * length es) (length out) (omega (arith, needs)) in
@@ -56,14 +60,14 @@ module _ (s : List ℕ) (h : FileHeader) (x : AcceptedAs s h) (out out₁ : List
       record { answer = rw (x.judged, e, d); buffer = rw (x.judged, e, b, leaves) }
 
 -- an answer of the code, from what it means
-abbrev again : Answer ℕ → Indexed
-again (value n) = Indexed.Entries n
-again (refusal n p) = Indexed.Refused (record { 0 = n; 1 = p })
+abbrev again : Answer ℕ → Result ℕ Refusal
+again (value n) = Ok n
+again (refusal n p) = Err (refusal_of n p)
 
-back : (a : Indexed) → again (meaning a) ≡ a
-back (Indexed.Entries n) = refl
-back (Indexed.Refused r) = refl
+back : (a : Result ℕ Refusal) → again (meaning a) ≡ a
+back (Ok n) = refl
+back (Err r) = ap Err (sym (refusal-is r refl refl))
 
 -- one answer and one buffer for every file and every buffer
-pub index-unique : (s : List ℕ) (out out₁ out₂ : List ℤ) (a b : Indexed) → Indexes s out out₁ a → Indexes s out out₂ b → (a ≡ b) × (out₁ ≡ out₂)
+pub index-unique : (s : List ℕ) (out out₁ out₂ : List ℤ) (a b : Result ℕ Refusal) → Indexes s out out₁ a → Indexes s out out₂ b → (a ≡ b) × (out₁ ≡ out₂)
 index-unique s out out₁ out₂ a b x y = (one meaning again back x.answer y.answer, x.buffer ∙ sym y.buffer)

@@ -124,15 +124,17 @@ module _ {o : Order} {s : List ℕ} {q : Places} {x : Spot} {c at k : ℕ} (a : 
 
 -- The channels of a frame
 
--- those before channel c are listed, and its samples stand at byte `at`
-pub record Channeled (o : Order) (s : List ℕ) (q : Places) (e : Stretch) (i j : ℕ) (w : Bool) (out out₁ : List ℤ) (k k₁ c at : ℕ) : Type 0 where
-  pub ahead : FrameAhead o s q e i j k
+-- those before channel c are listed, and its samples stand at byte `at`; the stretch ends before channel `end`
+pub record Channeled (o : Order) (s : List ℕ) (q : Places) (end i j : ℕ) (w : Bool) (out out₁ : List ℤ) (k k₁ c at : ℕ) : Type 0 where
+  pub stretch : Stretch
+  pub ends : stretch.end ≡ end
+  pub ahead : FrameAhead o s q stretch i j k
   pub few : c ≤ q.count
   pub place : at ≡ frame_from q j + (24 + sample_bytes q.seconds (take c ahead.frame.of.this.recording.channels))
   pub wrote : Wrote numbers 5 w out out₁ k k₁ (each_of (channel_entries s i j) 0 (take c ahead.frame.of.this.recording.channels))
 
-module _ {o : Order} {s : List ℕ} {q : Places} {e : Stretch} {i j k : ℕ} where
-  module _ (a : FrameAhead o s q e i j k) where
+module _ {o : Order} {s : List ℕ} {q : Places} {i j k : ℕ} where
+  module _ {e : Stretch} (a : FrameAhead o s q e i j k) where
     abbrev cs : List R.Channel
     cs = a.frame.of.this.recording.channels
 
@@ -157,27 +159,29 @@ module _ {o : Order} {s : List ℕ} {q : Places} {e : Stretch} {i j k : ℕ} whe
     pub frame-first : 1 ≤ j
     frame-first = (frame-of s a.stands.found.bytes i j a.stands.is).first
 
-    pub channeled-start : (w : Bool) (out : List ℤ) (at : ℕ) → at ≡ frame_from q j + 24 + e.before → Channeled o s q e i j w out out k k e.first at
+    pub channeled-start : (w : Bool) (out : List ℤ) (at : ℕ) → at ≡ frame_from q j + 24 + e.before → Channeled o s q e.end i j w out out k k e.first at
     unfolding each_of
     channeled-start w out at h =
         let z : 0 + e.first ≡ e.first = omega arith in
         record {
+          stretch = e;
+          ends = refl;
           ahead = a;
           few = a.stretch.first.inside;
           place = omega (arith, h, before-is);
           wrote = rw (ap (λ (n : ℕ). each_of (channel_entries s i j) 0 (take n cs)) (sym z) ∙ silent 0 e.first (omega (arith, a.stretch.first.inside)) (λ c u v. a.stretch.first.quiet c u (omega arith))) (wrote_nothing numbers 5 (λ _. refl) w out k);
         }
 
-  module _ {w : Bool} {out out₁ : List ℤ} {k₁ c at : ℕ} (t : Channeled o s q e i j w out out₁ k k₁ c at) where
+  module _ {end : ℕ} {w : Bool} {out out₁ : List ℤ} {k₁ c at : ℕ} (t : Channeled o s q end i j w out out₁ k k₁ c at) where
     abbrev all : List R.Channel
     all = t.ahead.frame.of.this.recording.channels
 
     -- the next channel
-    pub channeled-ahead : c < e.end → (x : Spot) → x.recording ≡ i → x.frame ≡ j → x.channel ≡ c + 1 → ChannelAhead o s q x c at k₁
+    pub channeled-ahead : c < end → (x : Spot) → x.recording ≡ i → x.frame ≡ j → x.channel ≡ c + 1 → ChannelAhead o s q x c at k₁
     channeled-ahead l x e₁ e₂ e₃ = record {
       frame = t.ahead.frame;
       stands = rw (e₁, e₂) t.ahead.stands;
-      inside = omega (arith, l, t.ahead.stretch.end.inside);
+      inside = omega (arith, l, t.ends, t.ahead.stretch.end.inside);
       channel = e₃ ∙ omega arith;
       place = rw e₂ t.place;
       room = λ y g.
@@ -187,23 +191,25 @@ module _ {o : Order} {s : List ℕ} {q : Places} {e : Stretch} {i j k : ℕ} whe
           omega (arith, t.ahead.room, few, same, most, t.wrote.next, bytes-before q.seconds c all g);
     }
 
-    pub channeled-more : {out₂ : List ℤ} (x : Spot) → x.recording ≡ i → x.frame ≡ j → c < e.end → (p : Passed) → ChannelListed s x c at w out₁ out₂ k₁ p → Channeled o s q e i j w out out₂ k p.k (c + 1) p.at
+    pub channeled-more : {out₂ : List ℤ} (x : Spot) → x.recording ≡ i → x.frame ≡ j → c < end → (p : Passed) → ChannelListed s x c at w out₁ out₂ k₁ p → Channeled o s q end i j w out out₂ k p.k (c + 1) p.at
     channeled-more {out₂} x e₁ e₂ l p h =
-        let y = some_one all c (omega (arith, l, t.ahead.stretch.end.inside, count t.ahead)) in
+        let y = some_one all c (omega (arith, l, t.ends, t.ahead.stretch.end.inside, count t.ahead)) in
         let d : c + 1 ≡ suc c = omega arith in
         let is : recording_of s x.recording ≡ value t.ahead.frame.of = rw e₁ t.ahead.stands.found.is in
         let b = h.behind t.ahead.frame.of y.0 is y.1 in
         let wrote : Wrote numbers 5 w out₁ out₂ k₁ p.k (channel_entries s i j (suc c) y.0) = rw (e₁, e₂) at (h.wrote t.ahead.frame.of y.0 is y.1) in
         let more = each_more (channel_entries s i j) 0 c all y.1 in
         record {
+          stretch = t.stretch;
+          ends = t.ends;
           ahead = t.ahead;
-          few = omega (arith, l, t.ahead.stretch.end.inside);
+          few = omega (arith, l, t.ends, t.ahead.stretch.end.inside);
           place = rw d (omega (arith, b, t.place, bytes-more q.seconds c all y.1, ap (λ (n : ℕ). samples_in n y.0 * width y.0.format) (seconds-same t.ahead.stands)));
           wrote = rw (d, more, zero-add c) (wrote-join numbers 5 (λ _. refl) w out out₁ out₂ k k₁ p.k _ _ t.wrote wrote);
         }
 
-    pub channeled-all : e.end ≤ c → Wrote numbers 5 w out out₁ k k₁ (of_frame s i j (recording_of s i))
+    pub channeled-all : end ≤ c → Wrote numbers 5 w out out₁ k k₁ (of_frame s i j (recording_of s i))
     channeled-all l =
         let whole : take (c + (q.count - c)) all ≡ all = take_all (c + (q.count - c)) all (omega (arith, t.few, count t.ahead)) in
-        let h = silent t.ahead c (q.count - c) (omega (arith, t.few)) (λ y u v. t.ahead.stretch.end.quiet y (omega arith) (omega (arith, t.few))) in
+        let h = silent t.ahead c (q.count - c) (omega (arith, t.few)) (λ y u v. t.ahead.stretch.end.quiet y (omega (arith, t.ends)) (omega (arith, t.few))) in
         rw (t.ahead.stands.found.is, ap (λ (l : List R.Channel). each_of (channel_entries s i j) 0 l) (sym whole) ∙ h) t.wrote

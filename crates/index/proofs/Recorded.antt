@@ -1,5 +1,7 @@
 -- The loops over the frames of a recording, and over the recordings of a file.
 -- Assumes nothing.
+use Rattle.std.proofs.Common.{Result, Ok, Err, Option, Some, None}
+use Rattle.rules.specs.declared.Refusal.{Refusal}
 use mathlib.Core.Path.{◌≡◌, refl, sym, ap, ◌∙◌}
 use mathlib.Core.Bool.{Bool, true, false}
 use mathlib.Core.List.{List, [], ◌∷◌}
@@ -22,10 +24,8 @@ use Rattle.rules.proofs.Canon.{readings, file-ok}
 use Rattle.rules.proofs.Turn.{accepted}
 use Rattle.records.proofs.Facts.{between_in}
 use Rattle.descriptions.specs.DescriptionsJudged.{HeldWithin}
-use Rattle.descriptions.specs.declared.Before.{Before}
 use Rattle.descriptions.specs.declared.Places.{Places}
 use Rattle.judge.specs.Recorded.{RecordingAgain}
-use Rattle.judge.specs.declared.recording.Recorded.{Recorded}
 use Rattle.recordings.specs.Answers.{value, indexed}
 use Rattle.recordings.specs.Found.{FoundIn}
 use Rattle.recordings.specs.Recordings.{Chosen, recording_of}
@@ -121,7 +121,7 @@ module _ {o : Order} {s : List ℕ} {q : Places} {i : ℕ} {w : Bool} {out : Lis
 -- The recordings of a file
 
 -- i of them are listed, and the code has the last of them
-pub record Filed (o : Order) (label : Label) (s : List ℕ) (count : ℕ) (w : Bool) (out out₁ : List ℤ) (k p i : ℕ) (before : Before) : Type 0 where
+pub record Filed (o : Order) (label : Label) (s : List ℕ) (count : ℕ) (w : Bool) (out out₁ : List ℤ) (k p i : ℕ) (before : Option Places) : Type 0 where
   pub ahead : FileAhead o label s count
   pub few : i ≤ count
   pub inside : p ≤ length s
@@ -130,7 +130,7 @@ pub record Filed (o : Order) (label : Label) (s : List ℕ) (count : ℕ) (w : B
   pub wrote : Wrote numbers 5 w out out₁ 0 k (each_of (recording_entries s) 0 (take i (readings ahead.accepted.file.recordings)))
 
 module _ {o : Order} {label : Label} {s : List ℕ} {count : ℕ} {w : Bool} {out : List ℤ} where
-  pub filed-start : 32 ≤ length s → FileAhead o label s count → Filed o label s count w out out 0 32 0 Before.Nothing
+  pub filed-start : 32 ≤ length s → FileAhead o label s count → Filed o label s count w out out 0 32 0 None
   unfolding each_of
   filed-start l a = record {
     ahead = a;
@@ -141,23 +141,23 @@ module _ {o : Order} {label : Label} {s : List ℕ} {count : ℕ} {w : Bool} {ou
     wrote = wrote_nothing numbers 5 (λ _. refl) w out 0;
   }
 
-  module _ {out₁ : List ℤ} {k p i : ℕ} {before : Before} (t : Filed o label s count w out out₁ k p i before) where
+  module _ {out₁ : List ℤ} {k p i : ℕ} {before : Option Places} (t : Filed o label s count w out out₁ k p i before) where
     abbrev file : R.File
     file = t.ahead.accepted.file
 
     abbrev rs : List R.Recording
     rs = readings file.recordings
 
-    module _ (b : Bytes s) (many : i < count) (a : Recorded) (again : RecordingAgain o label s p before a) where
+    module _ (b : Bytes s) (many : i < count) (a : Result Places Refusal) (again : RecordingAgain o label s p before a) where
       next : Met o label s t.ahead.header.count file.recordings (i + 1) a
       next = met before t.going (omega (arith, many, t.ahead.count)) t.inside (ok_of s b t.ahead.header t.ahead.accepted t.ahead.label) a again
 
       -- none is refused
-      pub filed-stop : {X : Type 0} {r : _} → a ≡ Recorded.Stop r → X
+      pub filed-stop : {X : Type 0} {r : _} → a ≡ Err r → X
       filed-stop e = absurd (rw e at next)
 
-      module _ {q : Places} (on : a ≡ Recorded.On q) where
-        on-next : Going o label s t.ahead.header.count file.recordings q.end (i + 1) (Before.These q)
+      module _ {q : Places} (on : a ≡ Ok q) where
+        on-next : Going o label s t.ahead.header.count file.recordings q.end (i + 1) (Some q)
         on-next = rw on at next
 
         found : (r : Chosen) × FoundIn s (i + 1) o q r
@@ -194,7 +194,7 @@ module _ {o : Order} {label : Label} {s : List ℕ} {count : ℕ} {w : Bool} {ou
               room = omega (arith, recording-small s b (i + 1) found.1.is, all, few, most.1, t.wrote.next, next_one.inside);
             }
 
-        pub filed-more : {out₂ : List ℤ} {k₂ : ℕ} → Wrote numbers 5 w out₁ out₂ k k₂ (of_recording s (i + 1) (recording_of s (i + 1))) → Filed o label s count w out out₂ k₂ q.end (i + 1) (Before.These q)
+        pub filed-more : {out₂ : List ℤ} {k₂ : ℕ} → Wrote numbers 5 w out₁ out₂ k k₂ (of_recording s (i + 1) (recording_of s (i + 1))) → Filed o label s count w out out₂ k₂ q.end (i + 1) (Some q)
         filed-more {out₂} {k₂} h =
             let u = rw on at again.continues in
             let e : i + 1 ≡ suc i = omega arith in

@@ -1,16 +1,18 @@
 -- The answer of `index` for a file and a buffer, and what the buffer holds afterwards, by the rules' outcome for the file.
 -- Assumes nothing.
+use Rattle.std.specs.Prelude.{Result, Ok, Err}
+use Rattle.rules.specs.declared.Refusal.{Refusal}
+use Rattle.rules.specs.Reasons.{number_of}
 use Rattle.std.specs.Prelude.{◌≡◌, true, List, [], ◌∷◌, ℕ, ◌*◌, leb, ℤ, pos, length}
 use Rattle.words.specs.Lent.{written}
 use Rattle.walk.specs.Walk.{pick, Outcome, refused, passed}
 use Rattle.rules.specs.Rules as R
 use Rattle.recordings.specs.Answers.{Answer, value, refusal}
 use Rattle.index.specs.Events.{Entry, entries}
-use Rattle.index.specs.declared.Indexed.{Indexed}
 
-abbrev pub meaning : Indexed → Answer ℕ
-meaning (Indexed.Entries n) = value n
-meaning (Indexed.Refused r) = refusal r.0 r.1
+abbrev pub meaning : Result ℕ Refusal → Answer ℕ
+meaning (Ok n) = value n
+meaning (Err r) = refusal (number_of r.0) r.1
 
 -- the five numbers of an entry
 abbrev pub numbers : Entry → List ℤ
@@ -44,7 +46,7 @@ abbrev pub afterwards : List ℕ → List ℤ → List ℤ
 afterwards s out = holding s (R.judge s) out
 
 -- what `index` does with the file s and a buffer
-pub record Indexes (s : List ℕ) (out out' : List ℤ) (a : Indexed) : Type 0 where
+pub record Indexes (s : List ℕ) (out out' : List ℤ) (a : Result ℕ Refusal) : Type 0 where
   -- the answer, and the buffer afterwards
   pub answer : meaning a ≡ answer_of s (length out)
   pub buffer : out' ≡ afterwards s out

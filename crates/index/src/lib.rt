@@ -13,20 +13,12 @@ ghost use Rattle.index.specs.Listing.{SubsIn, events_at, FirstEvents, BehindEven
 ghost use Rattle.index.specs.Listing.{of_frame, of_recording, ChannelAhead, ChannelListed, FrameAhead, RecordingAhead, FileAhead};
 
 use bulk::word_of_8;
-use descriptions::{Before, Places};
-use judge::Judged;
-use judge::recording::{Recorded, recording_again};
+use descriptions::Places;
+use judge::recording::recording_again;
 use records::channels::{sample_bytes, samples_in, width};
-use rules::{Channel, Channels, FileHeader, Frame, Frames, Label, Refusal};
+use rules::{Channel, Channels, FileHeader, Frame, Frames, Label, Reason, Refusal};
 use samples::{Place, part};
 use words::{Order, number2, number4};
-
-// How many entries, or the refusal.
-#[derive(Clone, Copy)]
-pub enum Indexed {
-    Entries(usize),
-    Refused(Refusal),
-}
 
 // A channel in a frame of a recording, each from 1.
 #[derive(Clone, Copy)]
@@ -125,14 +117,13 @@ fn repeated(o: Order, s: &[u8], n: usize, p: usize, code: u32) -> usize
     requires { Samples s.now n p code }
     ensures { Repeated o s.now n p code result }
 {
-    let mut i = same_eights(s, n, p, pair_of(o, code));
-    while i < n {
+    let start = same_eights(s, n, p, pair_of(o, code));
+    for i in start..n {
         if number2(o, s, 2 * i) != code {
             return i;
         }
-        i += 1;
     }
-    i
+    n
 }
 
 // The entries of n samples of a channel in a frame, behind a code.
@@ -177,14 +168,12 @@ fn first_events(o: Order, s: &[u8], subs: usize, m: u32) -> u32
     requires { SubsIn (length s.now) subs m }
     ensures { FirstEvents o s.now subs m result }
 {
-    let mut c: u32 = 0;
-    while c < m {
+    for c in 0..m {
         if events_at(o, s, subs + Channel::LENGTH * c as usize) {
             return c;
         }
-        c += 1;
     }
-    c
+    m
 }
 
 // The channel behind the last of them; 0 where there is none.
@@ -192,14 +181,12 @@ fn behind_events(o: Order, s: &[u8], subs: usize, m: u32) -> u32
     requires { SubsIn (length s.now) subs m }
     ensures { BehindEvents o s.now subs m result }
 {
-    let mut c = m;
-    while c > 0 {
-        if events_at(o, s, subs + Channel::LENGTH * (c - 1) as usize) {
-            return c;
+    for c in (0..m).rev() {
+        if events_at(o, s, subs + Channel::LENGTH * c as usize) {
+            return c + 1;
         }
-        c -= 1;
     }
-    c
+    0
 }
 
 // The code before n samples at byte `at` of a frame: the last that stands in the frame before, which is `size` bytes long, or 0 in the first.
@@ -270,8 +257,7 @@ fn frame_entries(
     let start = q.frames + Frames::FIRST + q.frame * (frame - 1) as usize;
     let mut at = start + Frame::SAMPLES + e.before;
     let mut next = k;
-    let mut c = e.first;
-    while c < e.end {
+    for c in e.first..e.end {
         let spot = Spot {
             recording,
             frame,
@@ -280,7 +266,6 @@ fn frame_entries(
         let passed = channel_entries(o, file, q, c, at, spot, out, next, write);
         at = passed.at;
         next = passed.k;
-        c += 1;
     }
     next
 }
@@ -308,10 +293,8 @@ fn recording_entries(
     let before = sample_bytes(o, file, subs, first, q.seconds);
     let e = Stretch { first, end, before };
     let mut next = k;
-    let mut j: u32 = 0;
-    while j < q.total {
+    for j in 0..q.total {
         next = frame_entries(o, file, q, e, recording, j + 1, out, next, write);
-        j += 1;
     }
     next
 }
@@ -330,36 +313,30 @@ fn file_entries(
         (entries_of file.now (R.judge file.now)) }
 {
     let mut at = FileHeader::LENGTH;
-    let mut before = Before::Nothing;
+    let mut before = None;
     let mut k = 0;
-    let mut i: u32 = 0;
-    while i < count {
-        let step = recording_again(o, label, file, at, before);
-        let Recorded::On(q) = step else {
+    for i in 0..count {
+        let Ok(q) = recording_again(o, label, file, at, before) else {
             return k;
         };
         k = recording_entries(o, file, q, i + 1, out, k, write);
         at = q.end;
-        before = Before::These(q);
-        i += 1;
+        before = Some(q);
     }
     k
 }
 
 // Judges the file, then writes its night events into `out`: recording, frame, channel, place in the frame and code of each.
-pub fn index(file: &[u8], out: &mut [i64]) -> Indexed
+pub fn index(file: &[u8], out: &mut [i64]) -> Result<usize, Refusal>
     ensures { Indexes file.now out.old out.new result }
 {
-    let judged = judge::judge(file);
-    let Judged::Accepted(h) = judged else {
-        return Indexed::Refused(judge::of_judged(judged));
-    };
+    let h = judge::judge(file)?;
     let o = h.order;
     let heading = h.heading;
     let label = heading.label;
     let need = file_entries(o, label, file, h.count, out, false);
     if out.len() < need {
-        return Indexed::Refused(Refusal(17, need));
+        return Err(Refusal(Reason::Room, need));
     }
-    Indexed::Entries(file_entries(o, label, file, h.count, out, true) / 5)
+    Ok(file_entries(o, label, file, h.count, out, true) / 5)
 }

@@ -1,6 +1,10 @@
 -- The answer of a run, and what the buffer holds: what was decoded of the run's bytes is its samples, once over the two calls; and one answer and one
 -- buffer.
 -- Assumes nothing.
+use Rattle.std.proofs.Common.{Result, Ok, Err}
+use Rattle.rules.specs.declared.Refusal.{Refusal}
+use Rattle.rules.specs.Reasons.{number_of, refusal_of}
+use Rattle.rules.proofs.Reasons.{refusal-is}
 use mathlib.Core.Path.{◌≡◌, refl, sym, ap, ◌∙◌}
 use mathlib.Core.Bool.{Bool, true, false}
 use mathlib.Core.List.{List, ◌++◌, map}
@@ -28,7 +32,6 @@ use Rattle.samples.proofs.Placing.{part-inside, bytes-many, values-many, values-
 use Rattle.decode.specs.Decoded.{Decoded, itself}
 use Rattle.runs.specs.Found.{FoundIn}
 use Rattle.runs.specs.Runs.{meaning, serves, Element, element_of, run_of, counted, holding, answer_of, RunAnswer}
-use Rattle.runs.specs.declared.Ran.{Ran}
 use Rattle.runs.specs.declared.Sibling.{Sibling}
 
 -- what each call makes of a word of w bytes
@@ -47,14 +50,14 @@ written Sibling.Whole format w n h = go (eqb format 4) refl
 written Sibling.Floats format w n h = rw h
 
 -- a run that is refused leaves the buffer as it was
-pub runs-refused : (b : Sibling) (s : List ℕ) (i j k first n : ℕ) (out : List (Element b)) {m p : ℕ} → answer_of b s i j k first n (length out) ≡ refusal m p → RunAnswer b s i j k first n out out (Ran.Refused (record { 0 = m; 1 = p }))
-runs-refused b s i j k first n out {m} {p} h = record { answer = sym h; buffer = go (run_of b s i j k first n) h }
+pub runs-refused : (b : Sibling) (s : List ℕ) (i j k first n : ℕ) (out : List (Element b)) (r : Refusal) → answer_of b s i j k first n (length out) ≡ refusal (number_of r.0) r.1 → RunAnswer b s i j k first n out out (Err r)
+runs-refused b s i j k first n out r h = record { answer = sym h; buffer = go (run_of b s i j k first n) h }
   where
-    go : (x : Answer (List Value)) → counted n (length out) x ≡ refusal m p → out ≡ holding b n x out
+    go : (x : Answer (List Value)) → counted n (length out) x ≡ refusal (number_of r.0) r.1 → out ≡ holding b n x out
     go (refusal u q) h = refl
     go (value vs) h = room_for (leb n (length out)) h
       where
-        room_for : (c : Bool) → pick c (value n) (refusal 17 n) ≡ refusal m p → out ≡ pick c (map (element_of b) vs ++ drop n out) out
+        room_for : (c : Bool) → pick c (value n) (refusal 17 n) ≡ refusal (number_of r.0) r.1 → out ≡ pick c (map (element_of b) vs ++ drop n out) out
         room_for true h = refusal-value (sym h)
         room_for false h = refl
 
@@ -101,7 +104,7 @@ module _ {b : Sibling} {s : List ℕ} {i j k first n space : ℕ} {o : Order} {f
         let l : length bytes ≡ w * n = ap length cut ∙ (bytes-many s p ∙ (ap (λ (q : Cut). q.length) (part-inside (length s) p inside) ∙ rw (wide, many))) in
         l ∙ rw (first-long, is) (mul_comm w n)
 
-    pub runs-told : (x : Value) (d' : List (Element b)) → Decoded (element_of b x) (means b v) o v bytes (take n out) d' → RunAnswer b s i j k first n out (d' ++ drop n out) (Ran.Numbers n)
+    pub runs-told : (x : Value) (d' : List (Element b)) → Decoded (element_of b x) (means b v) o v bytes (take n out) d' → RunAnswer b s i j k first n out (d' ++ drop n out) (Ok n)
     runs-told x d' g =
         let r = le-leb n (length out) (omega (arith, f.room)) in
         record { answer = rw (run_is, r); buffer = rw (run_is, r) (ap (λ (z : List (Element b)). z ++ drop n out) (decoded x (take n out) d' first-long (rw (is, cut) at g))) }
@@ -112,14 +115,14 @@ unfolding R.width
 floats-wide format h = rw (eqb-true format 4 h)
 
 -- an answer of the code, from what it means
-abbrev again : Answer ℕ → Ran
-again (value n) = Ran.Numbers n
-again (refusal n p) = Ran.Refused (record { 0 = n; 1 = p })
+abbrev again : Answer ℕ → Result ℕ Refusal
+again (value n) = Ok n
+again (refusal n p) = Err (refusal_of n p)
 
-back : (a : Ran) → again (meaning a) ≡ a
-back (Ran.Numbers n) = refl
-back (Ran.Refused r) = refl
+back : (a : Result ℕ Refusal) → again (meaning a) ≡ a
+back (Ok n) = refl
+back (Err r) = ap Err (sym (refusal-is r refl refl))
 
 -- one answer and one buffer for every file, run and buffer
-pub run-unique : (b : Sibling) (s : List ℕ) (i j k first n : ℕ) (out out₁ out₂ : List (Element b)) (a c : Ran) → RunAnswer b s i j k first n out out₁ a → RunAnswer b s i j k first n out out₂ c → (a ≡ c) × (out₁ ≡ out₂)
+pub run-unique : (b : Sibling) (s : List ℕ) (i j k first n : ℕ) (out out₁ out₂ : List (Element b)) (a c : Result ℕ Refusal) → RunAnswer b s i j k first n out out₁ a → RunAnswer b s i j k first n out out₂ c → (a ≡ c) × (out₁ ≡ out₂)
 run-unique b s i j k first n out out₁ out₂ a c x y = (one meaning again back x.answer y.answer, x.buffer ∙ sym y.buffer)

@@ -1,5 +1,7 @@
 -- What the functions say that find the run asked for.
 -- Assumes nothing.
+use Rattle.std.specs.Prelude.{Result, Ok, Err}
+use Rattle.rules.specs.Reasons.{number_of}
 use Rattle.std.specs.Prelude.{◌≡◌, true, List, ℕ, ◌+◌, ◌*◌, ◌≤◌, length}
 use Rattle.words.specs.declared.Order.{Order}
 use Rattle.rules.specs.Rules as R
@@ -9,12 +11,7 @@ use Rattle.samples.specs.Frames.{format_of}
 use Rattle.samples.specs.Placed.{place_of}
 use Rattle.samples.specs.declared.Place.{Place}
 use Rattle.runs.specs.Runs.{serves, place_from, answer_of}
-use Rattle.runs.specs.declared.RunFound.{RunFound}
 use Rattle.runs.specs.declared.Sibling.{Sibling}
-
-abbrev pub refusal_run : RunFound → Refusal
-refusal_run (RunFound.At o format p) = record { 0 = 0; 1 = 0 }
-refusal_run (RunFound.Refused r) = r
 
 -- n samples from the first on are among those at the place p of a file of so many bytes
 pub record RunInside (bytes first n : ℕ) (p : Place) : Type 0 where
@@ -41,6 +38,6 @@ pub record FoundIn (b : Sibling) (s : List ℕ) (i j k first n space : ℕ) (o :
   -- where it stands
   pub place : p ≡ place_from first n all
 
-abbrev pub RunFoundAs : Sibling → List ℕ → (i j k first n space : ℕ) → RunFound → Type 0
-RunFoundAs b s i j k first n space (RunFound.At o format p) = FoundIn b s i j k first n space o format p
-RunFoundAs b s i j k first n space (RunFound.Refused r) = answer_of b s i j k first n space ≡ refusal r.0 r.1
+abbrev pub RunFoundAs : Sibling → List ℕ → (i j k first n space : ℕ) → Result (Order × ℕ × Place) Refusal → Type 0
+RunFoundAs b s i j k first n space (Ok (o, format, p)) = FoundIn b s i j k first n space o format p
+RunFoundAs b s i j k first n space (Err r) = answer_of b s i j k first n space ≡ refusal (number_of r.0) r.1

@@ -1,6 +1,9 @@
 -- A run of samples, of a channel in a frame: how many are asked for from the first on of those at its place, and by which of two calls; the answer, and
 -- what the buffer holds afterwards.
 -- Assumes nothing.
+use Rattle.std.specs.Prelude.{Result, Ok, Err}
+use Rattle.rules.specs.declared.Refusal.{Refusal}
+use Rattle.rules.specs.Reasons.{number_of}
 use Rattle.std.specs.Prelude.{◌≡◌, Bool, ◌&&◌, not, List, ◌++◌, map, ℕ, ◌+◌, ◌*◌, leb, eqb, ℤ, pos, length, take, drop}
 use Rattle.walk.specs.Walk.{pick}
 use Rattle.rules.specs.Reading.{Value, whole, float}
@@ -8,12 +11,11 @@ use Rattle.recordings.specs.Answers.{Answer, value, refusal, ◌>>=◌, outside}
 use Rattle.samples.specs.Frames.{format_of}
 use Rattle.samples.specs.Placed.{place_of, values_of}
 use Rattle.samples.specs.declared.Place.{Place}
-use Rattle.runs.specs.declared.Ran.{Ran}
 use Rattle.runs.specs.declared.Sibling.{Sibling}
 
-abbrev pub meaning : Ran → Answer ℕ
-meaning (Ran.Numbers n) = value n
-meaning (Ran.Refused r) = refusal r.0 r.1
+abbrev pub meaning : Result ℕ Refusal → Answer ℕ
+meaning (Ok n) = value n
+meaning (Err r) = refusal (number_of r.0) r.1
 
 -- the formats of each call: 1 to 3, whole numbers, and 4, floats
 abbrev pub serves : Sibling → ℕ → Bool
@@ -65,7 +67,7 @@ abbrev pub afterwards : (b : Sibling) → List ℕ → (i j k first n : ℕ) →
 afterwards b s i j k first n out = holding b n (run_of b s i j k first n) out
 
 -- what each of the two does with the file s and a buffer
-pub record RunAnswer (b : Sibling) (s : List ℕ) (i j k first n : ℕ) (out out' : List (Element b)) (a : Ran) : Type 0 where
+pub record RunAnswer (b : Sibling) (s : List ℕ) (i j k first n : ℕ) (out out' : List (Element b)) (a : Result ℕ Refusal) : Type 0 where
   -- the answer, and the buffer afterwards
   pub answer : meaning a ≡ answer_of b s i j k first n (length out)
   pub buffer : out' ≡ afterwards b s i j k first n out

@@ -2,12 +2,12 @@
 #![tactic(auto)]
 
 ghost use Rattle.std.specs.Prelude.{◌≡◌, length};
-ghost use Rattle.runs.specs.Found.{refusal_run, RunInside, RunFoundAs};
+ghost use Rattle.runs.specs.Found.{RunInside, RunFoundAs};
 ghost use Rattle.runs.specs.Runs.{serves, place_from, RunAnswer};
 ghost use Rattle.runs.specs.declared.Sibling.TheVariants as Sibling;
 
-use rules::{Channel, Refusal};
-use samples::{Place, SamplesFound, part};
+use rules::{Channel, Reason, Refusal};
+use samples::{Place, part};
 use words::Order;
 
 // The two calls: signed numbers of formats 1 to 3, and the 32 bits of floats, format 4.
@@ -15,29 +15,6 @@ use words::Order;
 pub enum Sibling {
     Whole,
     Floats,
-}
-
-// How many numbers were written, or the refusal.
-#[derive(Clone, Copy)]
-pub enum Ran {
-    Numbers(usize),
-    Refused(Refusal),
-}
-
-// The file's byte order, the channel's format, and the place of the run asked for; or the refusal.
-#[derive(Clone, Copy)]
-enum RunFound {
-    At(Order, u32, Place),
-    Refused(Refusal),
-}
-
-fn of_run_found(a: RunFound) -> Refusal
-    ensures { result ≡ refusal_run a }
-{
-    match a {
-        RunFound::At(_, _, _) => Refusal(0, 0),
-        RunFound::Refused(r) => r,
-    }
 }
 
 // Whether a channel of this format is asked for by this call.
@@ -72,25 +49,22 @@ fn run_asked(
     first: usize,
     number: usize,
     room: usize,
-) -> RunFound
+) -> Result<(Order, u32, Place), Refusal>
     ensures { RunFoundAs b file.now recording frame channel first number room result }
 {
-    let found = samples::samples_asked(file, recording, frame, channel);
-    let SamplesFound::At(order, _, run) = found else {
-        return RunFound::Refused(samples::of_samples_found(found));
-    };
+    let (order, _, run) = samples::samples_asked(file, recording, frame, channel)?;
     if !format_served(b, run.format) {
-        return RunFound::Refused(Refusal(19, 0));
+        return Err(Refusal(Reason::Range, 0));
     }
     let place = run.place;
     if !samples::fits(place.count, first, number) {
-        return RunFound::Refused(Refusal(19, 0));
+        return Err(Refusal(Reason::Range, 0));
     }
     if room < number {
-        return RunFound::Refused(Refusal(17, number));
+        return Err(Refusal(Reason::Room, number));
     }
     let from = place_from(file.len(), place, first, number);
-    RunFound::At(order, run.format, from)
+    Ok((order, run.format, from))
 }
 
 // A run of whole numbers, of a channel of format 1, 2 or 3.
@@ -102,17 +76,16 @@ pub fn run(
     first: usize,
     number: usize,
     out: &mut [i64],
-) -> Ran
+) -> Result<usize, Refusal>
     ensures { RunAnswer Sibling.Whole file.now recording frame channel first number out.old out.new result }
 {
     let room = out.len();
     let b = Sibling::Whole;
-    let found = run_asked(file, b, recording, frame, channel, first, number, room);
-    let RunFound::At(order, format, place) = found else {
-        return Ran::Refused(of_run_found(found));
-    };
+    let (order, format, place) = run_asked(
+        file, b, recording, frame, channel, first, number, room,
+    )?;
     decode::numbers(order, format, part(file, place), &mut out[..number]);
-    Ran::Numbers(number)
+    Ok(number)
 }
 
 // A run of floats, of a channel of format 4: the 32 bits of each, since a NaN's pattern cannot become an f32.
@@ -124,15 +97,12 @@ pub fn run_floats(
     first: usize,
     number: usize,
     out: &mut [u32],
-) -> Ran
+) -> Result<usize, Refusal>
     ensures { RunAnswer Sibling.Floats file.now recording frame channel first number out.old out.new result }
 {
     let room = out.len();
     let b = Sibling::Floats;
-    let found = run_asked(file, b, recording, frame, channel, first, number, room);
-    let RunFound::At(order, _, place) = found else {
-        return Ran::Refused(of_run_found(found));
-    };
+    let (order, _, place) = run_asked(file, b, recording, frame, channel, first, number, room)?;
     decode::patterns(order, part(file, place), &mut out[..number]);
-    Ran::Numbers(number)
+    Ok(number)
 }

@@ -5,6 +5,3 @@ use Rattle.index.proofs.behind_events.Given as goal
 
 abbrev pub invariant-loop-c : goal.invariant-loop-c
 invariant-loop-c l = BehindEvents l.o l.s l.subs l.m l.c
-
-abbrev pub decreases-loop-c : goal.decreases-loop-c
-decreases-loop-c l = l.c

@@ -1,5 +1,6 @@
 -- `index::first_events` meets its contract: none of the channels that are passed is of events.
 -- Assumes nothing.
+use mathlib.Core.Path.{◌≡◌}
 use mathlib.Core.Path.{sym, ◌∙◌}
 use native.Mathlib.Omega.{arith}
 use Rattle.index.proofs.Quiet.{quiet_none, quiet-behind}
@@ -17,13 +18,10 @@ events_at-requires c = omega (arith, c.requires.inside, c.loop-c-test.true)
 pub returns-then-events_at : goal.returns-then-events_at
 returns-then-events_at c = c.loop-c.invariant
 
-pub loop-c-smaller : goal.loop-c-smaller
-loop-c-smaller c = omega (arith, c.loop-c-test.true)
-
 pub loop-c-preserved : goal.loop-c-preserved
 loop-c-preserved c =
     let l = c.loop-c in
     record { inside = omega (arith, c.loop-c-test.true); quiet = quiet-behind _ _ _ 0 l.c l.invariant.quiet (sym c.events_at.ensures ∙ c.if-events_at.false) }
 
 pub returns : goal.returns
-returns c = c.loop-c.invariant
+returns c = let n : c.loop-c.c ≡ c.args.m = omega arith in rw n at c.loop-c.invariant

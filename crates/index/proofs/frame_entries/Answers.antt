@@ -30,9 +30,6 @@ loop-c-init c = (channeled-start c.requires _ _ _ refl, refl)
 pub channel_entries-passed-requires : goal.channel_entries-passed-requires
 channel_entries-passed-requires c = channeled-ahead c.loop-c.invariant.0 c.loop-c-test.true _ refl refl refl
 
-pub loop-c-smaller : goal.loop-c-smaller
-loop-c-smaller c = omega (arith, c.loop-c-test.true)
-
 pub loop-c-preserved : goal.loop-c-preserved
 loop-c-preserved c =
     let l = c.loop-c in

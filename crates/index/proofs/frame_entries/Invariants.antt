@@ -1,13 +1,9 @@
 -- `index::frame_entries` meets its contract, by the laws of Framing.
 -- Assumes nothing.
 use mathlib.Core.Path.{◌≡◌}
-use Prim.Native.Nat.{◌-◌}
 use lib.ListN.{length}
 use Rattle.index.proofs.Framing.{Channeled}
 use Rattle.index.proofs.frame_entries.Given as goal
 
 abbrev pub invariant-loop-c : goal.invariant-loop-c
-invariant-loop-c l = Channeled l.o l.file l.q l.e l.recording l.frame l.write l.initial.out l.out l.k l.next l.c l.at × (length l.out ≡ length l.initial.out)
-
-abbrev pub decreases-loop-c : goal.decreases-loop-c
-decreases-loop-c l = l.e.end - l.c
+invariant-loop-c l = Channeled l.o l.file l.q l.c-end l.recording l.frame l.write l.initial.out l.out l.k l.next l.c l.at × (length l.out ≡ length l.initial.out)

@@ -35,18 +35,9 @@ sample_bytes-before-requires c = record {
 pub loop-j-init : goal.loop-j-init
 loop-j-init c = (framed-start c.requires, refl)
 
-pub overflow_add-j : goal.overflow_add-j
-overflow_add-j c = record { fits = omega (arith, c.loop-j-test.true, c.struct_known-in-loop-j-1.given) }
-
 pub frame_entries-next-requires : goal.frame_entries-next-requires
 frame_entries-next-requires c =
     framed-ahead c.loop-j.invariant.0 _ (record { first = c.first_events-first.ensures; end = c.behind_events-end.ensures; before = c.sample_bytes-before.ensures }) c.loop-j-test.true
-
-pub overflow_add-j-in-loop-j : goal.overflow_add-j-in-loop-j
-overflow_add-j-in-loop-j c = record { fits = omega (arith, c.loop-j-test.true, c.struct_known-in-loop-j-1.given) }
-
-pub loop-j-smaller : goal.loop-j-smaller
-loop-j-smaller c = omega (arith, c.loop-j-test.true)
 
 pub loop-j-preserved : goal.loop-j-preserved
 loop-j-preserved c =

@@ -1,5 +1,6 @@
 -- `index::repeated` meets its contract: eights of samples, and then one at a time.
 -- Assumes nothing.
+use mathlib.Core.Path.{◌≡◌}
 use mathlib.Core.Path.{sym, ap, ◌∙◌}
 use native.Mathlib.Omega.{arith}
 use Rattle.words.specs.Numbers.{number_at}
@@ -10,12 +11,12 @@ use Rattle.index.proofs.repeated.Goals as goal
 pub pair_of-requires : goal.pair_of-requires
 pair_of-requires c = c.requires.small
 
-pub same_eights-i-requires : goal.same_eights-i-requires
-same_eights-i-requires c = record { long = c.requires.long; inside = c.requires.inside; small = rw c.pair_of.ensures (pair_small c.args.o c.args.code c.requires.small) }
+pub same_eights-start-requires : goal.same_eights-start-requires
+same_eights-start-requires c = record { long = c.requires.long; inside = c.requires.inside; small = rw c.pair_of.ensures (pair_small c.args.o c.args.code c.requires.small) }
 
 pub loop-i-init : goal.loop-i-init
 loop-i-init c =
-    same_code (bytes c.args.s.now (λ i. omega (arith, c.type_inv.s i))) c.requires.long c.requires.small (rw c.pair_of.ensures at c.same_eights-i.ensures)
+    same_code (bytes c.args.s.now (λ i. omega (arith, c.type_inv.s i))) c.requires.long c.requires.small (rw c.pair_of.ensures at c.same_eights-start.ensures)
 
 pub overflow_mul-i : goal.overflow_mul-i
 overflow_mul-i c = record { fits = omega (arith, c.requires.long, c.well_formed, c.loop-i-test.true) }
@@ -26,9 +27,6 @@ number2-requires c = omega (arith, c.requires.long, c.loop-i-test.true)
 pub returns-then-number2-code : goal.returns-then-number2-code
 returns-then-number2-code c = record { same = c.loop-i.invariant; other = λ l e. c.if-number2-code.true (c.number2.ensures.0 ∙ e) }
 
-pub loop-i-smaller : goal.loop-i-smaller
-loop-i-smaller c = omega (arith, c.loop-i-test.true)
-
 pub loop-i-preserved : goal.loop-i-preserved
 loop-i-preserved c =
     let l = c.loop-i in
@@ -37,4 +35,6 @@ loop-i-preserved c =
     (λ q h. ap (number_at a.o 2 a.s.now) (omega arith) ∙ sym c.number2.ensures.0 ∙ c.if-number2-code.false)
 
 pub returns : goal.returns
-returns c = record { same = c.loop-i.invariant; other = λ l e. absurd (omega arith) }
+returns c =
+    let n : c.loop-i.i ≡ c.args.n = omega (arith, c.loop-i.invariant.inside) in
+    record { same = rw n at c.loop-i.invariant; other = λ l e. absurd (omega arith) }

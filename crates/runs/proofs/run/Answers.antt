@@ -1,5 +1,7 @@
 -- `runs::run` meets its contract: the run asked for, decoded from its bytes, by the laws of Told.
 -- Assumes nothing.
+use Rattle.std.proofs.Common.{Ok}
+use Rattle.rules.proofs.Handed.{handed}
 use mathlib.Core.Path.{refl, sym}
 use native.Mathlib.Omega.{arith}
 use lib.IntN.{pos}
@@ -7,7 +9,6 @@ use lib.ListN.{length}
 use lib.Seq.{length-take-le}
 use Rattle.rules.specs.Reading.{whole}
 use Rattle.runs.specs.Found.{RunFoundAs}
-use Rattle.runs.specs.declared.RunFound.TheVariants as RunFound
 use Rattle.runs.specs.declared.Sibling.TheVariants as Sibling
 use Rattle.runs.proofs.Told.{runs-refused, bytes-long, runs-told}
 use Rattle.runs.proofs.run.Goals as goal
@@ -16,14 +17,13 @@ use Rattle.runs.proofs.run.Goals.{After-part}
 -- the run found
 known : (x : After-part) →
     let a = x.args in
-    RunFoundAs Sibling.Whole a.file.now a.recording a.frame a.channel a.first a.number (length a.out.now) (RunFound.At x.in-At.order x.in-At.format x.in-At.place)
-known x = rw x.in-At.is at x.run_asked-found.ensures
+    RunFoundAs Sibling.Whole a.file.now a.recording a.frame a.channel a.first a.number (length a.out.now) (Ok (x.in_ok-order.order, x.in_ok-order.format, x.in_ok-order.place))
+known x = x.in_ok-order.ensures
 
-pub returns-in_default : goal.returns-in_default
-returns-in_default c =
-    let a = c.args in
-    let e = c.in_default.is in
-    rw (c.of_run_found.ensures, e) (runs-refused Sibling.Whole a.file.now a.recording a.frame a.channel a.first a.number a.out.now (rw e at c.run_asked-found.ensures))
+pub returns-in_err-order : goal.returns-in_err-order
+returns-in_err-order c =
+    rw (handed _ c.from_residual.ensures)
+    (let a = c.args in runs-refused Sibling.Whole a.file.now a.recording a.frame a.channel a.first a.number a.out.now _ c.in_err-order.ensures)
 
 pub slice_bounds-numbers-end : goal.slice_bounds-numbers-end
 slice_bounds-numbers-end c = omega (arith, (known c).room)

@@ -1,11 +1,12 @@
 -- `runs::run_asked` meets its contract: from the channel's samples, by the laws of Asked.
 -- Assumes nothing.
+use Rattle.std.proofs.Common.{Ok}
+use Rattle.rules.proofs.Handed.{handed}
 use mathlib.Core.Path.{◌≡◌, sym, ◌∙◌}
 use mathlib.Core.Bool.{true}
 use Prim.Native.Nat.{◌+◌}
 use lib.Dec.{leb}
 use Rattle.samples.specs.Asked.{SamplesFoundAs}
-use Rattle.samples.specs.declared.SamplesFound.TheVariants as SamplesFound
 use Rattle.runs.specs.Runs.{serves}
 use Rattle.runs.proofs.Asked.{run-refused, run-unserved, run-outside, run_short, run-within, run-found}
 use Rattle.runs.proofs.run_asked.Goals as goal
@@ -13,22 +14,21 @@ use Rattle.runs.proofs.run_asked.Goals.{After-fits, After-format_served, Else-no
 
 -- the samples found
 known : (x : After-format_served) →
-    SamplesFoundAs x.args.file.now x.args.recording x.args.frame x.args.channel (SamplesFound.At x.in-At.order x.in-At.field-1 x.in-At.run')
-known x = rw x.in-At.is at x.samples_asked-found.ensures
+    SamplesFoundAs x.args.file.now x.args.recording x.args.frame x.args.channel (Ok (x.in_ok-order.order, x.in_ok-order.field-0-1, x.in_ok-order.run'))
+known x = x.in_ok-order.ensures
 
 -- the two tests passed
-served : (c : After-fits) → serves c.args.b c.in-At.run'.format ≡ true
+served : (c : After-fits) → serves c.args.b c.in_ok-order.run'.format ≡ true
 served c = sym c.format_served.ensures ∙ c.if-not-format_served.false
 
 inside : (c : Else-not-fits) →
-    leb (c.args.first + c.args.number) c.in-At.run'.place.count ≡ true
+    leb (c.args.first + c.args.number) c.in_ok-order.run'.place.count ≡ true
 inside c = sym c.fits.ensures ∙ c.if-not-fits.false
 
-pub returns-in_default : goal.returns-in_default
-returns-in_default c =
-    let a = c.args in
-    let e = c.in_default.is in
-    rw (c.of_samples_found.ensures, e) (run-refused a.b a.file.now a.recording a.frame a.channel a.first a.number a.room (rw e at c.samples_asked-found.ensures))
+pub returns-in_err-order : goal.returns-in_err-order
+returns-in_err-order c =
+    rw (handed _ c.from_residual.ensures)
+    (let a = c.args in run-refused a.b a.file.now a.recording a.frame a.channel a.first a.number a.room c.in_err-order.ensures)
 
 pub returns-then-not-format_served : goal.returns-then-not-format_served
 returns-then-not-format_served c =

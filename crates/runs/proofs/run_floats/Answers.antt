@@ -1,12 +1,13 @@
 -- `runs::run_floats` meets its contract: the run asked for, decoded from its bytes, by the laws of Told.
 -- Assumes nothing.
+use Rattle.std.proofs.Common.{Ok}
+use Rattle.rules.proofs.Handed.{handed}
 use mathlib.Core.Path.{refl, sym}
 use native.Mathlib.Omega.{arith}
 use lib.ListN.{length}
 use lib.Seq.{length-take-le}
 use Rattle.rules.specs.Reading.{float}
 use Rattle.runs.specs.Found.{RunFoundAs}
-use Rattle.runs.specs.declared.RunFound.TheVariants as RunFound
 use Rattle.runs.specs.declared.Sibling.TheVariants as Sibling
 use Rattle.runs.proofs.Told.{runs-refused, bytes-long, runs-told, floats-wide}
 use Rattle.runs.proofs.run_floats.Goals as goal
@@ -15,14 +16,13 @@ use Rattle.runs.proofs.run_floats.Goals.{After-part}
 -- the run found
 known : (x : After-part) →
     let a = x.args in
-    RunFoundAs Sibling.Floats a.file.now a.recording a.frame a.channel a.first a.number (length a.out.now) (RunFound.At x.in-At.order x.in-At.field-1 x.in-At.place)
-known x = rw x.in-At.is at x.run_asked-found.ensures
+    RunFoundAs Sibling.Floats a.file.now a.recording a.frame a.channel a.first a.number (length a.out.now) (Ok (x.in_ok-order.order, x.in_ok-order.field-0-1, x.in_ok-order.place))
+known x = x.in_ok-order.ensures
 
-pub returns-in_default : goal.returns-in_default
-returns-in_default c =
-    let a = c.args in
-    let e = c.in_default.is in
-    rw (c.of_run_found.ensures, e) (runs-refused Sibling.Floats a.file.now a.recording a.frame a.channel a.first a.number a.out.now (rw e at c.run_asked-found.ensures))
+pub returns-in_err-order : goal.returns-in_err-order
+returns-in_err-order c =
+    rw (handed _ c.from_residual.ensures)
+    (let a = c.args in runs-refused Sibling.Floats a.file.now a.recording a.frame a.channel a.first a.number a.out.now _ c.in_err-order.ensures)
 
 pub slice_bounds-patterns-end : goal.slice_bounds-patterns-end
 slice_bounds-patterns-end c = omega (arith, (known c).room)
