@@ -1,5 +1,6 @@
 -- The answer of `index` is the one that the rules fix for the file and the buffer; and only one answer and one buffer meet its contract.
 -- Assumes nothing.
+use Rattle.recordings.proofs.Answers.{meaning-one}
 use Rattle.std.proofs.Common.{Result, Ok, Err}
 use Rattle.rules.specs.declared.Refusal.{Refusal}
 use Rattle.rules.specs.declared.Reason.TheVariants as Reason
@@ -22,7 +23,7 @@ use Rattle.rules.proofs.Reasons.{refusal-is}
 use Rattle.judge.specs.Judged.{AcceptedAs}
 use Rattle.recordings.specs.Answers.{Answer, value, refusal}
 use Rattle.index.specs.Events.{Entry, entries}
-use Rattle.index.specs.Index.{meaning, numbers, entries_of, Indexes}
+use Rattle.index.specs.Index.{numbers, entries_of, Indexes}
 
 -- a file that is refused
 pub indexes-refused : (s : List ℕ) (out : List ℤ) (r : Refusal) → R.judge s ≡ refused (number_of r.0) r.1 → Indexes s out out (Err r)
@@ -59,15 +60,6 @@ module _ (s : List ℕ) (h : FileHeader) (x : AcceptedAs s h) (out out₁ : List
       let b : out₂ ≡ written numbers 5 true out₁ 0 es = y.holds (λ _. omega (arith, needs)) in
       record { answer = rw (x.judged, e, d); buffer = rw (x.judged, e, b, leaves) }
 
--- an answer of the code, from what it means
-abbrev again : Answer ℕ → Result ℕ Refusal
-again (value n) = Ok n
-again (refusal n p) = Err (refusal_of n p)
-
-back : (a : Result ℕ Refusal) → again (meaning a) ≡ a
-back (Ok n) = refl
-back (Err r) = ap Err (sym (refusal-is r refl refl))
-
 -- one answer and one buffer for every file and every buffer
 pub index-unique : (s : List ℕ) (out out₁ out₂ : List ℤ) (a b : Result ℕ Refusal) → Indexes s out out₁ a → Indexes s out out₂ b → (a ≡ b) × (out₁ ≡ out₂)
-index-unique s out out₁ out₂ a b x y = (one meaning again back x.answer y.answer, x.buffer ∙ sym y.buffer)
+index-unique s out out₁ out₂ a b x y = (meaning-one a b x.answer y.answer, x.buffer ∙ sym y.buffer)

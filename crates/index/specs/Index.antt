@@ -2,17 +2,12 @@
 -- Assumes nothing.
 use Rattle.std.specs.Prelude.{Result, Ok, Err}
 use Rattle.rules.specs.declared.Refusal.{Refusal}
-use Rattle.rules.specs.Reasons.{number_of}
 use Rattle.std.specs.Prelude.{◌≡◌, true, List, [], ◌∷◌, ℕ, ◌*◌, leb, ℤ, pos, length}
 use Rattle.words.specs.Lent.{written}
 use Rattle.walk.specs.Walk.{pick, Outcome, refused, passed}
 use Rattle.rules.specs.Rules as R
-use Rattle.recordings.specs.Answers.{Answer, value, refusal}
+use Rattle.recordings.specs.Answers.{Answer, value, refusal, meaning}
 use Rattle.index.specs.Events.{Entry, entries}
-
-abbrev pub meaning : Result ℕ Refusal → Answer ℕ
-meaning (Ok n) = value n
-meaning (Err r) = refusal (number_of r.0) r.1
 
 -- the five numbers of an entry
 abbrev pub numbers : Entry → List ℤ

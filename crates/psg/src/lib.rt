@@ -12,52 +12,45 @@ use answers::{
     Channel, Clock, Counted, Facts, Header, Heading, Item, Kind, Montage, Part, Place, Sample,
     Track,
 };
-use judge::Judged;
 use rules::FileHeader;
-use table::Listed;
 use words::byte;
 
 // The verdict on a file: what its header says, or the refusal.
 pub fn psg_judge(file: &[u8]) -> Header
     ensures { JudgeAnswers file.now result }
 {
-    let judged = judge::judge(file);
-    let Judged::Accepted(h) = judged else {
-        return answers::header_refused(judge::of_judged(judged));
-    };
-    answers::header_told(byte(file, FileHeader::ORDER), h)
+    match judge::judge(file) {
+        Ok(h) => answers::header_told(byte(file, FileHeader::ORDER), h),
+        Err(r) => answers::header_refused(r),
+    }
 }
 
 // The table: how many rows of four numbers were written.
 pub fn psg_table(file: &[u8], rows: &mut [i64]) -> Counted
     ensures { TableAnswers file.now rows.old rows.new result }
 {
-    let listed = table::table(file, rows);
-    match listed {
-        Listed::Rows(n) => answers::answered(n),
-        Listed::Refused(r) => answers::refused(r),
-    }
+    answers::counted_of(table::table(file, rows))
 }
 
 // The file in the other byte order: how many bytes were written.
 pub fn psg_turn(file: &[u8], out: &mut [u8]) -> Counted
     ensures { TurnAnswers file.now out.old out.new result }
 {
-    answers::written_of(turn::turn(file, out))
+    answers::counted_of(turn::turn(file, out))
 }
 
 // The canonical form of the file, in the order that a letter names: how many bytes were written.
 pub fn psg_rewrite(file: &[u8], order: u8, out: &mut [u8]) -> Counted
     ensures { RewriteAnswers file.now order out.old out.new result }
 {
-    answers::written_of(rewrite::rewrite(file, order, out))
+    answers::counted_of(rewrite::rewrite(file, order, out))
 }
 
 // Room that is enough for the canonical form of the file, in either order: so many bytes.
 pub fn psg_rewrite_room(file: &[u8]) -> Counted
     ensures { RoomAnswers file.now result }
 {
-    answers::written_of(room::room(file))
+    answers::counted_of(room::room(file))
 }
 
 // The questions, in the order of crate `questions`.
@@ -157,7 +150,7 @@ pub fn psg_run(
 ) -> Counted
     ensures { RunAnswers Sibling.Whole file.now recording frame channel first number samples.old samples.new result }
 {
-    answers::run_of(runs::run(file, recording, frame, channel, first, number, samples))
+    answers::counted_of(runs::run(file, recording, frame, channel, first, number, samples))
 }
 
 pub fn psg_run_floats(
@@ -171,14 +164,14 @@ pub fn psg_run_floats(
 ) -> Counted
     ensures { RunAnswers Sibling.Floats file.now recording frame channel first number bits.old bits.new result }
 {
-    answers::run_of(runs::run_floats(file, recording, frame, channel, first, number, bits))
+    answers::counted_of(runs::run_floats(file, recording, frame, channel, first, number, bits))
 }
 
 // The night events: how many entries of five numbers were written.
 pub fn psg_index(file: &[u8], entries: &mut [i64]) -> Counted
     ensures { IndexAnswers file.now entries.old entries.new result }
 {
-    answers::index_of(index::index(file, entries))
+    answers::counted_of(index::index(file, entries))
 }
 
 // The kind of an event's code. It needs no file.

@@ -1,6 +1,7 @@
 -- The answer of a run, and what the buffer holds: what was decoded of the run's bytes is its samples, once over the two calls; and one answer and one
 -- buffer.
 -- Assumes nothing.
+use Rattle.recordings.proofs.Answers.{meaning-one}
 use Rattle.std.proofs.Common.{Result, Ok, Err}
 use Rattle.rules.specs.declared.Refusal.{Refusal}
 use Rattle.rules.specs.Reasons.{number_of, refusal_of}
@@ -31,7 +32,7 @@ use Rattle.samples.specs.declared.Place.{Place}
 use Rattle.samples.proofs.Placing.{part-inside, bytes-many, values-many, values-each}
 use Rattle.decode.specs.Decoded.{Decoded, itself}
 use Rattle.runs.specs.Found.{FoundIn}
-use Rattle.runs.specs.Runs.{meaning, serves, Element, element_of, run_of, counted, holding, answer_of, RunAnswer}
+use Rattle.runs.specs.Runs.{serves, Element, element_of, run_of, counted, holding, answer_of, RunAnswer}
 use Rattle.runs.specs.declared.Sibling.{Sibling}
 
 -- what each call makes of a word of w bytes
@@ -114,15 +115,6 @@ pub floats-wide : (format : ℕ) → serves Sibling.Floats format ≡ true → 4
 unfolding R.width
 floats-wide format h = rw (eqb-true format 4 h)
 
--- an answer of the code, from what it means
-abbrev again : Answer ℕ → Result ℕ Refusal
-again (value n) = Ok n
-again (refusal n p) = Err (refusal_of n p)
-
-back : (a : Result ℕ Refusal) → again (meaning a) ≡ a
-back (Ok n) = refl
-back (Err r) = ap Err (sym (refusal-is r refl refl))
-
 -- one answer and one buffer for every file, run and buffer
 pub run-unique : (b : Sibling) (s : List ℕ) (i j k first n : ℕ) (out out₁ out₂ : List (Element b)) (a c : Result ℕ Refusal) → RunAnswer b s i j k first n out out₁ a → RunAnswer b s i j k first n out out₂ c → (a ≡ c) × (out₁ ≡ out₂)
-run-unique b s i j k first n out out₁ out₂ a c x y = (one meaning again back x.answer y.answer, x.buffer ∙ sym y.buffer)
+run-unique b s i j k first n out out₁ out₂ a c x y = (meaning-one a c x.answer y.answer, x.buffer ∙ sym y.buffer)

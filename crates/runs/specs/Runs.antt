@@ -3,19 +3,14 @@
 -- Assumes nothing.
 use Rattle.std.specs.Prelude.{Result, Ok, Err}
 use Rattle.rules.specs.declared.Refusal.{Refusal}
-use Rattle.rules.specs.Reasons.{number_of}
 use Rattle.std.specs.Prelude.{◌≡◌, Bool, ◌&&◌, not, List, ◌++◌, map, ℕ, ◌+◌, ◌*◌, leb, eqb, ℤ, pos, length, take, drop}
 use Rattle.walk.specs.Walk.{pick}
 use Rattle.rules.specs.Reading.{Value, whole, float}
-use Rattle.recordings.specs.Answers.{Answer, value, refusal, ◌>>=◌, outside}
+use Rattle.recordings.specs.Answers.{Answer, value, refusal, ◌>>=◌, outside, meaning}
 use Rattle.samples.specs.Frames.{format_of}
 use Rattle.samples.specs.Placed.{place_of, values_of}
 use Rattle.samples.specs.declared.Place.{Place}
 use Rattle.runs.specs.declared.Sibling.{Sibling}
-
-abbrev pub meaning : Result ℕ Refusal → Answer ℕ
-meaning (Ok n) = value n
-meaning (Err r) = refusal (number_of r.0) r.1
 
 -- the formats of each call: 1 to 3, whole numbers, and 4, floats
 abbrev pub serves : Sibling → ℕ → Bool

@@ -16,18 +16,15 @@ use Rattle.psg.proofs.psg_judge.Goals as goal
 told : {s : List ℕ} {h : FileHeader} → AcceptedAs s h → headed (get_or s 16 0) h.heading.script h.count ≡ flat_header s (R.judge s)
 told x = rw (x.judged, x.count, ap (λ (h : R.Heading). h.script) x.heading)
 
-pub returns-in_default : goal.returns-in_default
-returns-in_default c =
-    let e = c.in_default.is in
-    let j = rw e at c.judge-judged.ensures in
-    rw (c.header_refused.ensures, c.of_judged.ensures, e, j)
+pub returns-in-Err : goal.returns-in-Err
+returns-in-Err c = rw (c.header_refused.ensures, c.in-Err.ensures)
 
 pub byte-requires : goal.byte-requires
 byte-requires c =
-    let j = accepted c.in-Accepted.is c.judge-judged.ensures in
+    let j = accepted c.in-Ok.is c.judge.ensures in
     omega (arith, accepted-long _ _ j)
 
-pub returns : goal.returns
-returns c =
-    let j = accepted c.in-Accepted.is c.judge-judged.ensures in
+pub returns-in-Ok : goal.returns-in-Ok
+returns-in-Ok c =
+    let j = accepted c.in-Ok.is c.judge.ensures in
     rw (c.header_told.ensures, c.byte.ensures.0) (told j)

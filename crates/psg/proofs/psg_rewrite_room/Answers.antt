@@ -3,4 +3,4 @@
 use Rattle.psg.proofs.psg_rewrite_room.Goals as goal
 
 pub returns : goal.returns
-returns c = rw (c.written_of.ensures, c.room.ensures)
+returns c = rw (c.counted_of.ensures.bytes, c.room.ensures)

@@ -5,4 +5,4 @@ use Rattle.psg.proofs.psg_run_floats.Goals as goal
 pub returns : goal.returns
 returns c =
     let t = c.run_floats.ensures in
-    record { answers = rw (c.run_of.ensures, t.answer); holds = t.buffer }
+    record { answers = rw (c.counted_of.ensures.values, t.answer); holds = t.buffer }

@@ -5,4 +5,4 @@ use Rattle.psg.proofs.psg_turn.Goals as goal
 pub returns : goal.returns
 returns c =
     let t = c.turn.ensures in
-    record { answers = rw (c.written_of.ensures, t.answer); holds = t.buffer }
+    record { answers = rw (c.counted_of.ensures.bytes, t.answer); holds = t.buffer }

@@ -1,9 +1,0 @@
--- `answers::clock_of` meets its contract, case by case.
--- Assumes nothing.
-use Rattle.answers.proofs.clock_of.Goals as goal
-
-pub returns-in-At : goal.returns-in-At
-returns-in-At c = rw c.in-At.is
-
-pub returns-in-Refused : goal.returns-in-Refused
-returns-in-Refused c = rw c.in-Refused.is
