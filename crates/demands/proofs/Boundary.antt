@@ -1,5 +1,7 @@
 -- What C is answered is an answer of the call of Rattle, taken apart: there is one, and the number 0 tells a value from a refusal.
 -- Assumes nothing.
+use Rattle.rules.proofs.Reasons.{refusal-is}
+use Rattle.rules.specs.Reasons.{refusal_of, number_of}
 use mathlib.Core.Path.{◌≡◌, refl, sym, ap, ◌∙◌}
 use mathlib.Core.Bool.{Bool, true, false}
 use mathlib.Core.List.{List}
@@ -24,43 +26,28 @@ use Rattle.header.specs.Letters.{lettered}
 use Rattle.header.specs.Opened.{names}
 use Rattle.header.proofs.Opening.{header-open}
 use Rattle.judge.specs.Judged.{AcceptedAs, JudgedAs}
-use Rattle.judge.specs.declared.Judged.{Judged}
 use Rattle.judge.proofs.Verdicts.{accepted-seen}
 use Rattle.table.specs.Table as Table
 use Rattle.table.specs.Table.{Lists}
-use Rattle.table.specs.declared.Listed.{Listed}
 use Rattle.recordings.specs.Answers.{Answer, value, refusal}
 use Rattle.recordings.specs.declared.Counts.{Counts}
-use Rattle.recordings.specs.declared.FactsTold.{FactsTold}
 use Rattle.samples.specs.Placed.{place_of, track_of}
-use Rattle.samples.specs.declared.ClockTold.{ClockTold}
 use Rattle.samples.specs.declared.Number.{Number}
 use Rattle.samples.specs.declared.Place.{Place}
-use Rattle.samples.specs.declared.PlaceTold.{PlaceTold}
-use Rattle.samples.specs.declared.SampleTold.{SampleTold}
 use Rattle.samples.specs.declared.Time.{Time}
 use Rattle.samples.specs.declared.Track.{Track}
-use Rattle.samples.specs.declared.TrackTold.{TrackTold}
-use Rattle.questions.specs.Meanings.{meaning_h, meaning_f, meaning_d, meaning_i, meaning_t, meaning_p, meaning_k, meaning_s, meaning_n, meaning_m}
+use Rattle.recordings.specs.Answers.{meaning}
 use Rattle.questions.specs.Questions.{header_of, facts_of, channel_of, patient_item_of, event_item_of, clock_of, sample_of, montage_count_of, montage_of}
-use Rattle.questions.specs.declared.channels.ChannelTold.{ChannelTold}
 use Rattle.questions.specs.declared.channels.Descriptor.{Descriptor}
-use Rattle.questions.specs.declared.channels.MontageCountTold.{MontageCountTold}
-use Rattle.questions.specs.declared.channels.MontageTold.{MontageTold}
 use Rattle.questions.specs.declared.channels.Wired.{Wired}
 use Rattle.questions.specs.declared.headers.Header as Asked
-use Rattle.questions.specs.declared.headers.HeaderTold.{HeaderTold}
 use Rattle.questions.specs.declared.items.Entry.{Entry}
-use Rattle.questions.specs.declared.items.ItemTold.{ItemTold}
 use Rattle.index.specs.Index as Index
 use Rattle.index.specs.Index.{entries_of, Indexes}
-use Rattle.index.specs.declared.Indexed.{Indexed}
 use Rattle.runs.specs.Runs as Runs
 use Rattle.runs.specs.Runs.{Element, RunAnswer}
-use Rattle.runs.specs.declared.Ran.{Ran}
 use Rattle.runs.specs.declared.Sibling.{Sibling}
 use Rattle.permit.specs.Permit as Permit
-use Rattle.permit.specs.declared.Written.{Written}
 use Rattle.turn.specs.Turn as Turn
 use Rattle.turn.specs.Turn.{Turns}
 use Rattle.rewrite.specs.Rewrite as Rewrite
@@ -80,7 +67,7 @@ use Rattle.answers.specs.declared.Place as PlaceC
 use Rattle.answers.specs.declared.Sample.{Sample}
 use Rattle.answers.specs.declared.Track as TrackC
 use Rattle.psg.specs.Calls.{JudgeAnswers, TableAnswers, TurnAnswers, RewriteAnswers, RunAnswers, IndexAnswers}
-use Rattle.demands.specs.Demands.{of_file, of_table, of_turn, of_rewrite, of_question, of_run, refusal_of, Refuses, Answered, KeepsRest, listed_rows, wrote_c, stopped_c, header_c, refused_c, flat_judged, TakenApart, Boundary, Accepted, header_judged, JudgesByRules}
+use Rattle.demands.specs.Demands.{of_file, of_table, of_turn, of_rewrite, of_question, of_run, Named, Refuses, Answered, KeepsRest, listed_rows, wrote_c, stopped_c, header_c, refused_c, flat_judged, TakenApart, Boundary, Accepted, header_judged, JudgesByRules}
 use Rattle.demands.proofs.Refusing.{of-file, header_refused, room-refused, table-refuses, table-keeps, turn-refuses, turn-keeps, rewrite-refuses, rewrite-keeps, index-refuses, index-keeps, Proper, proper-facts, proper-channel, proper-item, proper-clock, proper-place, proper-sample, proper-montage-count, proper-montage}
 use Rattle.demands.proofs.Refusing.{proper-track}
 use Rattle.demands.proofs.Running.{run-refuses, run-keeps}
@@ -95,28 +82,30 @@ data Kind {E : Type 0} (refuse : Refusal → E) (n : ℕ) (b : E) : Type 0 where
   is-refusal : (r : Refusal) → b ≡ refuse r → Kind refuse n b
 
 module _ (s : List ℕ) {E A : Type 0} {meets : E → Type 0} {refuse : Refusal → E} {apart : E → A} {numbers : ℕ → Bool} {need n p : ℕ} {a : A} where
-  taken-apart : (b : E) → meets b → a ≡ apart b → ((m q : ℕ) → R.judge s ≡ refused m q → a ≡ apart (refuse (refusal_of m q))) → ((r : Refusal) → b ≡ refuse r → refusal_of n p ≡ r) →
+  taken-apart : (b : E) → meets b → a ≡ apart b → ((m q : ℕ) → R.judge s ≡ refused m q → a ≡ apart (refuse (refusal_of m q))) → ((r : Refusal) → b ≡ refuse r → (number_of r.0 ≡ n) × (r.1 ≡ p)) →
       Answered refuse numbers (length s) need b → Kind refuse n b → TakenApart s meets refuse apart numbers need n p a
   taken-apart b m e h says proper (is-value z) = record {
     told = b;
     met = m;
     same = e;
     handed = h;
-    answered = λ _ r i. let f : n ≡ r.0 = ap (λ (y : Refusal). y.0) (says r i) in omega (arith, (proper r i).nonzero);
+    answered = λ _ r i. let f = (says r i).0 in omega (arith, (proper r i).nonzero);
     refused = λ l. absurd (omega arith);
     proper = λ l. absurd (omega arith);
     rest = λ l. absurd (omega arith);
   }
   taken-apart b m e h says proper (is-refusal r i) =
-      let t : b ≡ refuse (refusal_of n p) = i ∙ ap refuse (sym (says r i)) in
+      let f = says r i in
+      let t : b ≡ refuse (refusal_of n p) = i ∙ ap refuse (refusal-is r f.0 f.1) in
+      let k : Refuses numbers (length s) need n p = rw (f.0, f.1) at (proper r i) in
       record {
         told = b;
         met = m;
         same = e;
         handed = h;
-        answered = λ z _ _. omega (arith, (proper (refusal_of n p) t).nonzero);
+        answered = λ z _ _. omega (arith, k.nonzero);
         refused = λ _. t;
-        proper = λ _. proper (refusal_of n p) t;
+        proper = λ _. k;
         rest = λ _. e ∙ ap apart t;
       }
 
@@ -143,11 +132,12 @@ pub record Meant {M X : Type 0} (val : X → M) (ref : ℕ → ℕ → M) (E A :
   pub tell : X → E
   pub refuse : Refusal → E
   pub flat : M → A
-  pub says : A → Refusal
+  -- the number and the position of a refusal
+  pub says : A → ℕ × ℕ
   pub tells : (v : X) → meaning (tell v) ≡ val v
-  pub refuses : (r : Refusal) → meaning (refuse r) ≡ ref r.0 r.1
+  pub refuses : (r : Refusal) → meaning (refuse r) ≡ ref (number_of r.0) r.1
   pub zero : (v : X) → (says (flat (val v))).0 ≡ 0
-  pub named : (n p : ℕ) → says (flat (ref n p)) ≡ refusal_of n p
+  pub named : (n p : ℕ) → says (flat (ref n p)) ≡ (n, p)
 
 module _ {M X E A : Type 0} {val : X → M} {ref : ℕ → ℕ → M} (l : Meant val ref E A) where
   -- the answer with the meaning m
@@ -155,10 +145,10 @@ module _ {M X E A : Type 0} {val : X → M} {ref : ℕ → ℕ → M} (l : Meant
   told-by (a-value v) = l.tell v
   told-by (a-refusal n p) = l.refuse (refusal_of n p)
 
-  told-means : {m : M} (x : Either val ref m) → l.meaning (told-by x) ≡ m
+  told-means : {m : M} (x : Either val ref m) → ((n p : ℕ) → m ≡ ref n p → Named n) → l.meaning (told-by x) ≡ m
   unfolding told-by
-  told-means (a-value v) = l.tells v
-  told-means (a-refusal n p) = l.refuses (refusal_of n p)
+  told-means (a-value v) h = l.tells v
+  told-means (a-refusal n p) h = l.refuses (refusal_of n p) ∙ ap (λ (k : ℕ). ref k p) (h n p refl)
 
   told-kind : {m : M} (x : Either val ref m) {a : A} → a ≡ l.flat m → Kind l.refuse (l.says a).0 (told-by x)
   unfolding told-by
@@ -166,12 +156,14 @@ module _ {M X E A : Type 0} {val : X → M} {ref : ℕ → ℕ → M} (l : Meant
   told-kind (a-refusal n p) e = is-refusal (refusal_of n p) refl
 
   by-meaning : (s : List ℕ) {m : M} {meets : E → Type 0} {numbers : ℕ → Bool} {need : ℕ} {a : A} → Either val ref m → ((b : E) → l.meaning b ≡ m → meets b) → a ≡ l.flat m → ((n p : ℕ) → R.judge s ≡ refused n p → m ≡ ref n p) →
-      ((n p : ℕ) → m ≡ ref n p → Refuses numbers (length s) need (refusal_of n p)) → TakenApart s meets l.refuse (λ b. l.flat (l.meaning b)) numbers need (l.says a).0 (l.says a).1 a
+      ((n p : ℕ) → m ≡ ref n p → Refuses numbers (length s) need n p) → TakenApart s meets l.refuse (λ b. l.flat (l.meaning b)) numbers need (l.says a).0 (l.says a).1 a
   by-meaning s {m} x met e hand proper =
-      let i = told-means x in
-      let is : (u : Refusal) → told-by x ≡ l.refuse u → m ≡ ref u.0 u.1 = λ u j. sym i ∙ (ap l.meaning j ∙ l.refuses u) in
-      taken-apart s (told-by x) (met (told-by x) i) (e ∙ ap l.flat (sym i)) (λ n p j. e ∙ ap l.flat (hand n p j ∙ sym (l.refuses (refusal_of n p))))
-      (λ u j. ap l.says (e ∙ ap l.flat (is u j)) ∙ l.named u.0 u.1) (λ u j. proper u.0 u.1 (is u j)) (told-kind x e)
+      let i = told-means x (λ n p j. (proper n p j).named) in
+      let is : (u : Refusal) → told-by x ≡ l.refuse u → m ≡ ref (number_of u.0) u.1 = λ u j. sym i ∙ (ap l.meaning j ∙ l.refuses u) in
+      taken-apart s (told-by x) (met (told-by x) i) (e ∙ ap l.flat (sym i))
+      (λ n p j. e ∙ ap l.flat (hand n p j ∙ ap (λ (k : ℕ). ref k p) (sym (proper n p (hand n p j)).named) ∙ sym (l.refuses (refusal_of n p))))
+      (λ u j. let k = sym (ap l.says (e ∙ ap l.flat (is u j)) ∙ l.named (number_of u.0) u.1) in (ap (λ (y : ℕ × ℕ). y.0) k, ap (λ (y : ℕ × ℕ). y.1) k))
+      (λ u j. proper (number_of u.0) u.1 (is u j)) (told-kind x e)
 
 -- the answers of each call
 pub sample-zero : (v : Number) → (flat_sample (value v)).refusal ≡ 0
@@ -179,57 +171,57 @@ sample-zero (Number.Whole z) = refl
 sample-zero (Number.Float v) = refl
 sample-zero (Number.Pattern n) = refl
 
-abbrev listed : Meant Table.rows Table.refusal Listed Counted
-listed = record { meaning = Table.meaning; tell = Listed.Rows; refuse = Listed.Refused; flat = counted_rows; says = λ a. refusal_of a.refusal a.position; tells = λ v. refl; refuses = λ r. refl; zero = λ v. refl; named = λ n p. refl }
+abbrev listed : Meant Table.rows Table.refusal (Result ℕ Refusal) Counted
+listed = record { meaning = Table.meaning; tell = Ok; refuse = Err; flat = counted_rows; says = λ a. (a.refusal, a.position); tells = λ v. refl; refuses = λ r. refl; zero = λ v. refl; named = λ n p. refl }
 
-abbrev written : Meant Permit.bytes Permit.refusal Written Counted
-written = record { meaning = Permit.meaning; tell = Written.Bytes; refuse = Written.Refused; flat = counted_bytes; says = λ a. refusal_of a.refusal a.position; tells = λ v. refl; refuses = λ r. refl; zero = λ v. refl; named = λ n p. refl }
+abbrev written : Meant Permit.bytes Permit.refusal (Result ℕ Refusal) Counted
+written = record { meaning = Permit.meaning; tell = Ok; refuse = Err; flat = counted_bytes; says = λ a. (a.refusal, a.position); tells = λ v. refl; refuses = λ r. refl; zero = λ v. refl; named = λ n p. refl }
 
-abbrev header : Meant {X = Asked.Header} value refusal HeaderTold Heading
-header = record { meaning = meaning_h; tell = HeaderTold.Header; refuse = HeaderTold.Refused; flat = flat_heading; says = λ a. refusal_of a.refusal a.position; tells = λ v. refl; refuses = λ r. refl; zero = λ v. refl; named = λ n p. refl }
+abbrev header : Meant {X = Asked.Header} value refusal (Result Header Refusal) Heading
+header = record { meaning = meaning; tell = Ok; refuse = Err; flat = flat_heading; says = λ a. (a.refusal, a.position); tells = λ v. refl; refuses = λ r. refl; zero = λ v. refl; named = λ n p. refl }
 
-abbrev pub facts : Meant {X = Counts} value refusal FactsTold Facts
-facts = record { meaning = meaning_f; tell = FactsTold.Facts; refuse = FactsTold.Refused; flat = flat_facts; says = λ a. refusal_of a.refusal a.position; tells = λ v. refl; refuses = λ r. refl; zero = λ v. refl; named = λ n p. refl }
+abbrev pub facts : Meant {X = Counts} value refusal (Result Counts Refusal) Facts
+facts = record { meaning = meaning; tell = Ok; refuse = Err; flat = flat_facts; says = λ a. (a.refusal, a.position); tells = λ v. refl; refuses = λ r. refl; zero = λ v. refl; named = λ n p. refl }
 
-abbrev pub channel : Meant {X = Descriptor} value refusal ChannelTold Channel
-channel = record { meaning = meaning_d; tell = ChannelTold.Channel; refuse = ChannelTold.Refused; flat = flat_channel; says = λ a. refusal_of a.refusal a.position; tells = λ v. refl; refuses = λ r. refl; zero = λ v. refl; named = λ n p. refl }
+abbrev pub channel : Meant {X = Descriptor} value refusal (Result Descriptor Refusal) Channel
+channel = record { meaning = meaning; tell = Ok; refuse = Err; flat = flat_channel; says = λ a. (a.refusal, a.position); tells = λ v. refl; refuses = λ r. refl; zero = λ v. refl; named = λ n p. refl }
 
-abbrev pub montage-count : Meant {X = ℕ} value refusal MontageCountTold Counted
-montage-count = record { meaning = meaning_n; tell = MontageCountTold.Channels; refuse = MontageCountTold.Refused; flat = flat_count; says = λ a. refusal_of a.refusal a.position; tells = λ v. refl; refuses = λ r. refl; zero = λ v. refl; named = λ n p. refl }
+abbrev pub montage-count : Meant {X = ℕ} value refusal (Result ℕ Refusal) Counted
+montage-count = record { meaning = meaning; tell = Ok; refuse = Err; flat = flat_count; says = λ a. (a.refusal, a.position); tells = λ v. refl; refuses = λ r. refl; zero = λ v. refl; named = λ n p. refl }
 
-abbrev pub montage : Meant {X = Wired} value refusal MontageTold Montage
-montage = record { meaning = meaning_m; tell = MontageTold.Channel; refuse = MontageTold.Refused; flat = flat_montage; says = λ a. refusal_of a.channel.refusal a.channel.position; tells = λ v. refl; refuses = λ r. refl; zero = λ v. refl; named = λ n p. refl }
+abbrev pub montage : Meant {X = Wired} value refusal (Result Wired Refusal) Montage
+montage = record { meaning = meaning; tell = Ok; refuse = Err; flat = flat_montage; says = λ a. (a.channel.refusal, a.channel.position); tells = λ v. refl; refuses = λ r. refl; zero = λ v. refl; named = λ n p. refl }
 
-abbrev pub item : Meant {X = Entry} value refusal ItemTold Item
-item = record { meaning = meaning_i; tell = ItemTold.Item; refuse = ItemTold.Refused; flat = flat_item; says = λ a. refusal_of a.refusal a.position; tells = λ v. refl; refuses = λ r. refl; zero = λ v. refl; named = λ n p. refl }
+abbrev pub item : Meant {X = Entry} value refusal (Result Entry Refusal) Item
+item = record { meaning = meaning; tell = Ok; refuse = Err; flat = flat_item; says = λ a. (a.refusal, a.position); tells = λ v. refl; refuses = λ r. refl; zero = λ v. refl; named = λ n p. refl }
 
-abbrev pub clock : Meant {X = Time} value refusal ClockTold Clock
-clock = record { meaning = meaning_t; tell = ClockTold.At; refuse = ClockTold.Refused; flat = flat_clock; says = λ a. refusal_of a.refusal a.position; tells = λ v. refl; refuses = λ r. refl; zero = λ v. refl; named = λ n p. refl }
+abbrev pub clock : Meant {X = Time} value refusal (Result Time Refusal) Clock
+clock = record { meaning = meaning; tell = Ok; refuse = Err; flat = flat_clock; says = λ a. (a.refusal, a.position); tells = λ v. refl; refuses = λ r. refl; zero = λ v. refl; named = λ n p. refl }
 
-abbrev pub place : Meant {X = Place} value refusal PlaceTold PlaceC.Place
-place = record { meaning = meaning_p; tell = PlaceTold.At; refuse = PlaceTold.Refused; flat = flat_place; says = λ a. refusal_of a.refusal a.position; tells = λ v. refl; refuses = λ r. refl; zero = λ v. refl; named = λ n p. refl }
+abbrev pub place : Meant {X = Place} value refusal (Result Place Refusal) PlaceC.Place
+place = record { meaning = meaning; tell = Ok; refuse = Err; flat = flat_place; says = λ a. (a.refusal, a.position); tells = λ v. refl; refuses = λ r. refl; zero = λ v. refl; named = λ n p. refl }
 
-abbrev pub track : Meant {X = Track} value refusal TrackTold TrackC.Track
+abbrev pub track : Meant {X = Track} value refusal (Result Track Refusal) TrackC.Track
 track = record {
-  meaning = meaning_k;
-  tell = TrackTold.At;
-  refuse = TrackTold.Refused;
+  meaning = meaning;
+  tell = Ok;
+  refuse = Err;
   flat = flat_track;
-  says = λ a. refusal_of a.refusal a.position;
+  says = λ a. (a.refusal, a.position);
   tells = λ v. refl;
   refuses = λ r. refl;
   zero = λ v. refl;
   named = λ n p. refl;
 }
 
-abbrev pub sample : Meant {X = Number} value refusal SampleTold Sample
-sample = record { meaning = meaning_s; tell = SampleTold.Value; refuse = SampleTold.Refused; flat = flat_sample; says = λ a. refusal_of a.refusal a.position; tells = λ v. refl; refuses = λ r. refl; zero = sample-zero; named = λ n p. refl }
+abbrev pub sample : Meant {X = Number} value refusal (Result Number Refusal) Sample
+sample = record { meaning = meaning; tell = Ok; refuse = Err; flat = flat_sample; says = λ a. (a.refusal, a.position); tells = λ v. refl; refuses = λ r. refl; zero = sample-zero; named = λ n p. refl }
 
-abbrev ran : Meant {X = ℕ} value refusal Ran Counted
-ran = record { meaning = Runs.meaning; tell = Ran.Numbers; refuse = Ran.Refused; flat = flat_count; says = λ a. refusal_of a.refusal a.position; tells = λ v. refl; refuses = λ r. refl; zero = λ v. refl; named = λ n p. refl }
+abbrev ran : Meant {X = ℕ} value refusal (Result ℕ Refusal) Counted
+ran = record { meaning = meaning; tell = Ok; refuse = Err; flat = flat_count; says = λ a. (a.refusal, a.position); tells = λ v. refl; refuses = λ r. refl; zero = λ v. refl; named = λ n p. refl }
 
-abbrev indexed : Meant {X = ℕ} value refusal Indexed Counted
-indexed = record { meaning = Index.meaning; tell = Indexed.Entries; refuse = Indexed.Refused; flat = flat_count; says = λ a. refusal_of a.refusal a.position; tells = λ v. refl; refuses = λ r. refl; zero = λ v. refl; named = λ n p. refl }
+abbrev indexed : Meant {X = ℕ} value refusal (Result ℕ Refusal) Counted
+indexed = record { meaning = meaning; tell = Ok; refuse = Err; flat = flat_count; says = λ a. (a.refusal, a.position); tells = λ v. refl; refuses = λ r. refl; zero = λ v. refl; named = λ n p. refl }
 
 -- The verdict
 
@@ -293,65 +285,65 @@ module _ {B E : Type 0} {refuse : Refusal → E} {wrote : ℕ → E} {each : ℕ
     long = k.long;
   }
 
-ends-listed : {a : Counted} (c : Listed) → a ≡ counted_rows (Table.meaning c) → Ends Listed.Refused Listed.Rows a c
-ends-listed (Listed.Rows n) e = ended n refl e
-ends-listed (Listed.Refused r) e = stops r refl e
+ends-listed : {a : Counted} (c : Result ℕ Refusal) → a ≡ counted_rows (Table.meaning c) → Ends Err Ok a c
+ends-listed (Ok n) e = ended n refl e
+ends-listed (Err r) e = stops r refl e
 
-ends-written : {a : Counted} (c : Written) → a ≡ counted_bytes (Permit.meaning c) → Ends Written.Refused Written.Bytes a c
-ends-written (Written.Bytes n) e = ended n refl e
-ends-written (Written.Refused r) e = stops r refl e
+ends-written : {a : Counted} (c : Result ℕ Refusal) → a ≡ counted_bytes (Permit.meaning c) → Ends Err Ok a c
+ends-written (Ok n) e = ended n refl e
+ends-written (Err r) e = stops r refl e
 
-ends-ran : {a : Counted} (c : Ran) → a ≡ flat_count (Runs.meaning c) → Ends Ran.Refused Ran.Numbers a c
-ends-ran (Ran.Numbers n) e = ended n refl e
-ends-ran (Ran.Refused r) e = stops r refl e
+ends-ran : {a : Counted} (c : Result ℕ Refusal) → a ≡ flat_count (meaning c) → Ends Err Ok a c
+ends-ran (Ok n) e = ended n refl e
+ends-ran (Err r) e = stops r refl e
 
-ends-indexed : {a : Counted} (c : Indexed) → a ≡ flat_count (Index.meaning c) → Ends Indexed.Refused Indexed.Entries a c
-ends-indexed (Indexed.Entries n) e = ended n refl e
-ends-indexed (Indexed.Refused r) e = stops r refl e
+ends-indexed : {a : Counted} (c : Result ℕ Refusal) → a ≡ flat_count (meaning c) → Ends Err Ok a c
+ends-indexed (Ok n) e = ended n refl e
+ends-indexed (Err r) e = stops r refl e
 
 -- The calls, of every list of bytes
 
 module _ (s : List ℕ) (b : Bytes s) where
-  pub judge-apart : (a : Header) → JudgeAnswers s a → TakenApart s (JudgedAs s) Judged.Refused flat_judged of_file 0 a.refusal a.position a
+  pub judge-apart : (a : Header) → JudgeAnswers s a → TakenApart s (JudgedAs s) Err flat_judged of_file 0 a.refusal a.position a
   judge-apart a x = go (R.judge s) refl
     where
-      told : (j : Judged) → JudgedAs s j → a ≡ flat_judged j → Kind Judged.Refused a.refusal j → TakenApart s (JudgedAs s) Judged.Refused flat_judged of_file 0 a.refusal a.position a
+      told : (j : Result FileHeader Refusal) → JudgedAs s j → a ≡ flat_judged j → Kind Err a.refusal j → TakenApart s (JudgedAs s) Err flat_judged of_file 0 a.refusal a.position a
       told j m e k =
           taken-apart s j m e (λ n p h. x ∙ rw h) (λ r i. ap (λ (y : Header). refusal_of y.refusal y.position) (e ∙ ap flat_judged i)) (λ r i. of-file s of_file 0 (λ n h. h) r (rw i at m)) k
 
-      go : (y : Outcome R.File) → R.judge s ≡ y → TakenApart s (JudgedAs s) Judged.Refused flat_judged of_file 0 a.refusal a.position a
-      go (refused n p) e = told (Judged.Refused (refusal_of n p)) e (x ∙ rw e) (is-refusal (refusal_of n p) refl)
+      go : (y : Outcome R.File) → R.judge s ≡ y → TakenApart s (JudgedAs s) Err flat_judged of_file 0 a.refusal a.position a
+      go (refused n p) e = told (Err (refusal_of n p)) e (x ∙ rw e) (is-refusal (refusal_of n p) refl)
       go (passed v l t) e =
           let h = e ∙ ap (λ (y : List ℕ). passed v y t) (nothing_left s b e) in
-          told (Judged.Accepted (header_judged s v)) (accepted-as h) (headed-by s x h) (is-value (ap (λ (y : Header). y.refusal) (headed-by s x h)))
+          told (Ok (header_judged s v)) (accepted-as h) (headed-by s x h) (is-value (ap (λ (y : Header). y.refusal) (headed-by s x h)))
 
-  pub table-apart : (out out' : List ℤ) (a : Counted) → TableAnswers s out out' a → TakenApart s (Lists s out out') Listed.Refused (λ c. counted_rows (Table.meaning c)) of_table (4 * length (listed_rows (R.judge s))) a.refusal a.position a
+  pub table-apart : (out out' : List ℤ) (a : Counted) → TableAnswers s out out' a → TakenApart s (Lists s out out') Err (λ c. counted_rows (Table.meaning c)) of_table (4 * length (listed_rows (R.judge s))) a.refusal a.position a
   table-apart out out' a x =
       by-meaning listed s (either-rows (Table.answer_of s (length out))) (λ c e. record { answer = e; buffer = x.holds }) x.answers (λ n p h. rw h)
       (λ n p e. table-refuses s (length out) (refusal_of n p) (sym e))
 
-  pub turn-apart : (out out' : List ℕ) (a : Counted) → TurnAnswers s out out' a → TakenApart s (Turns s out out') Written.Refused (λ c. counted_bytes (Permit.meaning c)) of_turn (length s) a.refusal a.position a
+  pub turn-apart : (out out' : List ℕ) (a : Counted) → TurnAnswers s out out' a → TakenApart s (Turns s out out') Err (λ c. counted_bytes (Permit.meaning c)) of_turn (length s) a.refusal a.position a
   turn-apart out out' a x =
       by-meaning written s (either-bytes (Turn.answer_of s (length out))) (λ c e. record { answer = e; buffer = x.holds }) x.answers (λ n p h. rw h)
       (λ n p e. turn-refuses s b (length out) (refusal_of n p) (sym e))
 
-  pub rewrite-apart : (order : ℕ) (out out' : List ℕ) (a : Counted) → RewriteAnswers s order out out' a → TakenApart s (Rewrites s order out out') Written.Refused (λ c. counted_bytes (Permit.meaning c)) of_rewrite (length (rewritten_in (lettered order) s)) a.refusal a.position a
+  pub rewrite-apart : (order : ℕ) (out out' : List ℕ) (a : Counted) → RewriteAnswers s order out out' a → TakenApart s (Rewrites s order out out') Err (λ c. counted_bytes (Permit.meaning c)) of_rewrite (length (rewritten_in (lettered order) s)) a.refusal a.position a
   rewrite-apart order out out' a x =
       by-meaning written s (either-bytes (Rewrite.answer_of s order (length out))) (λ c e. record { answer = e; buffer = x.holds }) x.answers (λ n p h. rw h)
       (λ n p e. rewrite-refuses s b order (length out) (refusal_of n p) (sym e))
 
-  pub run-apart : (c : Sibling) (i j k first n : ℕ) (out out' : List (Element c)) (a : Counted) → RunAnswers c s i j k first n out out' a → TakenApart s (RunAnswer c s i j k first n out out') Ran.Refused (λ d. flat_count (Runs.meaning d)) of_run n a.refusal a.position a
+  pub run-apart : (c : Sibling) (i j k first n : ℕ) (out out' : List (Element c)) (a : Counted) → RunAnswers c s i j k first n out out' a → TakenApart s (RunAnswer c s i j k first n out out') Err (λ d. flat_count (meaning d)) of_run n a.refusal a.position a
   run-apart c i j k first n out out' a x =
       by-meaning ran s (either (Runs.answer_of c s i j k first n (length out))) (λ d e. record { answer = e; buffer = x.holds }) x.answers (λ m p h. rw h)
       (λ m p e. run-refuses s c i j k first n (length out) (refusal_of m p) (sym e))
 
-  pub index-apart : (out out' : List ℤ) (a : Counted) → IndexAnswers s out out' a → TakenApart s (Indexes s out out') Indexed.Refused (λ d. flat_count (Index.meaning d)) of_table (5 * length (entries_of s (R.judge s))) a.refusal a.position a
+  pub index-apart : (out out' : List ℤ) (a : Counted) → IndexAnswers s out out' a → TakenApart s (Indexes s out out') Err (λ d. flat_count (meaning d)) of_table (5 * length (entries_of s (R.judge s))) a.refusal a.position a
   index-apart out out' a x =
       by-meaning indexed s (either (Index.answer_of s (length out))) (λ d e. record { answer = e; buffer = x.holds }) x.answers (λ m p h. rw h)
       (λ m p e. index-refuses s (length out) (refusal_of m p) (sym e))
 
   -- a question's refusals
-  asked : {A : Type 0} {x : Answer A} → Proper s x → (n p : ℕ) → x ≡ refusal n p → Refuses of_question (length s) 0 (refusal_of n p)
+  asked : {A : Type 0} {x : Answer A} → Proper s x → (n p : ℕ) → x ≡ refusal n p → Refuses of_question (length s) 0 n p
   asked h n p e = rw e at h
 
   pub boundary : Boundary s
@@ -363,8 +355,8 @@ module _ (s : List ℕ) (b : Bytes s) where
     turn_keeps = λ out out' a x. let y = turn-apart out out' a x in kept (turn-keeps s b out out' y.told y.met) (ends-written y.told y.same);
     rewrite = rewrite-apart;
     rewrite_keeps = λ order out out' a x. let y = rewrite-apart order out out' a x in kept (rewrite-keeps s order out out' y.told y.met) (ends-written y.told y.same);
-    room = λ a x. by-meaning written s (either-bytes (room_of s)) (λ c e. e) x (λ n p h. rw h) (λ n p e. of-file s of_file 0 (λ n h. h) (refusal_of n p) (room-refused s (refusal_of n p) (sym e)));
-    header = λ a x. by-meaning header s (either (header_of s)) (λ c e. e) x (λ n p h. rw h) (λ n p e. of-file s of_file 0 (λ n h. h) (refusal_of n p) (header_refused s (refusal_of n p) (sym e)));
+    room = λ a x. by-meaning written s (either-bytes (room_of s)) (λ c e. e) x (λ n p h. rw h) (λ n p e. of-file s of_file 0 (λ n h. h) n p (room-refused s n p (sym e)));
+    header = λ a x. by-meaning header s (either (header_of s)) (λ c e. e) x (λ n p h. rw h) (λ n p e. of-file s of_file 0 (λ n h. h) n p (header_refused s n p (sym e)));
     facts = λ i a x. by-meaning facts s (either (facts_of s i)) (λ c e. e) x (λ n p h. rw h) (asked (proper-facts s i));
     channel = λ i j a x. by-meaning channel s (either (channel_of s i j)) (λ c e. e) x (λ n p h. rw h) (asked (proper-channel s i j));
     montage_count = λ i a x. by-meaning montage-count s (either (montage_count_of s i)) (λ c e. e) x (λ n p h. rw h) (asked (proper-montage-count s i));
@@ -387,15 +379,15 @@ module _ (s : List ℕ) (b : Bytes s) where
   pub boundary-accepted : (a : Header) → JudgeAnswers s a → a.refusal ≡ 0 → (h : FileHeader) × AcceptedAs s h × (a ≡ header_c h)
   boundary-accepted a x z = let y = judge-apart a x in go y.told y.met y.same
     where
-      go : (j : Judged) → JudgedAs s j → a ≡ flat_judged j → (h : FileHeader) × AcceptedAs s h × (a ≡ header_c h)
-      go (Judged.Accepted h) m e = (h, m, e)
-      go (Judged.Refused r) m e = let i : r.0 ≡ 0 = ap (λ (y : Header). y.refusal) (sym e) ∙ z in absurd (omega (arith, (of-file s of_file 0 (λ n h. h) r m).nonzero))
+      go : (j : Result FileHeader Refusal) → JudgedAs s j → a ≡ flat_judged j → (h : FileHeader) × AcceptedAs s h × (a ≡ header_c h)
+      go (Ok h) m e = (h, m, e)
+      go (Err r) m e = let i : r.0 ≡ 0 = ap (λ (y : Header). y.refusal) (sym e) ∙ z in absurd (omega (arith, (of-file s of_file 0 (λ n h. h) r m).nonzero))
 
   pub boundary-judges : (a : Header) → JudgeAnswers s a → JudgesByRules header_c refused_c s a
   boundary-judges a x =
       let y = judge-apart a x in
       record { accepts = λ v t h. headed-by s x h; refuses = λ n p h. x ∙ rw h; refused = as-refused y.told y.met y.same }
     where
-      as-refused : (j : Judged) → JudgedAs s j → a ≡ flat_judged j → (n p : ℕ) → a ≡ refused_c (refusal_of n p) → R.judge s ≡ refused n p
-      as-refused (Judged.Accepted k) m e n p i = let z : letter_of k.order ≡ 0 = ap (λ (y : Header). y.order) (sym e ∙ i) in absurd (omega (arith, letter-some k.order))
-      as-refused (Judged.Refused r) m e n p i = m ∙ ap (λ (y : Header). refused y.refusal y.position) (sym e ∙ i)
+      as-refused : (j : Result FileHeader Refusal) → JudgedAs s j → a ≡ flat_judged j → (n p : ℕ) → a ≡ refused_c (refusal_of n p) → R.judge s ≡ refused n p
+      as-refused (Ok k) m e n p i = let z : letter_of k.order ≡ 0 = ap (λ (y : Header). y.order) (sym e ∙ i) in absurd (omega (arith, letter-some k.order))
+      as-refused (Err r) m e n p i = m ∙ ap (λ (y : Header). refused y.refusal y.position) (sym e ∙ i)

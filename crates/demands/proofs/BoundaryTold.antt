@@ -1,5 +1,6 @@
 -- Demands 2 and 3, of what C is answered: what the reading has, and the same of two files of which the rules say the same.
 -- Assumes nothing.
+use Rattle.rules.specs.Reasons.{number_of, refusal_of}
 use mathlib.Core.Path.{◌≡◌, refl, ap, ◌∙◌}
 use mathlib.Core.List.{List}
 use Prim.Native.Nat.{ℕ}

@@ -1,5 +1,6 @@
 -- The question about the kind of a code, which needs no file: refused by 19 at 0 alone, answered for C by the same, and else the kind of document 02.
 -- Assumes nothing.
+use Rattle.rules.specs.Reasons.{refusal_of, number_of}
 use mathlib.Core.Path.{◌≡◌, refl, sym, ap, ◌∙◌}
 use mathlib.Core.Bool.{Bool, true, false}
 use Prim.Native.Nat.{ℕ}
@@ -11,30 +12,29 @@ use Rattle.walk.proofs.Apart.{zero_one}
 use Rattle.rules.specs.declared.Refusal.{Refusal}
 use Rattle.recordings.specs.Answers.{Answer, value, refusal, outside}
 use Rattle.recordings.proofs.Chosen.{refusal-value}
-use Rattle.codes.specs.Codes.{kind_of, kind_told, meaning, KindAnswer}
+use Rattle.codes.specs.Codes.{kind_of, kind_told, KindAnswer}
 use Rattle.codes.specs.declared.EventKind.{EventKind}
-use Rattle.codes.specs.declared.KindTold.{KindTold}
 use Rattle.codes.proofs.Table.{kind-is}
 use Rattle.codes.proofs.Unique.{told, told_back}
 use Rattle.answers.specs.Flat.{flat_kind}
 use Rattle.answers.specs.declared.Kind.{Kind}
 use Rattle.psg.specs.Calls.{KindAnswers}
-use Rattle.demands.specs.Demands.{of_code, refusal_of, Refuses, Answered, KindTaken, KindTells, kind_c, unkind_c}
+use Rattle.demands.specs.Demands.{of_code, Refuses, Answered, KindTaken, KindTells, kind_c, unkind_c}
 use Rattle.demands.proofs.Refusing.{out_of_range}
 
 -- the refusals, of a file of any size
-kind-refuses : (c size n p : ℕ) → kind_told c ≡ refusal n p → Refuses of_code size 0 (refusal_of n p)
+kind-refuses : (c size n p : ℕ) → kind_told c ≡ refusal n p → Refuses of_code size 0 n p
 kind-refuses c size n p h = go (leb c 65535) h
   where
-    go : (b : Bool) → pick b (value (kind_of c)) outside ≡ refusal n p → Refuses of_code size 0 (refusal_of n p)
+    go : (b : Bool) → pick b (value (kind_of c)) outside ≡ refusal n p → Refuses of_code size 0 n p
     go true h = refusal-value (sym h)
     go false h = out_of_range of_code size 0 (refusal_of n p) refl (cc) (cc)
 
-pub kind-answered : (c size : ℕ) (a : KindTold) → KindAnswer c a → Answered KindTold.Refused of_code size 0 a
-kind-answered c size a x r i = kind-refuses c size r.0 r.1 (sym x ∙ ap meaning i)
+pub kind-answered : (c size : ℕ) (a : Result EventKind Refusal) → KindAnswer c a → Answered Err of_code size 0 a
+kind-answered c size a x r i = kind-refuses c size (number_of r.0) r.1 (sym x ∙ ap meaning i)
 
 -- what C is answered
-kind-refused : {k : EventKind} {r : Refusal} → KindTold.Kind k ≡ KindTold.Refused r → ⊥
+kind-refused : {k : EventKind} {r : Refusal} → Ok k ≡ Err r → ⊥
 kind-refused h = zero_one (cc)
 
 pub kind-apart : (c : ℕ) (a : Kind) → KindAnswers c a → KindTaken c a
@@ -44,7 +44,7 @@ kind-apart c a x = go (kind_told c) refl x
     go (value k) e x =
         let z : a.refusal ≡ 0 = ap (λ (y : Kind). y.refusal) x in
         record {
-          told = KindTold.Kind k;
+          told = Ok k;
           met = sym e;
           same = x;
           answered = λ _ r. kind-refused;
@@ -55,7 +55,7 @@ kind-apart c a x = go (kind_told c) refl x
     go (refusal n p) e x =
         let r = kind-refuses c 0 n p e in
         rw x (record {
-          told = KindTold.Refused (refusal_of n p);
+          told = Err (refusal_of n p);
           met = sym e;
           same = refl;
           answered = λ z _ _. omega (arith, r.nonzero);
@@ -66,10 +66,10 @@ kind-apart c a x = go (kind_told c) refl x
 
 -- the kind, by whatever tells the answer
 module _ {E : Type 0} (tell : Answer EventKind → E) (c : ℕ) {a : E} (x : a ≡ tell (kind_told c)) where
-  kind-tells : KindTells (λ k. tell (value k)) (λ r. tell (refusal r.0 r.1)) c a
+  kind-tells : KindTells (λ k. tell (value k)) (λ r. tell (refusal (number_of r.0) r.1)) c a
   kind-tells = record { kind = λ l. (kind_of c, kind-is c, x ∙ rw (le-leb c 65535 l)); outside = λ l. x ∙ rw (lt-leb c 65535 l) }
 
-pub kinds : (c : ℕ) (a : KindTold) → KindAnswer c a → KindTells KindTold.Kind KindTold.Refused c a
+pub kinds : (c : ℕ) (a : Result EventKind Refusal) → KindAnswer c a → KindTells Ok Err c a
 kinds c a x = kind-tells told c (sym (told_back a) ∙ ap told x)
 
 pub boundary-kinds : (c : ℕ) (a : Kind) → KindAnswers c a → KindTells kind_c unkind_c c a

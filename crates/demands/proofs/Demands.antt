@@ -1,5 +1,7 @@
 -- The three demands, of every list of bytes that a file is: `demand-1`, `demand-2`, `demand-3`. What they say stands in specs/Demands.
 -- Assumes nothing.
+use Rattle.rules.specs.Reasons.{number_of, refusal_of}
+use Rattle.rules.specs.declared.Refusal.{Refusal}
 use mathlib.Core.Path.{◌≡◌, refl, sym, ap, ◌∙◌}
 use mathlib.Core.Bool.{true}
 use mathlib.Core.List.{List}
@@ -22,31 +24,20 @@ use Rattle.rules.proofs.CanonicalForm.{canonical-form, form-unique}
 use Rattle.rules.proofs.Rewrite.{rewrite-bytes}
 use Rattle.rules.proofs.Turn.{is-render, turn-bytes}
 use Rattle.header.specs.Letters.{lettered}
-use Rattle.header.specs.declared.Lettered.TheVariants as Lettered
 use Rattle.judge.proofs.Verdicts.{judge-accepted, judge-refused}
 use Rattle.rows.specs.Rows as Rows
 use Rattle.table.specs.Table as Table
 use Rattle.table.specs.Table.{Lists}
-use Rattle.table.specs.declared.Listed.{Listed}
 use Rattle.table.proofs.Answers.{lists-refused, table-unique}
 use Rattle.recordings.specs.Answers.{Answer, value, ◌>>=◌, numbered}
-use Rattle.recordings.specs.declared.FactsTold.TheVariants as FactsTold
 use Rattle.recordings.proofs.Chosen.{answered}
 use Rattle.samples.specs.Placed.{place_of, PartAnswer}
-use Rattle.samples.specs.declared.ClockTold.TheVariants as ClockTold
 use Rattle.samples.specs.declared.Place.{Place}
-use Rattle.samples.specs.declared.PlaceTold.TheVariants as PlaceTold
-use Rattle.samples.specs.declared.SampleTold.TheVariants as SampleTold
 use Rattle.samples.specs.declared.Track.{Track}
-use Rattle.samples.specs.declared.TrackTold.TheVariants as TrackTold
 use Rattle.samples.proofs.Placing.{part-inside, placed-from}
 use Rattle.records.specs.declared.items.Holder.TheVariants as Holder
 use Rattle.questions.specs.Tied.{recording_read, channel_read}
-use Rattle.questions.specs.Meanings.{meaning_h, meaning_f, meaning_d, meaning_n, meaning_m, meaning_i, meaning_t, meaning_p, meaning_k, meaning_s}
-use Rattle.questions.specs.declared.channels.ChannelTold.TheVariants as ChannelTold
-use Rattle.questions.specs.declared.channels.MontageCountTold.TheVariants as MontageCountTold
-use Rattle.questions.specs.declared.channels.MontageTold.TheVariants as MontageTold
-use Rattle.questions.specs.declared.items.ItemTold.TheVariants as ItemTold
+use Rattle.recordings.specs.Answers.{meaning}
 use Rattle.questions.proofs.Texts.{channel-texts, montage-wired, item-text}
 use Rattle.questions.proofs.Showing.{place-samples}
 use Rattle.questions.proofs.Tracks.{track-read}
@@ -59,13 +50,11 @@ use Rattle.runs.proofs.Told.{runs-refused, run-unique}
 use Rattle.index.specs.Events.{Entry, entries}
 use Rattle.index.specs.Index as Index
 use Rattle.index.specs.Index.{Indexes}
-use Rattle.index.specs.declared.Indexed.{Indexed}
 use Rattle.index.proofs.Answers.{indexes-refused, index-unique}
 use Rattle.index.proofs.AsBefore.{entries-read}
 use Rattle.index.proofs.Exact.{exact}
 use Rattle.makers.specs.Makers.{first_maker}
 use Rattle.permit.specs.Permit as Permit
-use Rattle.permit.specs.declared.Written.{Written}
 use Rattle.turn.specs.Turn.{Turns}
 use Rattle.turn.proofs.Answers.{turns-refused}
 use Rattle.turn.proofs.Demands.{turn-unique, turn-answers, turn-accepted, turn_twice}
@@ -77,7 +66,7 @@ use Rattle.room.proofs.Growth.{no_longer}
 use Rattle.answers.specs.Flat.{counted_rows, counted_bytes, flat_heading, flat_count}
 use Rattle.answers.specs.declared.Counted.{Counted}
 use Rattle.psg.specs.Calls.{TableAnswers}
-use Rattle.demands.specs.Demands.{of_file, refusal_of, Demand-1, Accepted, HandsUp, TableHolds, IndexHolds, Tells, WrittenAnew, SufficesC, Reserved, Demand-2, header_read, in_other, SameEnd, SameNumbers, BoundarySame, Same, Demand-3}
+use Rattle.demands.specs.Demands.{of_file, Demand-1, Accepted, HandsUp, TableHolds, IndexHolds, Tells, WrittenAnew, SufficesC, Reserved, Demand-2, header_read, in_other, SameEnd, SameNumbers, BoundarySame, Same, Demand-3}
 use Rattle.demands.specs.Demands.{track_in_other}
 use Rattle.demands.proofs.Agreeing.{agree-first, numbered-image}
 use Rattle.demands.proofs.Refusing.{of-file, header_refused, room-refused, table-refuses, table-keeps, turn-refuses, turn-keeps, rewrite-refuses, rewrite-keeps, index-refuses, index-keeps, question, proper-facts, proper-channel, proper-item, proper-clock, proper-place, proper-sample, proper-montage-count, proper-montage}
@@ -101,21 +90,21 @@ demand-1 s b = record {
   rewrite = λ order out out' a x r i. rewrite-refuses s b order (length out) r (sym (ap Permit.meaning i) ∙ x.answer);
   rewrite_keeps = rewrite-keeps s;
   room = λ a x r i. of-file s of_file 0 (λ n h. h) r (room-refused s r (sym (ap Permit.meaning i) ∙ x));
-  header = λ a x r i. of-file s of_file 0 (λ n h. h) r (header_refused s r (sym (ap meaning_h i) ∙ x));
-  facts = λ i a x. question s meaning_f FactsTold.Refused (λ r. refl) (proper-facts s i) a x;
-  channel = λ i j a x. question s meaning_d ChannelTold.Refused (λ r. refl) (proper-channel s i j) a x;
-  montage_count = λ i a x. question s meaning_n MontageCountTold.Refused (λ r. refl) (proper-montage-count s i) a x;
-  montage = λ i j a x. question s meaning_m MontageTold.Refused (λ r. refl) (proper-montage s i j) a x;
-  patient_item = λ i j a x. question s meaning_i ItemTold.Refused (λ r. refl) (proper-item s Holder.Patient i j) a x;
-  event_item = λ i j a x. question s meaning_i ItemTold.Refused (λ r. refl) (proper-item s Holder.Event i j) a x;
-  clock = λ i j a x. question s meaning_t ClockTold.Refused (λ r. refl) (proper-clock s i j) a x;
-  place = λ i j k a x. question s meaning_p PlaceTold.Refused (λ r. refl) (proper-place s i j k) a x;
-  track = λ i k a x. question s meaning_k TrackTold.Refused (λ r. refl) (proper-track s i k) a x;
+  header = λ a x r i. of-file s of_file 0 (λ n h. h) r (header_refused s r (sym (ap meaning i) ∙ x));
+  facts = λ i a x. question s meaning Err (λ r. refl) (proper-facts s i) a x;
+  channel = λ i j a x. question s meaning Err (λ r. refl) (proper-channel s i j) a x;
+  montage_count = λ i a x. question s meaning Err (λ r. refl) (proper-montage-count s i) a x;
+  montage = λ i j a x. question s meaning Err (λ r. refl) (proper-montage s i j) a x;
+  patient_item = λ i j a x. question s meaning Err (λ r. refl) (proper-item s Holder.Patient i j) a x;
+  event_item = λ i j a x. question s meaning Err (λ r. refl) (proper-item s Holder.Event i j) a x;
+  clock = λ i j a x. question s meaning Err (λ r. refl) (proper-clock s i j) a x;
+  place = λ i j k a x. question s meaning Err (λ r. refl) (proper-place s i j k) a x;
+  track = λ i k a x. question s meaning Err (λ r. refl) (proper-track s i k) a x;
   part = λ file e p r x. shown file p r x;
-  sample = λ i j k n a x. question s meaning_s SampleTold.Refused (λ r. refl) (proper-sample s i j k n) a x;
-  run = λ c i j k first n out out' a x r e. run-refuses s c i j k first n (length out) r (sym (ap Runs.meaning e) ∙ x.answer);
+  sample = λ i j k n a x. question s meaning Err (λ r. refl) (proper-sample s i j k n) a x;
+  run = λ c i j k first n out out' a x r e. run-refuses s c i j k first n (length out) r (sym (ap meaning e) ∙ x.answer);
   run_keeps = run-keeps s;
-  index = λ out out' a x r i. index-refuses s (length out) r (sym (ap Index.meaning i) ∙ x.answer);
+  index = λ out out' a x r i. index-refuses s (length out) r (sym (ap meaning i) ∙ x.answer);
   index_keeps = index-keeps s;
   event_kind = λ c a x. kind-answered c (length s) a x;
   boundary = boundary s b;
@@ -144,17 +133,17 @@ hands-up s n p h = record {
   index = λ out out' a x. (index-unique s out out' out a _ x (indexes-refused s out h)).0;
 }
 
-described : (s : List ℕ) {v : R.File} {t : List Event} → Accepted s v t → (out out' : List ℤ) (a : Listed) → 4 * length (rows 0 t) ≤ length out → Lists s out out' a → TableHolds Listed.Rows (rows 0 t) out' a
+described : (s : List ℕ) {v : R.File} {t : List Event} → Accepted s v t → (out out' : List ℤ) (a : Result ℕ Refusal) → 4 * length (rows 0 t) ≤ length out → Lists s out out' a → TableHolds Ok (rows 0 t) out' a
 described s {v} {t} h out out' a room x =
     let l = le-leb (4 * length (rows 0 t)) (length out) room in
-    let y = table-unique s out out' (written Rows.numbers 4 true out 0 (rows 0 t)) a (Listed.Rows (length (rows 0 t))) x (record { answer = rw (h, l); buffer = rw (h, l) }) in
+    let y = table-unique s out out' (written Rows.numbers 4 true out 0 (rows 0 t)) a (Ok (length (rows 0 t))) x (record { answer = rw (h, l); buffer = rw (h, l) }) in
     record { answer = y.0; holds = ap (take (4 * length (rows 0 t))) y.1 ∙ written-front Rows.numbers 4 (λ _. refl) out (rows 0 t) }
 
-indexed : (s : List ℕ) {v : R.File} {t : List Event} → Accepted s v t → (out out' : List ℤ) (a : Indexed) → 5 * length (entries s (R.contents v)) ≤ length out → Indexes s out out' a → IndexHolds Indexed.Entries (entries s (R.contents v)) out' a
+indexed : (s : List ℕ) {v : R.File} {t : List Event} → Accepted s v t → (out out' : List ℤ) (a : Result ℕ Refusal) → 5 * length (entries s (R.contents v)) ≤ length out → Indexes s out out' a → IndexHolds Ok (entries s (R.contents v)) out' a
 indexed s {v} h out out' a room x =
     let es = entries s (R.contents v) in
     let l = le-leb (5 * length es) (length out) room in
-    let y = index-unique s out out' (written Index.numbers 5 true out 0 es) a (Indexed.Entries (length es)) x (record { answer = rw (h, l); buffer = rw (h, l) }) in
+    let y = index-unique s out out' (written Index.numbers 5 true out 0 es) a (Ok (length es)) x (record { answer = rw (h, l); buffer = rw (h, l) }) in
     record { answer = y.0; holds = ap (take (5 * length es)) y.1 ∙ written-front Index.numbers 5 (λ _. refl) out es }
 
 tells : (s : List ℕ) → Bytes s → {v : R.File} {t : List Event} → Accepted s v t → Tells s (reading v)
@@ -182,9 +171,9 @@ tells s b {v} {t} h = record {
 }
 
 -- the file that `rewrite` wrote, whatever tells its length
-module _ (s : List ℕ) (b : Bytes s) {v : R.File} {t : List Event} (h : Accepted s v t) (order : ℕ) (to : Order) (names : lettered order ≡ Lettered.Names to) (free : barrier (R.order_of s) to (first_maker (rows 0 t)) ≡ none)
-    (out out' : List ℕ) (c : Written) (room : length (rewritten to s) ≤ length out) (x : Rewrites s order out out' c) where
-  rewrite-told : c ≡ Written.Bytes (length (rewritten to s))
+module _ (s : List ℕ) (b : Bytes s) {v : R.File} {t : List Event} (h : Accepted s v t) (order : ℕ) (to : Order) (names : lettered order ≡ Some to) (free : barrier (R.order_of s) to (first_maker (rows 0 t)) ≡ none)
+    (out out' : List ℕ) (c : Result ℕ Refusal) (room : length (rewritten to s) ≤ length out) (x : Rewrites s order out out' c) where
+  rewrite-told : c ≡ Ok (length (rewritten to s))
   rewrite-told = (rewrite-answers s h order to names free out out' c room x).0
 
   written-anew : {E : Type 0} {wrote : ℕ → E} (a : E) → a ≡ wrote (length (rewritten to s)) → WrittenAnew wrote (reading v) to out' a
@@ -245,15 +234,15 @@ demand-2 s b = record {
   boundary_lists = λ v t h out out' a room x.
       let y = table-apart s b out out' a x in
       let z = described s h out out' y.told room y.met in
-      record { answer = y.same ∙ ap (λ (c : Listed). counted_rows (Table.meaning c)) z.answer; holds = z.holds };
+      record { answer = y.same ∙ ap (λ (c : Result ℕ Refusal). counted_rows (Table.meaning c)) z.answer; holds = z.holds };
   boundary_indexes = λ v t h out out' a room x.
       let y = index-apart s b out out' a x in
       let z = indexed s h out out' y.told room y.met in
-      record { answer = y.same ∙ ap (λ (c : Indexed). flat_count (Index.meaning c)) z.answer; holds = z.holds };
+      record { answer = y.same ∙ ap (λ (c : Result ℕ Refusal). flat_count (meaning c)) z.answer; holds = z.holds };
   boundary_answers = λ v t h. boundary-tells s b h;
   boundary_rewrites = λ v t h order to names free out out' a room x.
       let y = rewrite-apart s b order out out' a x in
-      written-anew s b h order to names free out out' y.told room y.met a (y.same ∙ ap (λ (c : Written). counted_bytes (Permit.meaning c)) (rewrite-told s b h order to names free out out' y.told room y.met));
+      written-anew s b h order to names free out out' y.told room y.met a (y.same ∙ ap (λ (c : Result ℕ Refusal). counted_bytes (Permit.meaning c)) (rewrite-told s b h order to names free out out' y.told room y.met));
   boundary_kinds = boundary-kinds;
 }
 
@@ -261,7 +250,7 @@ demand-2 s b = record {
 
 -- two files of which the rules say the same
 module _ (s s' : List ℕ) (e : R.judge s' ≡ R.judge s) where
-  table_same : (out out₁ out₂ : List ℤ) (a c : Listed) → Lists s out out₁ a → Lists s' out out₂ c → SameEnd a c out₁ out₂
+  table_same : (out out₁ out₂ : List ℤ) (a c : Result ℕ Refusal) → Lists s out out₁ a → Lists s' out out₂ c → SameEnd a c out₁ out₂
   table_same out out₁ out₂ a c x y =
       let z = table-unique s out out₁ out₂ a c x (record { answer = rw e at y.answer; buffer = rw e at y.buffer }) in
       record { answer = z.0; buffer = z.1 }
@@ -284,7 +273,7 @@ module _ (s s' : List ℕ) (b : Bytes s) (b' : Bytes s') {v : R.File} {t : List 
   index-after : (out : List ℤ) → Index.afterwards s' out ≡ Index.afterwards s out
   index-after out = rw (h, h') (ap (λ (es : List Entry). Index.kept es out) entries-same)
 
-  index_same : (out out₁ out₂ : List ℤ) (a c : Indexed) → Indexes s out out₁ a → Indexes s' out out₂ c → SameEnd a c out₁ out₂
+  index_same : (out out₁ out₂ : List ℤ) (a c : Result ℕ Refusal) → Indexes s out out₁ a → Indexes s' out out₂ c → SameEnd a c out₁ out₂
   index_same out out₁ out₂ a c x y =
       let z = index-unique s out out₁ out₂ a c x (record { answer = y.answer ∙ index-answer (length out); buffer = y.buffer ∙ index-after out }) in
       record { answer = z.0; buffer = z.1 }
@@ -332,7 +321,7 @@ module _ (i j k : ℕ) (p : Place) (file r file' r' : Bor (List ℕ)) (b : Bytes
       }
 
 -- the file that `turn` wrote of an accepted one without makers' records
-module _ (s : List ℕ) (b : Bytes s) {v : R.File} {t : List Event} (h : Accepted s v t) (free : first_maker (rows 0 t) ≡ none) (out out' : List ℕ) (a : Written) (room : length s ≤ length out) (x : Turns s out out' a) where
+module _ (s : List ℕ) (b : Bytes s) {v : R.File} {t : List Event} (h : Accepted s v t) (free : first_maker (rows 0 t) ≡ none) (out out' : List ℕ) (a : Result ℕ Refusal) (room : length s ≤ length out) (x : Turns s out out' a) where
   abbrev s' : List ℕ
   s' = take (length s) out'
 
@@ -374,12 +363,12 @@ module _ (s : List ℕ) (b : Bytes s) {v : R.File} {t : List Event} (h : Accepte
         back = λ out₂ out₂' c l z.
             let y = turn-apart s' turned-bytes out₂ out₂' c z in
             let w = turn_twice s h free b out out' a room x out₂ out₂' y.told l y.met in
-            record { answer = y.same ∙ ap (λ (c : Written). counted_bytes (Permit.meaning c)) w.0; holds = w.1 };
+            record { answer = y.same ∙ ap (λ (c : Result ℕ Refusal). counted_bytes (Permit.meaning c)) w.0; holds = w.1 };
         anew = λ order to names out₁ out₁' c l₁ x₁ out₂ out₂' d l₂ x₂.
             let y₁ = rewrite-apart s b order out₁ out₁' c x₁ in
             let y₂ = rewrite-apart s' turned-bytes order out₂ out₂' d x₂ in
             let w = rewrite-both s b h free out out' a room x order to names out₁ out₁' y₁.told l₁ y₁.met out₂ out₂' y₂.told l₂ y₂.met in
-            record { answer = y₁.same ∙ (ap (λ (c : Written). counted_bytes (Permit.meaning c)) w.0 ∙ sym y₂.same); front = w.1 };
+            record { answer = y₁.same ∙ (ap (λ (c : Result ℕ Refusal). counted_bytes (Permit.meaning c)) w.0 ∙ sym y₂.same); front = w.1 };
       }
 
   says-the-same : Same s (reading v) s'
@@ -427,6 +416,6 @@ pub demand-3 : (s : List ℕ) → Bytes s → Demand-3 s
 demand-3 s b = record {
   answers = λ v t h free out out' a room x. (turn-answers s h free b out out' a room x).0;
   turned = λ v t h free out out' a room x. says-the-same s b h free out out' a room x;
-  boundary_answers = λ v t h free out out' a room x. let y = turn-apart s b out out' a x in y.same ∙ ap (λ (c : Written). counted_bytes (Permit.meaning c)) (turn-answers s h free b out out' y.told room y.met).0;
+  boundary_answers = λ v t h free out out' a room x. let y = turn-apart s b out out' a x in y.same ∙ ap (λ (c : Result ℕ Refusal). counted_bytes (Permit.meaning c)) (turn-answers s h free b out out' y.told room y.met).0;
   boundary_turned = λ v t h free out out' a room x. let y = turn-apart s b out out' a x in says-the-same s b h free out out' y.told room y.met;
 }

@@ -1,5 +1,8 @@
 -- Demand 1: which refusals each call can give, and what it leaves of a buffer.
 -- Assumes nothing.
+use Rattle.rules.proofs.Reasons.{number-again}
+use Rattle.rules.specs.Reasons.{number_of}
+use Rattle.std.specs.Prelude as Std
 use mathlib.Core.Path.{◌≡◌, refl, sym, ap, ◌∙◌}
 use mathlib.Core.Bool.{Bool, true, false, ◌||◌}
 use mathlib.Core.List.{List, [], ◌∷◌}
@@ -25,10 +28,8 @@ use Rattle.rules.specs.declared.Refusal.{Refusal}
 use Rattle.rules.proofs.Refusals.{refusals}
 use Rattle.rules.proofs.Turn.{nothing_left, turn-length}
 use Rattle.header.specs.Letters.{lettered}
-use Rattle.header.specs.declared.Lettered.{Lettered}
 use Rattle.rows.specs.Rows as Rows
 use Rattle.table.specs.Table as Table
-use Rattle.table.specs.declared.Listed.{Listed}
 use Rattle.table.proofs.Answers.{rows-refusal}
 use Rattle.recordings.specs.Answers.{Answer, value, refusal, ◌>>=◌, indexed, numbered}
 use Rattle.recordings.specs.Recordings.{judged, recording_of}
@@ -41,7 +42,6 @@ use Rattle.bodies.specs.Orders.{same_order}
 use Rattle.makers.specs.Makers.{first_maker}
 use Rattle.permit.specs.Permit as Permit
 use Rattle.permit.specs.Permit.{permitted, Writes}
-use Rattle.permit.specs.declared.Written.{Written}
 use Rattle.permit.proofs.Settled.{bytes-refusal, permit-room}
 use Rattle.turn.specs.Turn as Turn
 use Rattle.turn.specs.Turn.{Turns}
@@ -51,21 +51,20 @@ use Rattle.room.specs.Room.{room_in, room_of}
 use Rattle.index.specs.Events.{entries}
 use Rattle.index.specs.Index as Index
 use Rattle.index.specs.Index.{entries_of}
-use Rattle.index.specs.declared.Indexed.{Indexed}
-use Rattle.demands.specs.Demands.{of_file, of_table, of_turn, of_rewrite, of_question, Refuses, Answered, KeepsRest, listed_rows, refusal_of}
+use Rattle.demands.specs.Demands.{of_file, of_table, of_turn, of_rewrite, of_question, Refuses, Answered, KeepsRest, listed_rows}
 use Rattle.demands.proofs.Makers.{maker-inside}
 
 -- The numbers 17, 18 and 19, of a call that has them
 
-module _ (numbers : ℕ → Bool) (size need : ℕ) (r : Refusal) where
-  pub short : numbers 17 ≡ true → r.0 ≡ 17 → r.1 ≡ need → Refuses numbers size need r
-  short ok e f = record { number = rw e ok; nonzero = omega arith; file = λ l. absurd (omega arith); maker = λ i. absurd (omega arith); room = λ i. f; range = λ i. absurd (omega arith) }
+module _ (numbers : ℕ → Bool) (size need n p : ℕ) where
+  pub short : numbers 17 ≡ true → n ≡ 17 → p ≡ need → Refuses numbers size need n p
+  short ok e f = record { number = rw e ok; named = rw e; nonzero = omega arith; file = λ l. absurd (omega arith); maker = λ i. absurd (omega arith); room = λ i. f; range = λ i. absurd (omega arith) }
 
-  barred : numbers 18 ≡ true → r.0 ≡ 18 → r.1 ≤ size → Refuses numbers size need r
-  barred ok e f = record { number = rw e ok; nonzero = omega arith; file = λ l. f; maker = λ i. f; room = λ i. absurd (omega arith); range = λ i. absurd (omega arith) }
+  barred : numbers 18 ≡ true → n ≡ 18 → p ≤ size → Refuses numbers size need n p
+  barred ok e f = record { number = rw e ok; named = rw e; nonzero = omega arith; file = λ l. f; maker = λ i. f; room = λ i. absurd (omega arith); range = λ i. absurd (omega arith) }
 
-  pub out_of_range : numbers 19 ≡ true → r.0 ≡ 19 → r.1 ≡ 0 → Refuses numbers size need r
-  out_of_range ok e f = record { number = rw e ok; nonzero = omega arith; file = λ l. absurd (omega arith); maker = λ i. absurd (omega arith); room = λ i. absurd (omega arith); range = λ i. f }
+  pub out_of_range : numbers 19 ≡ true → n ≡ 19 → p ≡ 0 → Refuses numbers size need n p
+  out_of_range ok e f = record { number = rw e ok; named = rw e; nonzero = omega arith; file = λ l. absurd (omega arith); maker = λ i. absurd (omega arith); room = λ i. absurd (omega arith); range = λ i. f }
 
 -- each call has the file's numbers, and its own
 or-true : (b : Bool) {a : Bool} → a ≡ true → a || b ≡ true
@@ -77,94 +76,94 @@ or_right false e = e
 
 module _ (s : List ℕ) where
   -- a refusal of the file itself
-  pub of-file : (numbers : ℕ → Bool) (need : ℕ) → ((n : ℕ) → of_file n ≡ true → numbers n ≡ true) → (r : Refusal) → R.judge s ≡ refused r.0 r.1 → Refuses numbers (length s) need r
-  of-file numbers need has r h =
+  pub of-file : (numbers : ℕ → Bool) (need : ℕ) → ((n : ℕ) → of_file n ≡ true → numbers n ≡ true) → (n p : ℕ) → R.judge s ≡ refused n p → Refuses numbers (length s) need n p
+  of-file numbers need has n p h =
       let x = refusals s h in
-      record { number = has r.0 (in_between 1 16 r.0 x.0 x.1); nonzero = x.0; file = λ _. x.2; maker = λ _. x.2; room = λ e. absurd (omega (arith, x.1)); range = λ e. absurd (omega (arith, x.1)) }
+      record { number = has n (in_between 1 16 n x.0 x.1); named = number-again n x.0 (omega (arith, x.1)); nonzero = x.0; file = λ _. x.2; maker = λ _. x.2; room = λ e. absurd (omega (arith, x.1)); range = λ e. absurd (omega (arith, x.1)) }
 
   -- a call that lists things of n numbers each: 17, and how many numbers they are
   module _ {M : Type 0} (many : ℕ → M) (ref : ℕ → ℕ → M) (apart : (m n p : ℕ) → many m ≡ ref n p → ⊥) (same : (m q n p : ℕ) → ref m q ≡ ref n p → (m ≡ n) × (q ≡ p)) where
-    listing-refuses : (n count : ℕ) (b : Bool) (r : Refusal) → ref r.0 r.1 ≡ pick b (many count) (ref 17 (n * count)) → Refuses of_table (length s) (n * count) r
-    listing-refuses n count true r h = absurd (apart count r.0 r.1 (sym h))
-    listing-refuses n count false r h = let e = same r.0 r.1 17 (n * count) h in short of_table (length s) (n * count) r (or_right (of_file 17) refl) e.0 e.1
+    listing-refuses : (n count : ℕ) (b : Bool) (m q : ℕ) → ref m q ≡ pick b (many count) (ref 17 (n * count)) → Refuses of_table (length s) (n * count) m q
+    listing-refuses n count true m q h = absurd (apart count m q (sym h))
+    listing-refuses n count false m q h = let e = same m q 17 (n * count) h in short of_table (length s) (n * count) m q (or_right (of_file 17) refl) e.0 e.1
 
   -- the table
-  pub table-refuses : (room : ℕ) (r : Refusal) → Table.refusal r.0 r.1 ≡ Table.answer_of s room → Refuses of_table (length s) (4 * length (listed_rows (R.judge s))) r
-  table-refuses room r h = go (R.judge s) refl h
+  pub table-refuses : (room m q : ℕ) → Table.refusal m q ≡ Table.answer_of s room → Refuses of_table (length s) (4 * length (listed_rows (R.judge s))) m q
+  table-refuses room m q h = go (R.judge s) refl h
     where
-      go : (x : Outcome R.File) → R.judge s ≡ x → Table.refusal r.0 r.1 ≡ Table.answered x room → Refuses of_table (length s) (4 * length (listed_rows x)) r
-      go (refused n p) e h = of-file of_table 0 (λ n. or-true _) r (cc)
-      go (passed v l t) e h = listing-refuses Table.rows Table.refusal (λ _ _ _ h. rows-refusal h) (λ _ _ _ _ h. (cc, cc)) 4 (length (rows 0 t)) (leb (4 * length (rows 0 t)) room) r h
+      go : (x : Outcome R.File) → R.judge s ≡ x → Table.refusal m q ≡ Table.answered x room → Refuses of_table (length s) (4 * length (listed_rows x)) m q
+      go (refused n p) e h = of-file of_table 0 (λ n. or-true _) m q (cc)
+      go (passed v l t) e h = listing-refuses Table.rows Table.refusal (λ _ _ _ h. rows-refusal h) (λ _ _ _ _ h. (cc, cc)) 4 (length (rows 0 t)) (leb (4 * length (rows 0 t)) room) m q h
 
   -- the index
-  pub index-refuses : (room : ℕ) (r : Refusal) → refusal r.0 r.1 ≡ Index.answer_of s room → Refuses of_table (length s) (5 * length (entries_of s (R.judge s))) r
-  index-refuses room r h = go (R.judge s) refl h
+  pub index-refuses : (room m q : ℕ) → refusal m q ≡ Index.answer_of s room → Refuses of_table (length s) (5 * length (entries_of s (R.judge s))) m q
+  index-refuses room m q h = go (R.judge s) refl h
     where
-      go : (x : Outcome R.File) → R.judge s ≡ x → refusal r.0 r.1 ≡ Index.answered s x room → Refuses of_table (length s) (5 * length (entries_of s x)) r
-      go (refused n p) e h = of-file of_table 0 (λ n. or-true _) r (cc)
-      go (passed v l t) e h = listing-refuses value refusal (λ _ _ _ h. refusal-value (sym h)) (λ _ _ _ _ h. (cc, cc)) 5 (length (entries s (R.contents v))) (leb (5 * length (entries s (R.contents v))) room) r h
+      go : (x : Outcome R.File) → R.judge s ≡ x → refusal m q ≡ Index.answered s x room → Refuses of_table (length s) (5 * length (entries_of s x)) m q
+      go (refused n p) e h = of-file of_table 0 (λ n. or-true _) m q (cc)
+      go (passed v l t) e h = listing-refuses value refusal (λ _ _ _ h. refusal-value (sym h)) (λ _ _ _ _ h. (cc, cc)) 5 (length (entries s (R.contents v))) (leb (5 * length (entries s (R.contents v))) room) m q h
 
   -- leave to write: 18, then 17
-  module _ (numbers : ℕ → Bool) (has17 : numbers 17 ≡ true) (has18 : numbers 18 ≡ true) (need room : ℕ) (r : Refusal) where
-    permit-refuses : (made : Option ℕ) → ((p : ℕ) → made ≡ some p → p ≤ length s) → Permit.refusal r.0 r.1 ≡ permitted made need room → Refuses numbers (length s) need r
-    permit-refuses (some p) inside h = let e : r.1 ≡ p = cc in barred numbers (length s) need r has18 (cc) (omega (arith, inside p refl))
+  module _ (numbers : ℕ → Bool) (has17 : numbers 17 ≡ true) (has18 : numbers 18 ≡ true) (need room m q : ℕ) where
+    permit-refuses : (made : Option ℕ) → ((p : ℕ) → made ≡ some p → p ≤ length s) → Permit.refusal m q ≡ permitted made need room → Refuses numbers (length s) need m q
+    permit-refuses (some p) inside h = let e : q ≡ p = cc in barred numbers (length s) need m q has18 (cc) (omega (arith, inside p refl))
     permit-refuses none inside h = go (leb need room) h
       where
-        go : (b : Bool) → Permit.refusal r.0 r.1 ≡ pick b (Permit.bytes need) (Permit.refusal 17 need) → Refuses numbers (length s) need r
+        go : (b : Bool) → Permit.refusal m q ≡ pick b (Permit.bytes need) (Permit.refusal 17 need) → Refuses numbers (length s) need m q
         go true h = bytes-refusal (sym h)
-        go false h = short numbers (length s) need r has17 (cc) (cc)
+        go false h = short numbers (length s) need m q has17 (cc) (cc)
 
   module _ (b : Bytes s) where
     -- of an accepted file
     first-inside : {v : R.File} {l : List ℕ} {t : List Event} → R.judge s ≡ passed v l t → (p : ℕ) → first_maker (rows 0 t) ≡ some p → p ≤ length s
     first-inside {v} {l} {t} e = maker-inside s b (e ∙ ap (λ (y : List ℕ). passed v y t) (nothing_left s b e))
 
-    pub turn-refuses : (room : ℕ) (r : Refusal) → Permit.refusal r.0 r.1 ≡ Turn.answer_of s room → Refuses of_turn (length s) (length s) r
-    turn-refuses room r h = go (R.judge s) refl h
+    pub turn-refuses : (room m q : ℕ) → Permit.refusal m q ≡ Turn.answer_of s room → Refuses of_turn (length s) (length s) m q
+    turn-refuses room m q h = go (R.judge s) refl h
       where
-        go : (x : Outcome R.File) → R.judge s ≡ x → Permit.refusal r.0 r.1 ≡ Turn.answered x (length s) room → Refuses of_turn (length s) (length s) r
-        go (refused n p) e h = of-file of_turn (length s) (λ n. or-true _) r (cc)
-        go (passed v l t) e h = permit-refuses of_turn (or_right (of_file 17) refl) (or_right (of_file 18) refl) (length s) room r (first_maker (rows 0 t)) (first-inside e) h
+        go : (x : Outcome R.File) → R.judge s ≡ x → Permit.refusal m q ≡ Turn.answered x (length s) room → Refuses of_turn (length s) (length s) m q
+        go (refused n p) e h = of-file of_turn (length s) (λ n. or-true _) m q (cc)
+        go (passed v l t) e h = permit-refuses of_turn (or_right (of_file 17) refl) (or_right (of_file 18) refl) (length s) room m q (first_maker (rows 0 t)) (first-inside e) h
 
     barrier-some : (c : Bool) (made : Option ℕ) {p : ℕ} → pick c none made ≡ some p → made ≡ some p
     barrier-some true made h = none-some h
     barrier-some false made h = h
 
-    pub rewrite-refuses : (order room : ℕ) (r : Refusal) → Permit.refusal r.0 r.1 ≡ Rewrite.answer_of s order room → Refuses of_rewrite (length s) (length (rewritten_in (lettered order) s)) r
-    rewrite-refuses order room r h = go (R.judge s) refl (lettered order) h
+    pub rewrite-refuses : (order room m q : ℕ) → Permit.refusal m q ≡ Rewrite.answer_of s order room → Refuses of_rewrite (length s) (length (rewritten_in (lettered order) s)) m q
+    rewrite-refuses order room m q h = go (R.judge s) refl (lettered order) h
       where
-        go : (x : Outcome R.File) → R.judge s ≡ x → (l : Lettered) → Permit.refusal r.0 r.1 ≡ Rewrite.answered x l s room → Refuses of_rewrite (length s) (length (rewritten_in l s)) r
-        go (refused n p) e l h = of-file of_rewrite (length (rewritten_in l s)) (λ n. or-true _) r (cc)
-        go (passed v y t) e Lettered.Nothing h = out_of_range of_rewrite (length s) 0 r (or_right (of_file 19) refl) (cc) (cc)
-        go (passed v y t) e (Lettered.Names to) h =
-            permit-refuses of_rewrite (or_right (of_file 17) refl) (or_right (of_file 18) refl) (length (rewritten to s)) room r (barrier (R.order_of s) to (first_maker (rows 0 t)))
+        go : (x : Outcome R.File) → R.judge s ≡ x → (l : Std.Option Order) → Permit.refusal m q ≡ Rewrite.answered x l s room → Refuses of_rewrite (length s) (length (rewritten_in l s)) m q
+        go (refused n p) e l h = of-file of_rewrite (length (rewritten_in l s)) (λ n. or-true _) m q (cc)
+        go (passed v y t) e None h = out_of_range of_rewrite (length s) 0 m q (or_right (of_file 19) refl) (cc) (cc)
+        go (passed v y t) e (Some to) h =
+            permit-refuses of_rewrite (or_right (of_file 17) refl) (or_right (of_file 18) refl) (length (rewritten to s)) room m q (barrier (R.order_of s) to (first_maker (rows 0 t)))
             (λ p i. first-inside e p (barrier-some (same_order (R.order_of s) to) (first_maker (rows 0 t)) i)) h
 
   -- the header: the file's alone
-  pub header_refused : (r : Refusal) → refusal r.0 r.1 ≡ header_of s → R.judge s ≡ refused r.0 r.1
-  header_refused r h = go (R.judge s) h
+  pub header_refused : (m q : ℕ) → refusal m q ≡ header_of s → R.judge s ≡ refused m q
+  header_refused m q h = go (R.judge s) h
     where
-      go : (x : Outcome R.File) → refusal r.0 r.1 ≡ header_told (R.order_of s) x → x ≡ refused r.0 r.1
+      go : (x : Outcome R.File) → refusal m q ≡ header_told (R.order_of s) x → x ≡ refused m q
       go (refused n p) h = cc
       go (passed v l t) h = refusal-value h
 
   -- the room for a rewrite: the file's alone too
-  pub room-refused : (r : Refusal) → Permit.refusal r.0 r.1 ≡ room_of s → R.judge s ≡ refused r.0 r.1
-  room-refused r h = go (R.judge s) h
+  pub room-refused : (m q : ℕ) → Permit.refusal m q ≡ room_of s → R.judge s ≡ refused m q
+  room-refused m q h = go (R.judge s) h
     where
-      go : (x : Outcome R.File) → Permit.refusal r.0 r.1 ≡ room_in x (length s) → x ≡ refused r.0 r.1
+      go : (x : Outcome R.File) → Permit.refusal m q ≡ room_in x (length s) → x ≡ refused m q
       go (refused n p) h = cc
       go (passed v l t) h = bytes-refusal (sym h)
 
   -- A question: every refusal on the way to its answer is the file's, or 19
 
-  pub proper-outside : Refuses of_question (length s) 0 (refusal_of 19 0)
-  proper-outside = out_of_range of_question (length s) 0 (refusal_of 19 0) (or_right (of_file 19) refl) refl refl
+  pub proper-outside : Refuses of_question (length s) 0 19 0
+  proper-outside = out_of_range of_question (length s) 0 19 0 (or_right (of_file 19) refl) refl refl
 
   module _ {A : Type 0} where
     abbrev pub Proper : Answer A → Type 0
     Proper (value a) = Unit {0}
-    Proper (refusal n p) = Refuses of_question (length s) 0 (refusal_of n p)
+    Proper (refusal n p) = Refuses of_question (length s) 0 n p
 
     proper-indexed : (l : List A) (n : ℕ) → Proper (indexed l n)
     unfolding indexed
@@ -185,7 +184,7 @@ module _ (s : List ℕ) where
   proper-recording i = go (R.judge s) refl
     where
       go : (x : Outcome R.File) → R.judge s ≡ x → Proper (judged x i)
-      go (refused n p) e = of-file of_question 0 (λ n. or-true _) (refusal_of n p) e
+      go (refused n p) e = of-file of_question 0 (λ n. or-true _) n p e
       go (passed v l t) e = proper-then (numbered v.recordings i) _ (proper-numbered v.recordings i) (λ _. tt)
 
   proper-frame : (i j : ℕ) → Proper (frame_of s i j)
@@ -228,7 +227,7 @@ module _ (s : List ℕ) where
   proper-sample i j k n = proper-then (samples_of s i j k) _ (proper-samples i j k) (λ x. proper-then (indexed x.values n) _ (proper-indexed x.values n) (λ _. tt))
 
   -- the code's answer, by what it means
-  pub question : {A E : Type 0} (meaning : E → Answer A) (refuse : Refusal → E) → ((r : Refusal) → meaning (refuse r) ≡ refusal r.0 r.1) →
+  pub question : {A E : Type 0} (meaning : E → Answer A) (refuse : Refusal → E) → ((r : Refusal) → meaning (refuse r) ≡ refusal (number_of r.0) r.1) →
       {x : Answer A} → Proper x → (a : E) → meaning a ≡ x → Answered refuse of_question (length s) 0 a
   question meaning refuse means h a e r i = rw (sym e ∙ ap meaning i ∙ means r) at h
 
@@ -236,7 +235,7 @@ module _ (s : List ℕ) where
 
 -- a call that lists things of n numbers each, and answers how many: in front their numbers, behind them what stood there; a refusal leaves the buffer
 module _ {A E M : Type 0} (numbers : A → List ℤ) (n : ℕ) (each : (a : A) → length (numbers a) ≡ n) (refuse : Refusal → E) (tell : ℕ → E) (meaning : E → M) (many : ℕ → M) (ref : ℕ → ℕ → M)
-    (apart : (m k p : ℕ) → many m ≡ ref k p → ⊥) (one : (m k : ℕ) → many m ≡ many k → m ≡ k) (tells : (m : ℕ) → meaning (tell m) ≡ many m) (refuses : (r : Refusal) → meaning (refuse r) ≡ ref r.0 r.1)
+    (apart : (m k p : ℕ) → many m ≡ ref k p → ⊥) (one : (m k : ℕ) → many m ≡ many k → m ≡ k) (tells : (m : ℕ) → meaning (tell m) ≡ many m) (refuses : (r : Refusal) → meaning (refuse r) ≡ ref (number_of r.0) r.1)
     (out out' : List ℤ) (a : E) where
   unwritten : (k p : ℕ) → meaning a ≡ ref k p → out' ≡ out → KeepsRest refuse tell n out out' a
   unwritten k p h e =
@@ -256,24 +255,24 @@ module _ {A E M : Type 0} (numbers : A → List ℤ) (n : ℕ) (each : (a : A) �
       }
   listing-keeps xs false r h e = unwritten 17 (n * length xs) h e
 
-pub table-keeps : (s : List ℕ) (out out' : List ℤ) (a : Listed) → Table.Lists s out out' a → KeepsRest Listed.Refused Listed.Rows 4 out out' a
+pub table-keeps : (s : List ℕ) (out out' : List ℤ) (a : Result ℕ Refusal) → Table.Lists s out out' a → KeepsRest Err Ok 4 out out' a
 table-keeps s out out' a x = go (R.judge s) x.answer x.buffer
   where
-    go : (y : Outcome R.File) → Table.meaning a ≡ Table.answered y (length out) → out' ≡ Table.holding y out → KeepsRest Listed.Refused Listed.Rows 4 out out' a
-    go (refused n p) h e = unwritten Rows.numbers 4 (λ _. refl) Listed.Refused Listed.Rows Table.meaning Table.rows Table.refusal (λ _ _ _ h. rows-refusal h) (λ _ _ h. cc) (λ m. refl) (λ r. refl) out out' a n p h e
-    go (passed v l t) h e = listing-keeps Rows.numbers 4 (λ _. refl) Listed.Refused Listed.Rows Table.meaning Table.rows Table.refusal (λ _ _ _ h. rows-refusal h) (λ _ _ h. cc) (λ m. refl) (λ r. refl) out out' a (rows 0 t) (leb (4 * length (rows 0 t)) (length out)) refl h e
+    go : (y : Outcome R.File) → Table.meaning a ≡ Table.answered y (length out) → out' ≡ Table.holding y out → KeepsRest Err Ok 4 out out' a
+    go (refused n p) h e = unwritten Rows.numbers 4 (λ _. refl) Err Ok Table.meaning Table.rows Table.refusal (λ _ _ _ h. rows-refusal h) (λ _ _ h. cc) (λ m. refl) (λ r. refl) out out' a n p h e
+    go (passed v l t) h e = listing-keeps Rows.numbers 4 (λ _. refl) Err Ok Table.meaning Table.rows Table.refusal (λ _ _ _ h. rows-refusal h) (λ _ _ h. cc) (λ m. refl) (λ r. refl) out out' a (rows 0 t) (leb (4 * length (rows 0 t)) (length out)) refl h e
 
-pub index-keeps : (s : List ℕ) (out out' : List ℤ) (a : Indexed) → Index.Indexes s out out' a → KeepsRest Indexed.Refused Indexed.Entries 5 out out' a
+pub index-keeps : (s : List ℕ) (out out' : List ℤ) (a : Result ℕ Refusal) → Index.Indexes s out out' a → KeepsRest Err Ok 5 out out' a
 index-keeps s out out' a x = go (R.judge s) x.answer x.buffer
   where
-    go : (y : Outcome R.File) → Index.meaning a ≡ Index.answered s y (length out) → out' ≡ Index.holding s y out → KeepsRest Indexed.Refused Indexed.Entries 5 out out' a
-    go (refused n p) h e = unwritten Index.numbers 5 (λ _. refl) Indexed.Refused Indexed.Entries Index.meaning value refusal (λ _ _ _ h. refusal-value (sym h)) (λ _ _ h. cc) (λ m. refl) (λ r. refl) out out' a n p h e
+    go : (y : Outcome R.File) → meaning a ≡ Index.answered s y (length out) → out' ≡ Index.holding s y out → KeepsRest Err Ok 5 out out' a
+    go (refused n p) h e = unwritten Index.numbers 5 (λ _. refl) Err Ok meaning value refusal (λ _ _ _ h. refusal-value (sym h)) (λ _ _ h. cc) (λ m. refl) (λ r. refl) out out' a n p h e
     go (passed v l t) h e =
         let es = entries s (R.contents v) in
-        listing-keeps Index.numbers 5 (λ _. refl) Indexed.Refused Indexed.Entries Index.meaning value refusal (λ _ _ _ h. refusal-value (sym h)) (λ _ _ h. cc) (λ m. refl) (λ r. refl) out out' a es (leb (5 * length es) (length out)) refl h e
+        listing-keeps Index.numbers 5 (λ _. refl) Err Ok meaning value refusal (λ _ _ _ h. refusal-value (sym h)) (λ _ _ h. cc) (λ m. refl) (λ r. refl) out out' a es (leb (5 * length es) (length out)) refl h e
 
 -- bytes in front, as many as the answer says, and with room for them
-writes-keep : (x : Permit.Answer) (xs out out' : List ℕ) (a : Written) → ((n : ℕ) → Permit.bytes n ≡ x → (length xs ≡ n) × (n ≤ length out)) → Writes x xs out out' a → KeepsRest Written.Refused Written.Bytes 1 out out' a
+writes-keep : (x : Permit.Answer) (xs out out' : List ℕ) (a : Result ℕ Refusal) → ((n : ℕ) → Permit.bytes n ≡ x → (length xs ≡ n) × (n ≤ length out)) → Writes x xs out out' a → KeepsRest Err Ok 1 out out' a
 writes-keep (Permit.bytes n) xs out out' a room w =
     let l = room n refl in
     record {
@@ -292,17 +291,17 @@ writes-keep (Permit.refusal n p) xs out out' a room w = record {
   long = ap length w.buffer;
 }
 
-pub turn-keeps : (s : List ℕ) → Bytes s → (out out' : List ℕ) (a : Written) → Turns s out out' a → KeepsRest Written.Refused Written.Bytes 1 out out' a
+pub turn-keeps : (s : List ℕ) → Bytes s → (out out' : List ℕ) (a : Result ℕ Refusal) → Turns s out out' a → KeepsRest Err Ok 1 out out' a
 turn-keeps s b out out' a w = writes-keep (Turn.answer_of s (length out)) (turned s) out out' a (go (R.judge s) refl) w
   where
     go : (x : Outcome R.File) → R.judge s ≡ x → (n : ℕ) → Permit.bytes n ≡ Turn.answered x (length s) (length out) → (length (turned s) ≡ n) × (n ≤ length out)
     go (refused m p) e n h = bytes-refusal h
     go (passed v l t) e n h = let y = permit-room (first_maker (rows 0 t)) (length s) (length out) h in (turn-length s b e ∙ sym y.0, omega (arith, y.0, y.1))
 
-pub rewrite-keeps : (s : List ℕ) (order : ℕ) (out out' : List ℕ) (a : Written) → Rewrites s order out out' a → KeepsRest Written.Refused Written.Bytes 1 out out' a
+pub rewrite-keeps : (s : List ℕ) (order : ℕ) (out out' : List ℕ) (a : Result ℕ Refusal) → Rewrites s order out out' a → KeepsRest Err Ok 1 out out' a
 rewrite-keeps s order out out' a w = writes-keep (Rewrite.answer_of s order (length out)) (rewritten_in (lettered order) s) out out' a (go (R.judge s) (lettered order)) w
   where
-    go : (x : Outcome R.File) (l : Lettered) (n : ℕ) → Permit.bytes n ≡ Rewrite.answered x l s (length out) → (length (rewritten_in l s) ≡ n) × (n ≤ length out)
+    go : (x : Outcome R.File) (l : Std.Option Order) (n : ℕ) → Permit.bytes n ≡ Rewrite.answered x l s (length out) → (length (rewritten_in l s) ≡ n) × (n ≤ length out)
     go (refused m p) l n h = bytes-refusal h
-    go (passed v y t) Lettered.Nothing n h = bytes-refusal h
-    go (passed v y t) (Lettered.Names to) n h = let y = permit-room (barrier (R.order_of s) to (first_maker (rows 0 t))) (length (rewritten to s)) (length out) h in (sym y.0, omega (arith, y.0, y.1))
+    go (passed v y t) None n h = bytes-refusal h
+    go (passed v y t) (Some to) n h = let y = permit-room (barrier (R.order_of s) to (first_maker (rows 0 t))) (length (rewritten to s)) (length out) h in (sym y.0, omega (arith, y.0, y.1))

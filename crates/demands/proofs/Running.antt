@@ -1,6 +1,7 @@
 -- Demands 1 and 2, of a run of samples: its refusals, what it leaves of the buffer, what the reading has of it, and each entry as the question about that
 -- sample answers it. Once over the two calls.
 -- Assumes nothing.
+use Rattle.rules.specs.Reasons.{number_of}
 use mathlib.Core.Path.{◌≡◌, refl, sym, ap, ◌∙◌}
 use mathlib.Core.Bool.{Bool, true, false, ◌&&◌, ◌||◌}
 use mathlib.Core.List.{List, ◌++◌, map}
@@ -24,13 +25,11 @@ use Rattle.samples.specs.Frames.{format_of, Samples, samples_of, number_in}
 use Rattle.samples.specs.Placed.{place_of, bytes_of, values_of}
 use Rattle.samples.specs.declared.Place.{Place}
 use Rattle.samples.proofs.Placing.{values-many}
-use Rattle.samples.specs.declared.SampleTold.{SampleTold}
 use Rattle.questions.specs.Promised.{SampleAnswer}
 use Rattle.questions.specs.Tied.{channel_read}
 use Rattle.questions.proofs.Unique.{sample-unique}
 use Rattle.runs.specs.Runs.{Element, element_of, serves, run_within, place_from, run_of, counted, holding, meaning, answer_of, RunAnswer}
 use Rattle.runs.proofs.Asked.{as_before}
-use Rattle.runs.specs.declared.Ran.{Ran}
 use Rattle.runs.specs.declared.Sibling.{Sibling}
 use Rattle.demands.specs.Demands.{of_file, of_question, of_run, Refuses, KeepsRest, Accepted, Agree, values, refusals, run_read, EntryTells}
 use Rattle.demands.proofs.Agreeing.{agree_then, agree-second, agree-equal, image-value}
@@ -63,20 +62,20 @@ module _ (s : List ℕ) (b : Sibling) (i j k first n : ℕ) where
       go vs true = tt
       go vs false = proper-outside s
 
-  pub run-refuses : (room : ℕ) (r : Refusal) → refusal r.0 r.1 ≡ answer_of b s i j k first n room → Refuses of_run (length s) n r
+  pub run-refuses : (room : ℕ) (r : Refusal) → refusal (number_of r.0) r.1 ≡ answer_of b s i j k first n room → Refuses of_run (length s) n (number_of r.0) r.1
   run-refuses room r h = go (run_of b s i j k first n) proper-run h
     where
-      wider : Refuses of_question (length s) 0 r → Refuses of_run (length s) n r
+      wider : Refuses of_question (length s) 0 (number_of r.0) r.1 → Refuses of_run (length s) n (number_of r.0) r.1
       wider x = record { number = also r.0 x.number; nonzero = x.nonzero; file = x.file; maker = x.maker; room = λ e. absurd (no-seventeen (rw e at x.number)); range = x.range }
 
-      go : (x : Answer (List Value)) → Proper s x → refusal r.0 r.1 ≡ counted n room x → Refuses of_run (length s) n r
+      go : (x : Answer (List Value)) → Proper s x → refusal (number_of r.0) r.1 ≡ counted n room x → Refuses of_run (length s) n (number_of r.0) r.1
       go (refusal m p) y h =
           let e : r.0 ≡ m = cc in
           let f : r.1 ≡ p = cc in
           wider (rw (← e, ← f) at y)
       go (value vs) y h = room_for (leb n room) h
         where
-          room_for : (c : Bool) → refusal r.0 r.1 ≡ pick c (value n) (refusal 17 n) → Refuses of_run (length s) n r
+          room_for : (c : Bool) → refusal (number_of r.0) r.1 ≡ pick c (value n) (refusal 17 n) → Refuses of_run (length s) n (number_of r.0) r.1
           room_for true h = refusal-value h
           room_for false h = short of_run (length s) n r (or_right (of_file 17) refl) (cc) (cc)
 
@@ -113,18 +112,18 @@ counted-all n m room (value vs) h = go (leb n room) refl h
     go true e h = (cc, e, (vs, refl))
     go false e h = refusal-value (sym h)
 
-pub run-number : {b : Sibling} {s : List ℕ} {i j k first n : ℕ} {out out' : List (Element b)} {a : Ran} → RunAnswer b s i j k first n out out' a → (m : ℕ) → a ≡ Ran.Numbers m → m ≡ n
+pub run-number : {b : Sibling} {s : List ℕ} {i j k first n : ℕ} {out out' : List (Element b)} {a : Result ℕ Refusal} → RunAnswer b s i j k first n out out' a → (m : ℕ) → a ≡ Ok m → m ≡ n
 run-number {b} {s} {i} {j} {k} {first} {n} {out} x m e = (counted-all n m (length out) (run_of b s i j k first n) (sym (ap meaning e) ∙ x.answer)).0
 
 -- What is left of the buffer
 
-pub run-keeps : (s : List ℕ) (b : Sibling) (i j k first n : ℕ) (out out' : List (Element b)) (a : Ran) → RunAnswer b s i j k first n out out' a → KeepsRest Ran.Refused Ran.Numbers 1 out out' a
+pub run-keeps : (s : List ℕ) (b : Sibling) (i j k first n : ℕ) (out out' : List (Element b)) (a : Result ℕ Refusal) → RunAnswer b s i j k first n out out' a → KeepsRest Err Ok 1 out out' a
 run-keeps s b i j k first n out out' a x = go (run_of b s i j k first n) (λ vs e. run_long b s i j k first n e) x.answer x.buffer
   where
-    left : {m p : ℕ} → meaning a ≡ refusal m p → out' ≡ out → KeepsRest Ran.Refused Ran.Numbers 1 out out' a
+    left : {m p : ℕ} → meaning a ≡ refusal m p → out' ≡ out → KeepsRest Err Ok 1 out out' a
     left h e = record { refused = λ _ _. e; fits = λ m i. refusal-value (sym h ∙ ap meaning i); beyond = λ m i. refusal-value (sym h ∙ ap meaning i); long = ap length e }
 
-    front : (xs : List (Element b)) → length xs ≡ n → n ≤ length out → meaning a ≡ value n → out' ≡ xs ++ drop n out → KeepsRest Ran.Refused Ran.Numbers 1 out out' a
+    front : (xs : List (Element b)) → length xs ≡ n → n ≤ length out → meaning a ≡ value n → out' ≡ xs ++ drop n out → KeepsRest Err Ok 1 out out' a
     front xs l room h e = record {
       refused = λ r i. refusal-value (sym (ap meaning i) ∙ h);
       fits = λ m i. let z : m ≡ n = cc (ap meaning i, h) in omega arith;
@@ -134,11 +133,11 @@ run-keeps s b i j k first n out out' a x = go (run_of b s i j k first n) (λ vs 
       long = ap length e ∙ (length-append xs (drop n out) ∙ rw length-drop (omega (arith, l)));
     }
 
-    go : (y : Answer (List Value)) → ((vs : List Value) → y ≡ value vs → length vs ≡ n) → meaning a ≡ counted n (length out) y → out' ≡ holding b n y out → KeepsRest Ran.Refused Ran.Numbers 1 out out' a
+    go : (y : Answer (List Value)) → ((vs : List Value) → y ≡ value vs → length vs ≡ n) → meaning a ≡ counted n (length out) y → out' ≡ holding b n y out → KeepsRest Err Ok 1 out out' a
     go (refusal m p) l h e = left h e
     go (value vs) l h e = room_for (leb n (length out)) refl h e
       where
-        room_for : (c : Bool) → leb n (length out) ≡ c → meaning a ≡ pick c (value n) (refusal 17 n) → out' ≡ pick c (map (element_of b) vs ++ drop n out) out → KeepsRest Ran.Refused Ran.Numbers 1 out out' a
+        room_for : (c : Bool) → leb n (length out) ≡ c → meaning a ≡ pick c (value n) (refusal 17 n) → out' ≡ pick c (map (element_of b) vs ++ drop n out) out → KeepsRest Err Ok 1 out out' a
         room_for true r h e = front (map (element_of b) vs) (length-map vs (element_of b) ∙ l vs refl) (leb-true n (length out) r) h e
         room_for false r h e = left h e
 
@@ -172,7 +171,7 @@ module _ (s : List ℕ) (bs : Bytes s) {v : R.File} {t : List Event} (h : Accept
   pub run-read : run_of b s i j k first n ≡ run_read b (reading v) i j k first n
   run-read = as_before s bs b i j k first n ∙ agree-equal (agree_then (λ l. channel_read (reading v) i k >>= λ c. run_within b first n (unsigned 4 c.format) l) (run_in b first n) (samples-stand s bs h i j k) (λ l x st. run-there st))
 
-  pub run-entry : (out out' : List (Element b)) → RunAnswer b s i j k first n out out' (Ran.Numbers n) → (q : ℕ) → q < n → (d : SampleTold) → SampleAnswer s i j k (first + q) d → EntryTells b out' q d
+  pub run-entry : (out out' : List (Element b)) → RunAnswer b s i j k first n out out' (Ok n) → (q : ℕ) → q < n → (d : Result Number Refusal) → SampleAnswer s i j k (first + q) d → EntryTells b out' q d
   run-entry out out' r q l d a =
       let e = as_before s bs b i j k first n in
       go (samples_of s i j k) refl (r.answer ∙ ap (counted n (length out)) e) (r.buffer ∙ ap (λ (y : Answer (List Value)). holding b n y out) e)
@@ -186,7 +185,7 @@ module _ (s : List ℕ) (bs : Bytes s) {v : R.File} {t : List Event} (h : Accept
           let here : get_or (take n (drop first x.values)) q (float 0) ≡ u = get_or-take n (drop first x.values) q (float 0) l ∙ get_or-drop first x.values q (float 0) in
           record {
             number = number_in u;
-            told = sample-unique s i j k (first + q) d (SampleTold.Value (number_in u)) a (rw (e, has));
+            told = sample-unique s i j k (first + q) d (Ok (number_in u)) a (rw (e, has));
             entry = rw z (front-entry b (take n (drop first x.values)) (drop n out) q (float 0) (omega (arith, long))) ∙ ap (λ (y : Value). value (element_of b y)) (here ∙ sym (sample-kept st (first + q) has));
           }
 

@@ -2,6 +2,7 @@
 -- `ensures` cites, in Rattle and (`boundary`) for C; that each call ends, for every input, is the language's own check. `proofs/Demands.antt` proves them of
 -- every list of bytes.
 -- Assumes nothing.
+use Rattle.rules.specs.Reasons.{number_of, reason_of, refusal_of}
 use Rattle.std.specs.Prelude.{◌≡◌, Bool, true, ◌||◌, List, [], ℕ, ◌+◌, ◌*◌, ◌≤◌, ◌<◌, eqb, ℤ, length, take, drop}
 use Rattle.std.proofs.Math.Option.{none}
 use Rattle.std.specs.Borrow.{Bor}
@@ -23,57 +24,39 @@ use Rattle.rules.specs.declared.Refusal.{Refusal}
 use Rattle.rules.specs.declared.Spelling.TheVariants as Spelling
 use Rattle.records.specs.declared.items.Holder.TheVariants as Holder
 use Rattle.header.specs.Letters.{lettered}
-use Rattle.header.specs.declared.Lettered.TheVariants as Lettered
 use Rattle.judge.specs.Judged.{AcceptedAs, JudgedAs}
-use Rattle.judge.specs.declared.Judged.{Judged}
 use Rattle.rows.specs.Rows as Rows
 use Rattle.table.specs.Table as Table
 use Rattle.table.specs.Table.{Lists}
-use Rattle.table.specs.declared.Listed.{Listed}
-use Rattle.recordings.specs.Answers.{Answer, value, refusal, ◌>>=◌, indexed}
+use Rattle.recordings.specs.Answers.{Answer, value, refusal, ◌>>=◌, indexed, meaning}
 use Rattle.recordings.specs.declared.Counts.{Counts}
-use Rattle.recordings.specs.declared.FactsTold.{FactsTold}
 use Rattle.codes.specs.Codes as Codes
 use Rattle.codes.specs.Codes.{KindAnswer, KindIs}
 use Rattle.codes.specs.declared.EventKind.{EventKind}
-use Rattle.codes.specs.declared.KindTold.{KindTold}
 use Rattle.samples.specs.Placed.{PartAnswer, values_at}
-use Rattle.samples.specs.declared.ClockTold.{ClockTold}
 use Rattle.samples.specs.declared.Number.{Number}
 use Rattle.samples.specs.declared.Place.{Place}
-use Rattle.samples.specs.declared.PlaceTold.{PlaceTold}
-use Rattle.samples.specs.declared.SampleTold.{SampleTold}
 use Rattle.samples.specs.declared.Time.{Time}
 use Rattle.samples.specs.declared.Track.{Track}
-use Rattle.samples.specs.declared.TrackTold.{TrackTold}
 use Rattle.questions.specs.Promised.{HeaderAnswer, FactsAnswer, ChannelAnswer, MontageCountAnswer, MontageAnswer, PatientItemAnswer, EventItemAnswer, ClockAnswer, PlaceAnswer, SampleAnswer}
 use Rattle.questions.specs.Promised.{TrackAnswer}
 use Rattle.questions.specs.Tied.{recording_read, channel_read, montage_read, item_read, frame_read, samples_read, sample_read, Alike, FactsAre, TextsAre, WiredIs, ItemIs, ClockIs, format_in, PlaceIs}
 use Rattle.questions.specs.Tied.{TrackIs}
 use Rattle.questions.specs.Values.{text_at}
 use Rattle.questions.specs.Questions.{header_in}
-use Rattle.questions.specs.Meanings.{meaning_h, meaning_f, meaning_d, meaning_n, meaning_m, meaning_i, meaning_t, meaning_p, meaning_k, meaning_s}
 use Rattle.questions.specs.declared.channels.Calibration.{Calibration}
-use Rattle.questions.specs.declared.channels.ChannelTold.{ChannelTold}
 use Rattle.questions.specs.declared.channels.Descriptor.{Descriptor}
-use Rattle.questions.specs.declared.channels.MontageCountTold.{MontageCountTold}
-use Rattle.questions.specs.declared.channels.MontageTold.{MontageTold}
 use Rattle.questions.specs.declared.items.Entry.{Entry}
 use Rattle.questions.specs.declared.headers.Header as Asked
-use Rattle.questions.specs.declared.headers.HeaderTold.{HeaderTold}
-use Rattle.questions.specs.declared.items.ItemTold.{ItemTold}
 use Rattle.runs.specs.Runs as Runs
 use Rattle.runs.specs.Runs.{Element, element_of, RunAnswer}
-use Rattle.runs.specs.declared.Ran.{Ran}
 use Rattle.runs.specs.declared.Sibling.{Sibling}
 use Rattle.index.specs.Events as Events
 use Rattle.index.specs.Events.{entries}
 use Rattle.index.specs.Index as Index
 use Rattle.index.specs.Index.{entries_of, Indexes}
-use Rattle.index.specs.declared.Indexed.{Indexed}
 use Rattle.makers.specs.Makers.{first_maker}
 use Rattle.permit.specs.Permit as Permit
-use Rattle.permit.specs.declared.Written.{Written}
 use Rattle.turn.specs.Turn.{Turns}
 use Rattle.rewrite.specs.Rewrite.{barrier, rewritten_in, Rewrites}
 use Rattle.room.specs.Room.{RoomAnswer, ShortAnew}
@@ -121,25 +104,27 @@ of_run n = of_file n || (eqb n 19 || eqb n 17)
 abbrev pub of_code : ℕ → Bool
 of_code n = eqb n 19
 
-abbrev pub refusal_of : ℕ → ℕ → Refusal
-refusal_of n p = record { 0 = n; 1 = p }
+-- n is a reason's number
+abbrev pub Named : ℕ → Type 0
+Named n = number_of (reason_of n) ≡ n
 
--- the refusal r, of a file of `size` bytes, by a call that has these numbers and needs so many elements of its buffer
-pub record Refuses (numbers : ℕ → Bool) (size need : ℕ) (r : Refusal) : Type 0 where
-  -- it is one of the numbers, and so not 0
-  pub number : numbers r.0 ≡ true
-  pub nonzero : 1 ≤ r.0
+-- the refusal n at p, of a file of `size` bytes, by a call that has these numbers and needs so many elements of its buffer
+pub record Refuses (numbers : ℕ → Bool) (size need n p : ℕ) : Type 0 where
+  -- it is one of the numbers, a reason's, and so not 0
+  pub number : numbers n ≡ true
+  pub named : Named n
+  pub nonzero : 1 ≤ n
   -- of the file, or 18: a byte of the file or its end
-  pub file : r.0 ≤ 16 → r.1 ≤ size
-  pub maker : r.0 ≡ 18 → r.1 ≤ size
+  pub file : n ≤ 16 → p ≤ size
+  pub maker : n ≡ 18 → p ≤ size
   -- 17: the length needed
-  pub room : r.0 ≡ 17 → r.1 ≡ need
+  pub room : n ≡ 17 → p ≡ need
   -- 19: 0
-  pub range : r.0 ≡ 19 → r.1 ≡ 0
+  pub range : n ≡ 19 → p ≡ 0
 
 -- the answer a is a value, or such a refusal
 abbrev pub Answered : {E : Type 0} → (Refusal → E) → (ℕ → Bool) → ℕ → ℕ → E → Type 0
-Answered refuse numbers size need a = (r : Refusal) → a ≡ refuse r → Refuses numbers size need r
+Answered refuse numbers size need a = (r : Refusal) → a ≡ refuse r → Refuses numbers size need (number_of r.0) r.1
 
 -- a buffer after the answer a, which is a refusal, or that n times so many elements were written
 pub record KeepsRest {A E : Type 0} (refuse : Refusal → E) (wrote : ℕ → E) (each : ℕ) (out out' : List A) (a : E) : Type 0 where
@@ -176,18 +161,18 @@ abbrev pub wrote_c : ℕ → Counted
 wrote_c n = record { refusal = 0; position = 0; count = n }
 
 abbrev pub stopped_c : Refusal → Counted
-stopped_c r = record { refusal = r.0; position = r.1; count = 0 }
+stopped_c r = record { refusal = number_of r.0; position = r.1; count = 0 }
 
 -- a header, with its order's letter, and a refusal
 abbrev pub header_c : FileHeader → Header
 header_c h = record { refusal = 0; position = 0; order = letter_of h.order; script = h.heading.script; recordings = h.count }
 
 abbrev pub refused_c : Refusal → Header
-refused_c r = record { refusal = r.0; position = r.1; order = 0; script = 0; recordings = 0 }
+refused_c r = record { refusal = number_of r.0; position = r.1; order = 0; script = 0; recordings = 0 }
 
-abbrev pub flat_judged : Judged → Header
-flat_judged (Judged.Accepted h) = header_c h
-flat_judged (Judged.Refused r) = refused_c r
+abbrev pub flat_judged : Result FileHeader Refusal → Header
+flat_judged (Ok h) = header_c h
+flat_judged (Err r) = refused_c r
 
 -- the answer a for C, in which n is the refusal and p its position, by a call about the file s that has these numbers and needs so many elements of its buffer
 pub record TakenApart {E A : Type 0} (s : List ℕ) (meets : E → Type 0) (refuse : Refusal → E) (apart : E → A) (numbers : ℕ → Bool) (need n p : ℕ) (a : A) : Type 0 where
@@ -201,20 +186,20 @@ pub record TakenApart {E A : Type 0} (s : List ℕ) (meets : E → Type 0) (refu
   pub answered : n ≡ 0 → (r : Refusal) → told ≡ refuse r → ⊥
   -- n is another number: told is n at p, one of the call's refusals, and the rest of a is 0
   pub refused : 1 ≤ n → told ≡ refuse (refusal_of n p)
-  pub proper : 1 ≤ n → Refuses numbers (length s) need (refusal_of n p)
+  pub proper : 1 ≤ n → Refuses numbers (length s) need n p
   pub rest : 1 ≤ n → a ≡ apart (refuse (refusal_of n p))
 
 -- the answer a for C about the code c: as `TakenApart`, but that no file is refused
 pub record KindTaken (c : ℕ) (a : Kind) : Type 0 where
   -- what the call of Rattle answers about the same code
-  pub told : KindTold
+  pub told : Result EventKind Refusal
   pub met : KindAnswer c told
-  pub same : a ≡ flat_kind (Codes.meaning told)
+  pub same : a ≡ flat_kind (meaning told)
   -- the number 0: told is no refusal
-  pub answered : a.refusal ≡ 0 → (r : Refusal) → told ≡ KindTold.Refused r → ⊥
+  pub answered : a.refusal ≡ 0 → (r : Refusal) → told ≡ Err r → ⊥
   -- another number: told is that refusal, and the kind is 0
-  pub refused : 1 ≤ a.refusal → told ≡ KindTold.Refused (refusal_of a.refusal a.position)
-  pub proper : 1 ≤ a.refusal → Refuses of_code 0 0 (refusal_of a.refusal a.position)
+  pub refused : 1 ≤ a.refusal → told ≡ Err (refusal_of a.refusal a.position)
+  pub proper : 1 ≤ a.refusal → Refuses of_code 0 0 a.refusal a.position
   pub rest : 1 ≤ a.refusal → a.kind ≡ 0
 
 -- the part a of a file that C is told of a place
@@ -228,80 +213,80 @@ pub record PartTold (file : Bor (List ℕ)) (p : Place) (a : PartC.Part) : Type 
 
 -- of the file s: what C is answered by each call that it links
 pub record Boundary (s : List ℕ) : Type 0 where
-  pub judge : (a : Header) → JudgeAnswers s a → TakenApart s (JudgedAs s) Judged.Refused flat_judged of_file 0 a.refusal a.position a
+  pub judge : (a : Header) → JudgeAnswers s a → TakenApart s (JudgedAs s) Err flat_judged of_file 0 a.refusal a.position a
   pub table : (out out' : List ℤ) (a : Counted) → TableAnswers s out out' a →
-      TakenApart s (Lists s out out') Listed.Refused (λ b. counted_rows (Table.meaning b)) of_table (4 * length (listed_rows (R.judge s))) a.refusal a.position a
+      TakenApart s (Lists s out out') Err (λ b. counted_rows (Table.meaning b)) of_table (4 * length (listed_rows (R.judge s))) a.refusal a.position a
   pub table_keeps : (out out' : List ℤ) (a : Counted) → TableAnswers s out out' a → KeepsRest stopped_c wrote_c 4 out out' a
-  pub turn : (out out' : List ℕ) (a : Counted) → TurnAnswers s out out' a → TakenApart s (Turns s out out') Written.Refused (λ b. counted_bytes (Permit.meaning b)) of_turn (length s) a.refusal a.position a
+  pub turn : (out out' : List ℕ) (a : Counted) → TurnAnswers s out out' a → TakenApart s (Turns s out out') Err (λ b. counted_bytes (Permit.meaning b)) of_turn (length s) a.refusal a.position a
   pub turn_keeps : (out out' : List ℕ) (a : Counted) → TurnAnswers s out out' a → KeepsRest stopped_c wrote_c 1 out out' a
   pub rewrite : (order : ℕ) (out out' : List ℕ) (a : Counted) → RewriteAnswers s order out out' a →
-      TakenApart s (Rewrites s order out out') Written.Refused (λ b. counted_bytes (Permit.meaning b)) of_rewrite (length (rewritten_in (lettered order) s)) a.refusal a.position a
+      TakenApart s (Rewrites s order out out') Err (λ b. counted_bytes (Permit.meaning b)) of_rewrite (length (rewritten_in (lettered order) s)) a.refusal a.position a
   pub rewrite_keeps : (order : ℕ) (out out' : List ℕ) (a : Counted) → RewriteAnswers s order out out' a → KeepsRest stopped_c wrote_c 1 out out' a
-  pub room : (a : Counted) → RoomAnswers s a → TakenApart s (RoomAnswer s) Written.Refused (λ b. counted_bytes (Permit.meaning b)) of_file 0 a.refusal a.position a
-  pub header : (a : Heading) → HeaderAnswers s a → TakenApart s (HeaderAnswer s) HeaderTold.Refused (λ b. flat_heading (meaning_h b)) of_file 0 a.refusal a.position a
-  pub facts : (i : ℕ) (a : Facts) → FactsAnswers s i a → TakenApart s (FactsAnswer s i) FactsTold.Refused (λ b. flat_facts (meaning_f b)) of_question 0 a.refusal a.position a
-  pub channel : (i j : ℕ) (a : Channel) → ChannelAnswers s i j a → TakenApart s (ChannelAnswer s i j) ChannelTold.Refused (λ b. flat_channel (meaning_d b)) of_question 0 a.refusal a.position a
+  pub room : (a : Counted) → RoomAnswers s a → TakenApart s (RoomAnswer s) Err (λ b. counted_bytes (Permit.meaning b)) of_file 0 a.refusal a.position a
+  pub header : (a : Heading) → HeaderAnswers s a → TakenApart s (HeaderAnswer s) Err (λ b. flat_heading (meaning b)) of_file 0 a.refusal a.position a
+  pub facts : (i : ℕ) (a : Facts) → FactsAnswers s i a → TakenApart s (FactsAnswer s i) Err (λ b. flat_facts (meaning b)) of_question 0 a.refusal a.position a
+  pub channel : (i j : ℕ) (a : Channel) → ChannelAnswers s i j a → TakenApart s (ChannelAnswer s i j) Err (λ b. flat_channel (meaning b)) of_question 0 a.refusal a.position a
   pub montage_count : (i : ℕ) (a : Counted) → MontageCountAnswers s i a →
-      TakenApart s (MontageCountAnswer s i) MontageCountTold.Refused (λ b. flat_count (meaning_n b)) of_question 0 a.refusal a.position a
+      TakenApart s (MontageCountAnswer s i) Err (λ b. flat_count (meaning b)) of_question 0 a.refusal a.position a
   pub montage : (i j : ℕ) (a : Montage) → MontageAnswers s i j a →
-      TakenApart s (MontageAnswer s i j) MontageTold.Refused (λ b. flat_montage (meaning_m b)) of_question 0 a.channel.refusal a.channel.position a
-  pub patient_item : (i j : ℕ) (a : Item) → PatientItemAnswers s i j a → TakenApart s (PatientItemAnswer s i j) ItemTold.Refused (λ b. flat_item (meaning_i b)) of_question 0 a.refusal a.position a
-  pub event_item : (i j : ℕ) (a : Item) → EventItemAnswers s i j a → TakenApart s (EventItemAnswer s i j) ItemTold.Refused (λ b. flat_item (meaning_i b)) of_question 0 a.refusal a.position a
-  pub clock : (i j : ℕ) (a : Clock) → ClockAnswers s i j a → TakenApart s (ClockAnswer s i j) ClockTold.Refused (λ b. flat_clock (meaning_t b)) of_question 0 a.refusal a.position a
+      TakenApart s (MontageAnswer s i j) Err (λ b. flat_montage (meaning b)) of_question 0 a.channel.refusal a.channel.position a
+  pub patient_item : (i j : ℕ) (a : Item) → PatientItemAnswers s i j a → TakenApart s (PatientItemAnswer s i j) Err (λ b. flat_item (meaning b)) of_question 0 a.refusal a.position a
+  pub event_item : (i j : ℕ) (a : Item) → EventItemAnswers s i j a → TakenApart s (EventItemAnswer s i j) Err (λ b. flat_item (meaning b)) of_question 0 a.refusal a.position a
+  pub clock : (i j : ℕ) (a : Clock) → ClockAnswers s i j a → TakenApart s (ClockAnswer s i j) Err (λ b. flat_clock (meaning b)) of_question 0 a.refusal a.position a
   pub place : (i j k : ℕ) (a : PlaceC.Place) → PlaceAnswers s i j k a →
-      TakenApart s (PlaceAnswer s i j k) PlaceTold.Refused (λ b. flat_place (meaning_p b)) of_question 0 a.refusal a.position a
+      TakenApart s (PlaceAnswer s i j k) Err (λ b. flat_place (meaning b)) of_question 0 a.refusal a.position a
   pub track : (i k : ℕ) (a : TrackC.Track) → TrackAnswers s i k a →
-      TakenApart s (TrackAnswer s i k) TrackTold.Refused (λ b. flat_track (meaning_k b)) of_question 0 a.refusal a.position a
+      TakenApart s (TrackAnswer s i k) Err (λ b. flat_track (meaning b)) of_question 0 a.refusal a.position a
   pub part : (file : Bor (List ℕ)) → file.now ≡ s → (p : Place) (a : PartC.Part) → PartAnswers (length s) p.position p.width p.count a → PartTold file p a
-  pub sample : (i j k n : ℕ) (a : Sample) → SampleAnswers s i j k n a → TakenApart s (SampleAnswer s i j k n) SampleTold.Refused (λ b. flat_sample (meaning_s b)) of_question 0 a.refusal a.position a
+  pub sample : (i j k n : ℕ) (a : Sample) → SampleAnswers s i j k n a → TakenApart s (SampleAnswer s i j k n) Err (λ b. flat_sample (meaning b)) of_question 0 a.refusal a.position a
   pub run : (b : Sibling) (i j k first n : ℕ) (out out' : List (Element b)) (a : Counted) → RunAnswers b s i j k first n out out' a →
-      TakenApart s (RunAnswer b s i j k first n out out') Ran.Refused (λ c. flat_count (Runs.meaning c)) of_run n a.refusal a.position a
+      TakenApart s (RunAnswer b s i j k first n out out') Err (λ c. flat_count (meaning c)) of_run n a.refusal a.position a
   pub run_keeps : (b : Sibling) (i j k first n : ℕ) (out out' : List (Element b)) (a : Counted) → RunAnswers b s i j k first n out out' a →
       KeepsRest stopped_c wrote_c 1 out out' a
   pub index : (out out' : List ℤ) (a : Counted) → IndexAnswers s out out' a →
-      TakenApart s (Indexes s out out') Indexed.Refused (λ b. flat_count (Index.meaning b)) of_table (5 * length (entries_of s (R.judge s))) a.refusal a.position a
+      TakenApart s (Indexes s out out') Err (λ b. flat_count (meaning b)) of_table (5 * length (entries_of s (R.judge s))) a.refusal a.position a
   pub index_keeps : (out out' : List ℤ) (a : Counted) → IndexAnswers s out out' a → KeepsRest stopped_c wrote_c 5 out out' a
   pub event_kind : (c : ℕ) (a : Kind) → KindAnswers c a → KindTaken c a
 
 -- of the file s: what each public call answers, whatever else it is asked
 pub record Demand-1 (s : List ℕ) : Type 0 where
   -- judge
-  pub judge : (a : Judged) → JudgedAs s a → Answered Judged.Refused of_file (length s) 0 a
+  pub judge : (a : Result FileHeader Refusal) → JudgedAs s a → Answered Err of_file (length s) 0 a
   -- table: 17 counts in numbers, four a row
-  pub table : (out out' : List ℤ) (a : Listed) → Lists s out out' a → Answered Listed.Refused of_table (length s) (4 * length (listed_rows (R.judge s))) a
-  pub table_keeps : (out out' : List ℤ) (a : Listed) → Lists s out out' a → KeepsRest Listed.Refused Listed.Rows 4 out out' a
+  pub table : (out out' : List ℤ) (a : Result ℕ Refusal) → Lists s out out' a → Answered Err of_table (length s) (4 * length (listed_rows (R.judge s))) a
+  pub table_keeps : (out out' : List ℤ) (a : Result ℕ Refusal) → Lists s out out' a → KeepsRest Err Ok 4 out out' a
   -- turn
-  pub turn : (out out' : List ℕ) (a : Written) → Turns s out out' a → Answered Written.Refused of_turn (length s) (length s) a
-  pub turn_keeps : (out out' : List ℕ) (a : Written) → Turns s out out' a → KeepsRest Written.Refused Written.Bytes 1 out out' a
+  pub turn : (out out' : List ℕ) (a : Result ℕ Refusal) → Turns s out out' a → Answered Err of_turn (length s) (length s) a
+  pub turn_keeps : (out out' : List ℕ) (a : Result ℕ Refusal) → Turns s out out' a → KeepsRest Err Ok 1 out out' a
   -- rewrite, whatever the letter
-  pub rewrite : (order : ℕ) (out out' : List ℕ) (a : Written) → Rewrites s order out out' a → Answered Written.Refused of_rewrite (length s) (length (rewritten_in (lettered order) s)) a
-  pub rewrite_keeps : (order : ℕ) (out out' : List ℕ) (a : Written) → Rewrites s order out out' a → KeepsRest Written.Refused Written.Bytes 1 out out' a
+  pub rewrite : (order : ℕ) (out out' : List ℕ) (a : Result ℕ Refusal) → Rewrites s order out out' a → Answered Err of_rewrite (length s) (length (rewritten_in (lettered order) s)) a
+  pub rewrite_keeps : (order : ℕ) (out out' : List ℕ) (a : Result ℕ Refusal) → Rewrites s order out out' a → KeepsRest Err Ok 1 out out' a
   -- the room for it: only the file is refused
-  pub room : (a : Written) → RoomAnswer s a → Answered Written.Refused of_file (length s) 0 a
+  pub room : (a : Result ℕ Refusal) → RoomAnswer s a → Answered Err of_file (length s) 0 a
   -- the questions; about the header only the file is refused
-  pub header : (a : HeaderTold) → HeaderAnswer s a → Answered HeaderTold.Refused of_file (length s) 0 a
-  pub facts : (i : ℕ) (a : FactsTold) → FactsAnswer s i a → Answered FactsTold.Refused of_question (length s) 0 a
-  pub channel : (i j : ℕ) (a : ChannelTold) → ChannelAnswer s i j a → Answered ChannelTold.Refused of_question (length s) 0 a
-  pub montage_count : (i : ℕ) (a : MontageCountTold) → MontageCountAnswer s i a → Answered MontageCountTold.Refused of_question (length s) 0 a
-  pub montage : (i j : ℕ) (a : MontageTold) → MontageAnswer s i j a → Answered MontageTold.Refused of_question (length s) 0 a
-  pub patient_item : (i j : ℕ) (a : ItemTold) → PatientItemAnswer s i j a → Answered ItemTold.Refused of_question (length s) 0 a
-  pub event_item : (i j : ℕ) (a : ItemTold) → EventItemAnswer s i j a → Answered ItemTold.Refused of_question (length s) 0 a
-  pub clock : (i j : ℕ) (a : ClockTold) → ClockAnswer s i j a → Answered ClockTold.Refused of_question (length s) 0 a
-  pub place : (i j k : ℕ) (a : PlaceTold) → PlaceAnswer s i j k a → Answered PlaceTold.Refused of_question (length s) 0 a
-  pub track : (i k : ℕ) (a : TrackTold) → TrackAnswer s i k a → Answered TrackTold.Refused of_question (length s) 0 a
-  pub sample : (i j k n : ℕ) (a : SampleTold) → SampleAnswer s i j k n a → Answered SampleTold.Refused of_question (length s) 0 a
+  pub header : (a : Result Header Refusal) → HeaderAnswer s a → Answered Err of_file (length s) 0 a
+  pub facts : (i : ℕ) (a : Result Counts Refusal) → FactsAnswer s i a → Answered Err of_question (length s) 0 a
+  pub channel : (i j : ℕ) (a : Result Descriptor Refusal) → ChannelAnswer s i j a → Answered Err of_question (length s) 0 a
+  pub montage_count : (i : ℕ) (a : Result ℕ Refusal) → MontageCountAnswer s i a → Answered Err of_question (length s) 0 a
+  pub montage : (i j : ℕ) (a : Result Wired Refusal) → MontageAnswer s i j a → Answered Err of_question (length s) 0 a
+  pub patient_item : (i j : ℕ) (a : Result Entry Refusal) → PatientItemAnswer s i j a → Answered Err of_question (length s) 0 a
+  pub event_item : (i j : ℕ) (a : Result Entry Refusal) → EventItemAnswer s i j a → Answered Err of_question (length s) 0 a
+  pub clock : (i j : ℕ) (a : Result Time Refusal) → ClockAnswer s i j a → Answered Err of_question (length s) 0 a
+  pub place : (i j k : ℕ) (a : Result Place Refusal) → PlaceAnswer s i j k a → Answered Err of_question (length s) 0 a
+  pub track : (i k : ℕ) (a : Result Track Refusal) → TrackAnswer s i k a → Answered Err of_question (length s) 0 a
+  pub sample : (i j k n : ℕ) (a : Result Number Refusal) → SampleAnswer s i j k n a → Answered Err of_question (length s) 0 a
   -- the part of the file that a place names, whatever its three numbers are
   pub part : (file : Bor (List ℕ)) → file.now ≡ s → (p : Place) (r : Bor (List ℕ)) → PartAnswer file p r → Shown file p r
   -- a run of n samples, by either call: 17 counts the numbers asked for
-  pub run : (b : Sibling) (i j k first n : ℕ) (out out' : List (Element b)) (a : Ran) → RunAnswer b s i j k first n out out' a →
-      Answered Ran.Refused of_run (length s) n a
-  pub run_keeps : (b : Sibling) (i j k first n : ℕ) (out out' : List (Element b)) (a : Ran) → RunAnswer b s i j k first n out out' a →
-      KeepsRest Ran.Refused Ran.Numbers 1 out out' a
+  pub run : (b : Sibling) (i j k first n : ℕ) (out out' : List (Element b)) (a : Result ℕ Refusal) → RunAnswer b s i j k first n out out' a →
+      Answered Err of_run (length s) n a
+  pub run_keeps : (b : Sibling) (i j k first n : ℕ) (out out' : List (Element b)) (a : Result ℕ Refusal) → RunAnswer b s i j k first n out out' a →
+      KeepsRest Err Ok 1 out out' a
   -- index: 17 counts in numbers, five an entry
-  pub index : (out out' : List ℤ) (a : Indexed) → Indexes s out out' a → Answered Indexed.Refused of_table (length s) (5 * length (entries_of s (R.judge s))) a
-  pub index_keeps : (out out' : List ℤ) (a : Indexed) → Indexes s out out' a → KeepsRest Indexed.Refused Indexed.Entries 5 out out' a
+  pub index : (out out' : List ℤ) (a : Result ℕ Refusal) → Indexes s out out' a → Answered Err of_table (length s) (5 * length (entries_of s (R.judge s))) a
+  pub index_keeps : (out out' : List ℤ) (a : Result ℕ Refusal) → Indexes s out out' a → KeepsRest Err Ok 5 out out' a
   -- the kind of a code, whatever the file is: refused by 19 at 0 alone
-  pub event_kind : (c : ℕ) (a : KindTold) → KindAnswer c a → Answered KindTold.Refused of_code (length s) 0 a
+  pub event_kind : (c : ℕ) (a : Result EventKind Refusal) → KindAnswer c a → Answered Err of_code (length s) 0 a
   -- each call that C links answers the same, taken apart; its number 0 is never a refusal
   pub boundary : Boundary s
 
@@ -323,28 +308,29 @@ pub record JudgesByRules {E : Type 0} (accept : FileHeader → E) (refuse : Refu
   -- where they accept, the header of what they read
   pub accepts : (v : R.File) (t : List Event) → Accepted s v t → a ≡ accept (header_judged s v)
   -- refused exactly when they refuse, by their number and at their position
-  pub refuses : (n p : ℕ) → R.judge s ≡ refused n p → a ≡ refuse (refusal_of n p)
-  pub refused : (n p : ℕ) → a ≡ refuse (refusal_of n p) → R.judge s ≡ refused n p
+  pub refuses : (n p : ℕ) → R.judge s ≡ refused n p → Named n × (a ≡ refuse (refusal_of n p))
+  pub refused : (r : Refusal) → a ≡ refuse r → R.judge s ≡ refused (number_of r.0) r.1
 
 -- every other call hands the rules' refusal up
 pub record HandsUp (s : List ℕ) (n p : ℕ) : Type 0 where
-  pub table : (out out' : List ℤ) (a : Listed) → Lists s out out' a → a ≡ Listed.Refused (refusal_of n p)
-  pub turn : (out out' : List ℕ) (a : Written) → Turns s out out' a → a ≡ Written.Refused (refusal_of n p)
-  pub rewrite : (order : ℕ) (out out' : List ℕ) (a : Written) → Rewrites s order out out' a → a ≡ Written.Refused (refusal_of n p)
-  pub room : (a : Written) → RoomAnswer s a → a ≡ Written.Refused (refusal_of n p)
-  pub header : (a : HeaderTold) → HeaderAnswer s a → a ≡ HeaderTold.Refused (refusal_of n p)
-  pub facts : (i : ℕ) (a : FactsTold) → FactsAnswer s i a → a ≡ FactsTold.Refused (refusal_of n p)
-  pub channel : (i j : ℕ) (a : ChannelTold) → ChannelAnswer s i j a → a ≡ ChannelTold.Refused (refusal_of n p)
-  pub montage_count : (i : ℕ) (a : MontageCountTold) → MontageCountAnswer s i a → a ≡ MontageCountTold.Refused (refusal_of n p)
-  pub montage : (i j : ℕ) (a : MontageTold) → MontageAnswer s i j a → a ≡ MontageTold.Refused (refusal_of n p)
-  pub patient_item : (i j : ℕ) (a : ItemTold) → PatientItemAnswer s i j a → a ≡ ItemTold.Refused (refusal_of n p)
-  pub event_item : (i j : ℕ) (a : ItemTold) → EventItemAnswer s i j a → a ≡ ItemTold.Refused (refusal_of n p)
-  pub clock : (i j : ℕ) (a : ClockTold) → ClockAnswer s i j a → a ≡ ClockTold.Refused (refusal_of n p)
-  pub place : (i j k : ℕ) (a : PlaceTold) → PlaceAnswer s i j k a → a ≡ PlaceTold.Refused (refusal_of n p)
-  pub track : (i k : ℕ) (a : TrackTold) → TrackAnswer s i k a → a ≡ TrackTold.Refused (refusal_of n p)
-  pub sample : (i j k m : ℕ) (a : SampleTold) → SampleAnswer s i j k m a → a ≡ SampleTold.Refused (refusal_of n p)
-  pub run : (b : Sibling) (i j k first m : ℕ) (out out' : List (Element b)) (a : Ran) → RunAnswer b s i j k first m out out' a → a ≡ Ran.Refused (refusal_of n p)
-  pub index : (out out' : List ℤ) (a : Indexed) → Indexes s out out' a → a ≡ Indexed.Refused (refusal_of n p)
+  pub named : Named n
+  pub table : (out out' : List ℤ) (a : Result ℕ Refusal) → Lists s out out' a → a ≡ Err (refusal_of n p)
+  pub turn : (out out' : List ℕ) (a : Result ℕ Refusal) → Turns s out out' a → a ≡ Err (refusal_of n p)
+  pub rewrite : (order : ℕ) (out out' : List ℕ) (a : Result ℕ Refusal) → Rewrites s order out out' a → a ≡ Err (refusal_of n p)
+  pub room : (a : Result ℕ Refusal) → RoomAnswer s a → a ≡ Err (refusal_of n p)
+  pub header : (a : Result Header Refusal) → HeaderAnswer s a → a ≡ Err (refusal_of n p)
+  pub facts : (i : ℕ) (a : Result Counts Refusal) → FactsAnswer s i a → a ≡ Err (refusal_of n p)
+  pub channel : (i j : ℕ) (a : Result Descriptor Refusal) → ChannelAnswer s i j a → a ≡ Err (refusal_of n p)
+  pub montage_count : (i : ℕ) (a : Result ℕ Refusal) → MontageCountAnswer s i a → a ≡ Err (refusal_of n p)
+  pub montage : (i j : ℕ) (a : Result Wired Refusal) → MontageAnswer s i j a → a ≡ Err (refusal_of n p)
+  pub patient_item : (i j : ℕ) (a : Result Entry Refusal) → PatientItemAnswer s i j a → a ≡ Err (refusal_of n p)
+  pub event_item : (i j : ℕ) (a : Result Entry Refusal) → EventItemAnswer s i j a → a ≡ Err (refusal_of n p)
+  pub clock : (i j : ℕ) (a : Result Time Refusal) → ClockAnswer s i j a → a ≡ Err (refusal_of n p)
+  pub place : (i j k : ℕ) (a : Result Place Refusal) → PlaceAnswer s i j k a → a ≡ Err (refusal_of n p)
+  pub track : (i k : ℕ) (a : Result Track Refusal) → TrackAnswer s i k a → a ≡ Err (refusal_of n p)
+  pub sample : (i j k m : ℕ) (a : Result Number Refusal) → SampleAnswer s i j k m a → a ≡ Err (refusal_of n p)
+  pub run : (b : Sibling) (i j k first m : ℕ) (out out' : List (Element b)) (a : Result ℕ Refusal) → RunAnswer b s i j k first m out out' a → a ≡ Err (refusal_of n p)
+  pub index : (out out' : List ℤ) (a : Result ℕ Refusal) → Indexes s out out' a → a ≡ Err (refusal_of n p)
 
 -- things of n numbers each in a buffer: how many, and the numbers of each in front
 pub record Holds {A E : Type 0} (numbers : A → List ℤ) (n : ℕ) (wrote : ℕ → E) (xs : List A) (out' : List ℤ) (a : E) : Type 0 where
@@ -420,9 +406,9 @@ pub record RunTells (b : Sibling) (n : ℕ) (xs : Answer (List Value)) (out out'
   pub buffer : out' ≡ Runs.holding b n xs out
 
 -- entry q of the buffer is what the question answers about a sample: a whole number, or the 32 bits of a float
-pub record EntryTells (b : Sibling) (out' : List (Element b)) (q : ℕ) (d : SampleTold) : Type 0 where
+pub record EntryTells (b : Sibling) (out' : List (Element b)) (q : ℕ) (d : Result Number Refusal) : Type 0 where
   pub number : Number
-  pub told : d ≡ SampleTold.Value number
+  pub told : d ≡ Ok number
   pub entry : indexed out' q ≡ value (element_of b (value_told number))
 
 -- the part r of a file, cut at the place p, is the samples that the reading has of channel k in frame j of recording i
@@ -437,34 +423,34 @@ pub record PartIs (g : Reading) (i j k : ℕ) (file : Bor (List ℕ)) (p : Place
 
 -- each question about a file with this reading answers what the reading says
 pub record Tells (s : List ℕ) (g : Reading) : Type 0 where
-  pub header : (a : HeaderTold) → HeaderAnswer s a → meaning_h a ≡ value (header_read (R.order_of s) g)
-  pub facts : (i : ℕ) (a : FactsTold) → FactsAnswer s i a → meaning_f a ≡ (recording_read g i >>= λ r. value (counts_in r))
-  pub channel : (i j : ℕ) (a : ChannelTold) → ChannelAnswer s i j a → Agree DescriptorTells (channel_read g i j) (meaning_d a)
+  pub header : (a : Result Header Refusal) → HeaderAnswer s a → meaning a ≡ value (header_read (R.order_of s) g)
+  pub facts : (i : ℕ) (a : Result Counts Refusal) → FactsAnswer s i a → meaning a ≡ (recording_read g i >>= λ r. value (counts_in r))
+  pub channel : (i j : ℕ) (a : Result Descriptor Refusal) → ChannelAnswer s i j a → Agree DescriptorTells (channel_read g i j) (meaning a)
   -- the bytes that a text names lie in the file, and are the reading's text
-  pub texts : (i j : ℕ) (a : ChannelTold) → ChannelAnswer s i j a → Alike (TextsAre s) (meaning_d a) (channel_read g i j)
+  pub texts : (i j : ℕ) (a : Result Descriptor Refusal) → ChannelAnswer s i j a → Alike (TextsAre s) (meaning a) (channel_read g i j)
   -- a recording without a 350 has a montage of no channels
-  pub montage_count : (i : ℕ) (a : MontageCountTold) → MontageCountAnswer s i a → meaning_n a ≡ (recording_read g i >>= λ r. value (length r.montage))
-  pub montage : (i j : ℕ) (a : MontageTold) → MontageAnswer s i j a → Agree (λ c d. DescriptorTells c d.channel) (montage_read g i j) (meaning_m a)
+  pub montage_count : (i : ℕ) (a : Result ℕ Refusal) → MontageCountAnswer s i a → meaning a ≡ (recording_read g i >>= λ r. value (length r.montage))
+  pub montage : (i j : ℕ) (a : Result Wired Refusal) → MontageAnswer s i j a → Agree (λ c d. DescriptorTells c d.channel) (montage_read g i j) (meaning a)
   -- with its texts and its inputs
-  pub wired : (i j : ℕ) (a : MontageTold) → MontageAnswer s i j a → Alike (WiredIs s) (meaning_m a) (montage_read g i j)
-  pub patient_item : (i j : ℕ) (a : ItemTold) → PatientItemAnswer s i j a → Alike (ItemIs s) (meaning_i a) (item_read Holder.Patient g i j)
-  pub event_item : (i j : ℕ) (a : ItemTold) → EventItemAnswer s i j a → Alike (ItemIs s) (meaning_i a) (item_read Holder.Event g i j)
-  pub clock : (i j : ℕ) (a : ClockTold) → ClockAnswer s i j a → meaning_t a ≡ (frame_read g i j >>= λ f. value (time_in f))
+  pub wired : (i j : ℕ) (a : Result Wired Refusal) → MontageAnswer s i j a → Alike (WiredIs s) (meaning a) (montage_read g i j)
+  pub patient_item : (i j : ℕ) (a : Result Entry Refusal) → PatientItemAnswer s i j a → Alike (ItemIs s) (meaning a) (item_read Holder.Patient g i j)
+  pub event_item : (i j : ℕ) (a : Result Entry Refusal) → EventItemAnswer s i j a → Alike (ItemIs s) (meaning a) (item_read Holder.Event g i j)
+  pub clock : (i j : ℕ) (a : Result Time Refusal) → ClockAnswer s i j a → meaning a ≡ (frame_read g i j >>= λ f. value (time_in f))
   -- the place of a channel's samples: as many as the reading has, of the format's width each; its bytes are the samples
-  pub place : (i j k : ℕ) (a : PlaceTold) → PlaceAnswer s i j k a → Alike (PlaceIs s g i k) (meaning_p a) (samples_read g i j k)
+  pub place : (i j k : ℕ) (a : Result Place Refusal) → PlaceAnswer s i j k a → Alike (PlaceIs s g i k) (meaning a) (samples_read g i j k)
   -- and so are those of the part that is cut there
-  pub part : (file : Bor (List ℕ)) → file.now ≡ s → (i j k : ℕ) (p : Place) → PlaceAnswer s i j k (PlaceTold.At p) →
+  pub part : (file : Bor (List ℕ)) → file.now ≡ s → (i j k : ℕ) (p : Place) → PlaceAnswer s i j k (Ok p) →
       (r : Bor (List ℕ)) → PartAnswer file p r → PartIs g i j k file p r
   -- the track of a channel: its format, F and T as the reading has them, and the place of its samples in each frame
-  pub track : (i k : ℕ) (a : TrackTold) → TrackAnswer s i k a → Alike (TrackIs s g i k) (meaning_k a) (channel_read g i k)
-  pub sample : (i j k n : ℕ) (a : SampleTold) → SampleAnswer s i j k n a → (meaning_s a >>= λ x. value (value_told x)) ≡ sample_read g i j k n
-  pub run : (b : Sibling) (i j k first n : ℕ) (out out' : List (Element b)) (a : Ran) → RunAnswer b s i j k first n out out' a →
-      RunTells b n (run_read b g i j k first n) out out' (λ x. Runs.meaning a ≡ x)
+  pub track : (i k : ℕ) (a : Result Track Refusal) → TrackAnswer s i k a → Alike (TrackIs s g i k) (meaning a) (channel_read g i k)
+  pub sample : (i j k n : ℕ) (a : Result Number Refusal) → SampleAnswer s i j k n a → (meaning a >>= λ x. value (value_told x)) ≡ sample_read g i j k n
+  pub run : (b : Sibling) (i j k first n : ℕ) (out out' : List (Element b)) (a : Result ℕ Refusal) → RunAnswer b s i j k first n out out' a →
+      RunTells b n (run_read b g i j k first n) out out' (λ x. meaning a ≡ x)
   -- where it is answered, the answer is the number asked for, and entry q is what the question answers about sample first + q
-  pub run_number : (b : Sibling) (i j k first n : ℕ) (out out' : List (Element b)) (a : Ran) → RunAnswer b s i j k first n out out' a →
-      (m : ℕ) → a ≡ Ran.Numbers m → m ≡ n
-  pub run_entry : (b : Sibling) (i j k first n : ℕ) (out out' : List (Element b)) → RunAnswer b s i j k first n out out' (Ran.Numbers n) →
-      (q : ℕ) → q < n → (d : SampleTold) → SampleAnswer s i j k (first + q) d → EntryTells b out' q d
+  pub run_number : (b : Sibling) (i j k first n : ℕ) (out out' : List (Element b)) (a : Result ℕ Refusal) → RunAnswer b s i j k first n out out' a →
+      (m : ℕ) → a ≡ Ok m → m ≡ n
+  pub run_entry : (b : Sibling) (i j k first n : ℕ) (out out' : List (Element b)) → RunAnswer b s i j k first n out out' (Ok n) →
+      (q : ℕ) → q < n → (d : Result Number Refusal) → SampleAnswer s i j k (first + q) d → EntryTells b out' q d
 
 -- an answer for C, in which n is the refusal and p its position, and what the reading has: the number 0 and a value of which this holds, or the refusal
 abbrev pub TellsC : {X : Type 0} → (X → Type 0) → (n p : ℕ) → Answer X → Type 0
@@ -557,7 +543,7 @@ pub record WrittenAnew {E : Type 0} (wrote : ℕ → E) (g : Reading) (to : Orde
 
 -- with this room, a rewrite of the file s is not refused by 17: in Rattle, and for C
 abbrev pub Suffices : List ℕ → ℕ → Type 0
-Suffices s n = (order : ℕ) (out out' : List ℕ) (a : Written) → n ≤ length out → Rewrites s order out out' a → (r : Refusal) → a ≡ Written.Refused r → r.0 ≡ 17 → ⊥
+Suffices s n = (order : ℕ) (out out' : List ℕ) (a : Result ℕ Refusal) → n ≤ length out → Rewrites s order out out' a → (r : Refusal) → a ≡ Err r → number_of r.0 ≡ 17 → ⊥
 
 abbrev pub SufficesC : List ℕ → ℕ → Type 0
 SufficesC s n = (order : ℕ) (out out' : List ℕ) (a : Counted) → n ≤ length out → RewriteAnswers s order out out' a → a.refusal ≡ 17 → ⊥
@@ -574,7 +560,7 @@ abbrev pub kind_c : EventKind → Kind
 kind_c k = record { refusal = 0; position = 0; kind = kind_number k }
 
 abbrev pub unkind_c : Refusal → Kind
-unkind_c r = record { refusal = r.0; position = r.1; kind = 0 }
+unkind_c r = record { refusal = number_of r.0; position = r.1; kind = 0 }
 
 -- how much room the file s needs, of which v was read
 pub record Reserved (s : List ℕ) (v : R.File) : Type 0 where
@@ -582,7 +568,7 @@ pub record Reserved (s : List ℕ) (v : R.File) : Type 0 where
   pub longer : (to : Order) → length (rewritten to s) ≤ length s + 254 * length v.recordings
   pub no_longer : ShortAnew v → (to : Order) → length (rewritten to s) ≤ length s
   -- `room` answers the first, and with it `rewrite` does not refuse by 17; where the second holds, the file's own length will do
-  pub answer : (a : Written) → RoomAnswer s a → a ≡ Written.Bytes (length s + 254 * length v.recordings)
+  pub answer : (a : Result ℕ Refusal) → RoomAnswer s a → a ≡ Ok (length s + 254 * length v.recordings)
   pub enough : Suffices s (length s + 254 * length v.recordings)
   pub own : ShortAnew v → Suffices s (length s)
   -- and so for C
@@ -592,24 +578,24 @@ pub record Reserved (s : List ℕ) (v : R.File) : Type 0 where
 
 pub record Demand-2 (s : List ℕ) : Type 0 where
   -- accepted exactly when the rules accept, and refused by every call as they refuse
-  pub judges : (a : Judged) → JudgedAs s a → JudgesByRules Judged.Accepted Judged.Refused s a
-  pub accepted : (a : Judged) → JudgedAs s a → (h : FileHeader) → a ≡ Judged.Accepted h → AcceptedAs s h
+  pub judges : (a : Result FileHeader Refusal) → JudgedAs s a → JudgesByRules Ok Err s a
+  pub accepted : (a : Result FileHeader Refusal) → JudgedAs s a → (h : FileHeader) → a ≡ Ok h → AcceptedAs s h
   pub refuses : (n p : ℕ) → R.judge s ≡ refused n p → HandsUp s n p
   -- the table, with room, is that of the rules' rows
-  pub lists : (v : R.File) (t : List Event) → Accepted s v t → (out out' : List ℤ) (a : Listed) → 4 * length (rows 0 t) ≤ length out → Lists s out out' a → TableHolds Listed.Rows (rows 0 t) out' a
+  pub lists : (v : R.File) (t : List Event) → Accepted s v t → (out out' : List ℤ) (a : Result ℕ Refusal) → 4 * length (rows 0 t) ≤ length out → Lists s out out' a → TableHolds Ok (rows 0 t) out' a
   -- the index, with room, is that of the entries: every event of the reading once, and nothing else, by recording, frame, channel and place
-  pub indexes : (v : R.File) (t : List Event) → Accepted s v t → (out out' : List ℤ) (a : Indexed) → 5 * length (entries s (R.contents v)) ≤ length out → Indexes s out out' a →
-      IndexHolds Indexed.Entries (entries s (R.contents v)) out' a
+  pub indexes : (v : R.File) (t : List Event) → Accepted s v t → (out out' : List ℤ) (a : Result ℕ Refusal) → 5 * length (entries s (R.contents v)) ≤ length out → Indexes s out out' a →
+      IndexHolds Ok (entries s (R.contents v)) out' a
   pub events : (v : R.File) (t : List Event) → Accepted s v t → Events.Index (R.contents v) (entries s (R.contents v))
   -- the questions
   pub answers : (v : R.File) (t : List Event) → Accepted s v t → Tells s (reading v)
   -- with a letter that names an order, no maker's record in the way, and room, the file is written anew
-  pub rewrites : (v : R.File) (t : List Event) → Accepted s v t → (order : ℕ) (to : Order) → lettered order ≡ Lettered.Names to → barrier (R.order_of s) to (first_maker (rows 0 t)) ≡ none →
-      (out out' : List ℕ) (a : Written) → length (rewritten to s) ≤ length out → Rewrites s order out out' a → WrittenAnew Written.Bytes (reading v) to out' a
+  pub rewrites : (v : R.File) (t : List Event) → Accepted s v t → (order : ℕ) (to : Order) → lettered order ≡ Some to → barrier (R.order_of s) to (first_maker (rows 0 t)) ≡ none →
+      (out out' : List ℕ) (a : Result ℕ Refusal) → length (rewritten to s) ≤ length out → Rewrites s order out out' a → WrittenAnew Ok (reading v) to out' a
   -- in a buffer as long as `room` says
   pub reserved : (v : R.File) (t : List Event) → Accepted s v t → Reserved s v
   -- the kind of a code, whatever the file is
-  pub kinds : (c : ℕ) (a : KindTold) → KindAnswer c a → KindTells KindTold.Kind KindTold.Refused c a
+  pub kinds : (c : ℕ) (a : Result EventKind Refusal) → KindAnswer c a → KindTells Ok Err c a
   -- what C is answered
   pub boundary_judges : (a : Header) → JudgeAnswers s a → JudgesByRules header_c refused_c s a
   pub boundary_accepted : (a : Header) → JudgeAnswers s a → a.refusal ≡ 0 → (h : FileHeader) × AcceptedAs s h × (a ≡ header_c h)
@@ -617,7 +603,7 @@ pub record Demand-2 (s : List ℕ) : Type 0 where
   pub boundary_indexes : (v : R.File) (t : List Event) → Accepted s v t → (out out' : List ℤ) (a : Counted) → 5 * length (entries s (R.contents v)) ≤ length out → IndexAnswers s out out' a →
       IndexHolds wrote_c (entries s (R.contents v)) out' a
   pub boundary_answers : (v : R.File) (t : List Event) → Accepted s v t → BoundaryTells s (reading v)
-  pub boundary_rewrites : (v : R.File) (t : List Event) → Accepted s v t → (order : ℕ) (to : Order) → lettered order ≡ Lettered.Names to → barrier (R.order_of s) to (first_maker (rows 0 t)) ≡ none →
+  pub boundary_rewrites : (v : R.File) (t : List Event) → Accepted s v t → (order : ℕ) (to : Order) → lettered order ≡ Some to → barrier (R.order_of s) to (first_maker (rows 0 t)) ≡ none →
       (out out' : List ℕ) (a : Counted) → length (rewritten to s) ≤ length out → RewriteAnswers s order out out' a → WrittenAnew wrote_c (reading v) to out' a
   pub boundary_kinds : (c : ℕ) (a : Kind) → KindAnswers c a → KindTells kind_c unkind_c c a
 
@@ -709,7 +695,7 @@ pub record BoundarySame (s s' : List ℕ) : Type 0 where
       RunAnswers c s i j k first n out out₁ a → RunAnswers c s' i j k first n out out₂ b → SameEnd a b out₁ out₂
   pub index : (out out₁ out₂ : List ℤ) (a b : Counted) → IndexAnswers s out out₁ a → IndexAnswers s' out out₂ b → SameEnd a b out₁ out₂
   pub back : (out out' : List ℕ) (a : Counted) → length s ≤ length out → TurnAnswers s' out out' a → Gives wrote_c s out' a
-  pub anew : (order : ℕ) (to : Order) → lettered order ≡ Lettered.Names to →
+  pub anew : (order : ℕ) (to : Order) → lettered order ≡ Some to →
       (out₁ out₁' : List ℕ) (a : Counted) → length (rewritten to s) ≤ length out₁ → RewriteAnswers s order out₁ out₁' a →
       (out₂ out₂' : List ℕ) (b : Counted) → length (rewritten to s) ≤ length out₂ → RewriteAnswers s' order out₂ out₂' b →
       SameFront (length (rewritten to s)) a b out₁' out₂'
@@ -724,42 +710,42 @@ pub record Same (s : List ℕ) (g : Reading) (s' : List ℕ) : Type 0 where
   pub long : length s' ≡ length s
   pub order : R.order_of s' ≡ other (R.order_of s)
   -- the same table: the answer, and the rows in the buffer
-  pub table : (out out₁ out₂ : List ℤ) (a b : Listed) → Lists s out out₁ a → Lists s' out out₂ b → SameEnd a b out₁ out₂
+  pub table : (out out₁ out₂ : List ℤ) (a b : Result ℕ Refusal) → Lists s out out₁ a → Lists s' out out₂ b → SameEnd a b out₁ out₂
   -- the same room for a rewrite
-  pub room : (a b : Written) → RoomAnswer s a → RoomAnswer s' b → a ≡ b
+  pub room : (a b : Result ℕ Refusal) → RoomAnswer s a → RoomAnswer s' b → a ≡ b
   -- the same answer to each question; to those about the header and a track but for the order
-  pub header : (a b : HeaderTold) → HeaderAnswer s a → HeaderAnswer s' b → (h : Asked.Header) × (a ≡ HeaderTold.Header h) × (b ≡ HeaderTold.Header (in_other h))
-  pub facts : (i : ℕ) (a b : FactsTold) → FactsAnswer s i a → FactsAnswer s' i b → a ≡ b
-  pub channel : (i j : ℕ) (a b : ChannelTold) → ChannelAnswer s i j a → ChannelAnswer s' i j b → a ≡ b
-  pub montage_count : (i : ℕ) (a b : MontageCountTold) → MontageCountAnswer s i a → MontageCountAnswer s' i b → a ≡ b
-  pub montage : (i j : ℕ) (a b : MontageTold) → MontageAnswer s i j a → MontageAnswer s' i j b → a ≡ b
-  pub patient_item : (i j : ℕ) (a b : ItemTold) → PatientItemAnswer s i j a → PatientItemAnswer s' i j b → a ≡ b
-  pub event_item : (i j : ℕ) (a b : ItemTold) → EventItemAnswer s i j a → EventItemAnswer s' i j b → a ≡ b
-  pub clock : (i j : ℕ) (a b : ClockTold) → ClockAnswer s i j a → ClockAnswer s' i j b → a ≡ b
-  pub place : (i j k : ℕ) (a b : PlaceTold) → PlaceAnswer s i j k a → PlaceAnswer s' i j k b → a ≡ b
-  pub part : (i j k : ℕ) (p : Place) → PlaceAnswer s i j k (PlaceTold.At p) → (file r file' r' : Bor (List ℕ)) → file.now ≡ s → file'.now ≡ s' →
+  pub header : (a b : Result Header Refusal) → HeaderAnswer s a → HeaderAnswer s' b → (h : Asked.Header) × (a ≡ Ok h) × (b ≡ Ok (in_other h))
+  pub facts : (i : ℕ) (a b : Result Counts Refusal) → FactsAnswer s i a → FactsAnswer s' i b → a ≡ b
+  pub channel : (i j : ℕ) (a b : Result Descriptor Refusal) → ChannelAnswer s i j a → ChannelAnswer s' i j b → a ≡ b
+  pub montage_count : (i : ℕ) (a b : Result ℕ Refusal) → MontageCountAnswer s i a → MontageCountAnswer s' i b → a ≡ b
+  pub montage : (i j : ℕ) (a b : Result Wired Refusal) → MontageAnswer s i j a → MontageAnswer s' i j b → a ≡ b
+  pub patient_item : (i j : ℕ) (a b : Result Entry Refusal) → PatientItemAnswer s i j a → PatientItemAnswer s' i j b → a ≡ b
+  pub event_item : (i j : ℕ) (a b : Result Entry Refusal) → EventItemAnswer s i j a → EventItemAnswer s' i j b → a ≡ b
+  pub clock : (i j : ℕ) (a b : Result Time Refusal) → ClockAnswer s i j a → ClockAnswer s' i j b → a ≡ b
+  pub place : (i j k : ℕ) (a b : Result Place Refusal) → PlaceAnswer s i j k a → PlaceAnswer s' i j k b → a ≡ b
+  pub part : (i j k : ℕ) (p : Place) → PlaceAnswer s i j k (Ok p) → (file r file' r' : Bor (List ℕ)) → file.now ≡ s → file'.now ≡ s' →
       PartAnswer file p r → PartAnswer file' p r' → SameNumbers g i k file r file' r'
-  pub track : (i k : ℕ) (a b : TrackTold) → TrackAnswer s i k a → TrackAnswer s' i k b → meaning_k b ≡ (meaning_k a >>= λ x. value (track_in_other x))
-  pub sample : (i j k n : ℕ) (a b : SampleTold) → SampleAnswer s i j k n a → SampleAnswer s' i j k n b → a ≡ b
+  pub track : (i k : ℕ) (a b : Result Track Refusal) → TrackAnswer s i k a → TrackAnswer s' i k b → meaning b ≡ (meaning a >>= λ x. value (track_in_other x))
+  pub sample : (i j k n : ℕ) (a b : Result Number Refusal) → SampleAnswer s i j k n a → SampleAnswer s' i j k n b → a ≡ b
   -- the same run of samples: the answer, and the numbers in the buffer
-  pub run : (c : Sibling) (i j k first n : ℕ) (out out₁ out₂ : List (Element c)) (a b : Ran) →
+  pub run : (c : Sibling) (i j k first n : ℕ) (out out₁ out₂ : List (Element c)) (a b : Result ℕ Refusal) →
       RunAnswer c s i j k first n out out₁ a → RunAnswer c s' i j k first n out out₂ b → SameEnd a b out₁ out₂
   -- the same index: the answer, and the entries in the buffer
-  pub index : (out out₁ out₂ : List ℤ) (a b : Indexed) → Indexes s out out₁ a → Indexes s' out out₂ b → SameEnd a b out₁ out₂
+  pub index : (out out₁ out₂ : List ℤ) (a b : Result ℕ Refusal) → Indexes s out out₁ a → Indexes s' out out₂ b → SameEnd a b out₁ out₂
   -- turned again, with room, it is the first file, byte for byte
-  pub back : (out out' : List ℕ) (a : Written) → length s ≤ length out → Turns s' out out' a → Gives Written.Bytes s out' a
+  pub back : (out out' : List ℕ) (a : Result ℕ Refusal) → length s ≤ length out → Turns s' out out' a → Gives Ok s out' a
   -- rewritten in one order, with room, either gives the same answer and bytes
-  pub anew : (order : ℕ) (to : Order) → lettered order ≡ Lettered.Names to →
-      (out₁ out₁' : List ℕ) (a : Written) → length (rewritten to s) ≤ length out₁ → Rewrites s order out₁ out₁' a →
-      (out₂ out₂' : List ℕ) (b : Written) → length (rewritten to s) ≤ length out₂ → Rewrites s' order out₂ out₂' b →
+  pub anew : (order : ℕ) (to : Order) → lettered order ≡ Some to →
+      (out₁ out₁' : List ℕ) (a : Result ℕ Refusal) → length (rewritten to s) ≤ length out₁ → Rewrites s order out₁ out₁' a →
+      (out₂ out₂' : List ℕ) (b : Result ℕ Refusal) → length (rewritten to s) ≤ length out₂ → Rewrites s' order out₂ out₂' b →
       SameFront (length (rewritten to s)) a b out₁' out₂'
   -- what C is answered
   pub boundary : BoundarySame s s'
 
 pub record Demand-3 (s : List ℕ) : Type 0 where
   -- of an accepted file without makers' records, and with room, `turn` writes as many bytes as the file has: a file that says the same
-  pub answers : (v : R.File) (t : List Event) → Accepted s v t → first_maker (rows 0 t) ≡ none → (out out' : List ℕ) (a : Written) → length s ≤ length out → Turns s out out' a → a ≡ Written.Bytes (length s)
-  pub turned : (v : R.File) (t : List Event) → Accepted s v t → first_maker (rows 0 t) ≡ none → (out out' : List ℕ) (a : Written) → length s ≤ length out → Turns s out out' a →
+  pub answers : (v : R.File) (t : List Event) → Accepted s v t → first_maker (rows 0 t) ≡ none → (out out' : List ℕ) (a : Result ℕ Refusal) → length s ≤ length out → Turns s out out' a → a ≡ Ok (length s)
+  pub turned : (v : R.File) (t : List Event) → Accepted s v t → first_maker (rows 0 t) ≡ none → (out out' : List ℕ) (a : Result ℕ Refusal) → length s ≤ length out → Turns s out out' a →
       Same s (reading v) (take (length s) out')
   -- and so does the call that C links
   pub boundary_answers : (v : R.File) (t : List Event) → Accepted s v t → first_maker (rows 0 t) ≡ none → (out out' : List ℕ) (a : Counted) → length s ≤ length out → TurnAnswers s out out' a → a ≡ wrote_c (length s)

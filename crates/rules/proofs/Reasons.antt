@@ -1,6 +1,7 @@
 -- The reasons to refuse and their numbers are one to one. Assumes nothing.
 use mathlib.Core.Path.{◌≡◌, refl, sym, ap, ◌∙◌}
-use Prim.Native.Nat.{ℕ}
+use Prim.Native.Nat.{ℕ, zero, suc, ◌≤◌}
+use native.Mathlib.Omega.{arith}
 use Rattle.rules.specs.declared.Reason.{Reason}
 use Rattle.rules.specs.declared.Reason.TheVariants as Reason
 use Rattle.rules.specs.declared.Refusal.{Refusal}
@@ -26,6 +27,30 @@ reason-again Reason.Behind = refl
 reason-again Reason.Room = refl
 reason-again Reason.Maker = refl
 reason-again Reason.Range = refl
+
+-- each number from 1 to 19 is a reason's
+pub number-again : (n : ℕ) → 1 ≤ n → n ≤ 19 → number_of (reason_of n) ≡ n
+number-again zero h k = absurd (omega arith)
+number-again (suc zero) h k = refl
+number-again (suc (suc zero)) h k = refl
+number-again (suc (suc (suc zero))) h k = refl
+number-again (suc (suc (suc (suc zero)))) h k = refl
+number-again (suc (suc (suc (suc (suc zero))))) h k = refl
+number-again (suc (suc (suc (suc (suc (suc zero)))))) h k = refl
+number-again (suc (suc (suc (suc (suc (suc (suc zero))))))) h k = refl
+number-again (suc (suc (suc (suc (suc (suc (suc (suc zero)))))))) h k = refl
+number-again (suc (suc (suc (suc (suc (suc (suc (suc (suc zero))))))))) h k = refl
+number-again (suc (suc (suc (suc (suc (suc (suc (suc (suc (suc zero)))))))))) h k = refl
+number-again (suc (suc (suc (suc (suc (suc (suc (suc (suc (suc (suc zero))))))))))) h k = refl
+number-again (suc (suc (suc (suc (suc (suc (suc (suc (suc (suc (suc (suc zero)))))))))))) h k = refl
+number-again (suc (suc (suc (suc (suc (suc (suc (suc (suc (suc (suc (suc (suc zero))))))))))))) h k = refl
+number-again (suc (suc (suc (suc (suc (suc (suc (suc (suc (suc (suc (suc (suc (suc zero)))))))))))))) h k = refl
+number-again (suc (suc (suc (suc (suc (suc (suc (suc (suc (suc (suc (suc (suc (suc (suc zero))))))))))))))) h k = refl
+number-again (suc (suc (suc (suc (suc (suc (suc (suc (suc (suc (suc (suc (suc (suc (suc (suc zero)))))))))))))))) h k = refl
+number-again (suc (suc (suc (suc (suc (suc (suc (suc (suc (suc (suc (suc (suc (suc (suc (suc (suc zero))))))))))))))))) h k = refl
+number-again (suc (suc (suc (suc (suc (suc (suc (suc (suc (suc (suc (suc (suc (suc (suc (suc (suc (suc zero)))))))))))))))))) h k = refl
+number-again (suc (suc (suc (suc (suc (suc (suc (suc (suc (suc (suc (suc (suc (suc (suc (suc (suc (suc (suc zero))))))))))))))))))) h k = refl
+number-again (suc (suc (suc (suc (suc (suc (suc (suc (suc (suc (suc (suc (suc (suc (suc (suc (suc (suc (suc (suc n)))))))))))))))))))) h k = absurd (omega arith)
 
 -- so a refusal is known by its number and its place
 pub refusal-is : (r : Refusal) {n p : ℕ} → number_of r.0 ≡ n → r.1 ≡ p → r ≡ refusal_of n p
