@@ -20,10 +20,6 @@ module _ {A B : Type 0} (w : Way) (b : ℕ) (s : List ℕ) (at : ℕ) where
   pub copy-bind : (v : Walk A) (k : A → Walk B) {a : A} {e : ℕ} → see w.from b s at v ≡ goes a e → copy w b s at (v >>= k) ≡ copy w b s at v ++ copy w b s e (k a)
   copy-bind v k {a} {e} h = ap (written w.keep w.to) (trace-bind w.from b s at v k h) ∙ written-append w.keep w.to (trace w.from b s at v) (trace w.from b s e (k a))
 
-  pub copy-then : (v : Walk A) (u : Walk B) {a : A} {e : ℕ} → see w.from b s at v ≡ goes a e → copy w b s at (v >> u) ≡ copy w b s at v ++ copy w b s e u
-  unfolding ◌>>◌
-  copy-then v u h = copy-bind v (λ _. u) h
-
   pub copy-give : (v : Walk A) (f : A → B) → copy w b s at (v >>= λ a. give (f a)) ≡ copy w b s at v
   copy-give v f = ap (written w.keep w.to) (trace-give w.from b s at v f)
 

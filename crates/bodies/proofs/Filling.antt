@@ -1,9 +1,10 @@
 -- Items, and samples channel by channel, written anew into a buffer that they fill.
 -- Assumes nothing.
+use Rattle.std.proofs.Common.{Some, None}
 use mathlib.Core.Path.{◌≡◌, refl, sym, ap, ◌∙◌}
 use mathlib.Core.Bool.{Bool, true, false}
 use mathlib.Core.List.{List, [], ◌∷◌, ◌++◌, append_assoc, append-nil}
-use Prim.Native.Nat.{ℕ, zero, suc, ◌+◌, ◌-◌, ◌*◌, ◌/◌, ◌≤◌, ◌<◌}
+use Prim.Native.Nat.{ℕ, zero, suc, ◌+◌, ◌-◌, ◌*◌, ◌/◌, ◌≤◌}
 use native.Mathlib.Nat.{add-sub_cancel_left, sub_self, zero-add, zero-mul, add-zero, suc-add, suc-mul, add-mul, div-eq_of_eq-mul_left}
 use native.Mathlib.Omega.{arith}
 use borrow.Author.Tests.{leb-true, eqb-true, eq-eqb, ne_eqb}
@@ -27,7 +28,6 @@ use Rattle.rules.proofs.Room.{stays-item, stays-items_body}
 use Rattle.records.specs.Says.{Kept}
 use Rattle.bodies.specs.Copy.{copy, filling, all_wide, widths_in}
 use Rattle.bodies.specs.declared.Way.{Way}
-use Rattle.bodies.specs.declared.Widths.TheVariants as Widths
 use Rattle.bodies.proofs.Copying.{copy-bind, copy-give, length-copy}
 use Rattle.bodies.proofs.Pieces.{Takes, Left, left-whole, left-numbers, left-reserve, left-nothing, copy_within, length-within, copy-next, copy-follows, takes-numbers, takes-text, text-whole}
 
@@ -171,10 +171,10 @@ sample-wide format = go (eqb format 1) (eqb format 2)
     go false false = (omega arith, omega arith)
 
 -- an answer with a width has this one
-one_width : (u v : ℕ) → Widths.One u ≡ Widths.One v → u ≡ v
+one_width : (u v : ℕ) → Some u ≡ Some v → u ≡ v
 one_width u v h = cc
 
-one-several : {X : Type 0} {v : ℕ} → Widths.One v ≡ Widths.Several → X
+one-several : {X : Type 0} {v : ℕ} → Some v ≡ None → X
 one-several h = zero_one (cc)
 
 -- the samples of the channel whose sub stands at byte q of the file, as the code reads it
@@ -185,9 +185,6 @@ module _ (w : Way) (file : List ℕ) (q t : ℕ) (flags format rate wide n : ℕ
 
   read-many : n ≡ samples_in t c
   read-many = is_many ∙ rw (at20, at32, kept.0.flags, kept.0.rate)
-
-  pub samples-past : {X : Type 0} → length s - p < n * wide → p ≤ length s → p + samples_in t c * width c.format ≤ length s → X
-  samples-past l f h = absurd (omega (arith, rw (read-many, read_wide) at l))
 
   pub samples-copied : (k : ℕ) (ys : List ℕ) → k ≡ n * wide → p + n * wide ≤ length s → ((x : ℕ) → ys ≡ copy w x (take k (drop p s)) x (number_list wide n)) → (b : ℕ) →
       (p + n * wide ≡ p + samples_in t c * width c.format) × (put p k d ys ≡ pasted d p (copy w b s (b + p) (number_list (width c.format) (samples_in t c))))
@@ -313,20 +310,20 @@ module _ (o : Order) (file : List ℕ) where
   wide-other v q n m e h = rw (e, all_wide, ne_eqb (width (number_at o 4 file (q + 28))) v h)
 
   -- what is answered, of n channels the first of which has the width v
-  pub widths-none : (q n : ℕ) → n ≡ 0 → Widths.Several ≡ widths_in o file q n
+  pub widths-none : (q n : ℕ) → n ≡ 0 → None ≡ widths_in o file q n
   unfolding widths_in
   widths-none q n e = rw e
 
-  pub widths-several : (v q n m : ℕ) → n ≡ suc m → v ≡ width (number_at o 4 file (q + 28)) → all_wide o file q n v ≡ false → Widths.Several ≡ widths_in o file q n
+  pub widths-several : (v q n m : ℕ) → n ≡ suc m → v ≡ width (number_at o 4 file (q + 28)) → all_wide o file q n v ≡ false → None ≡ widths_in o file q n
   unfolding widths_in
   widths-several v q n m e i h = let k = rw (e, i) at h in rw (e, widths_in, k)
 
-  pub widths-one : (v q n m : ℕ) → n ≡ suc m → v ≡ width (number_at o 4 file (q + 28)) → all_wide o file q n v ≡ true → Widths.One v ≡ widths_in o file q n
+  pub widths-one : (v q n m : ℕ) → n ≡ suc m → v ≡ width (number_at o 4 file (q + 28)) → all_wide o file q n v ≡ true → Some v ≡ widths_in o file q n
   unfolding widths_in
   widths-one v q n m e i h = let k = rw (e, i) at h in rw (e, i, widths_in, k)
 
   -- what the answer says
-  pub widths-told : (v q n : ℕ) → Widths.One v ≡ widths_in o file q n → (2 ≤ v) × (v ≤ 4) × (all_wide o file q n v ≡ true)
+  pub widths-told : (v q n : ℕ) → Some v ≡ widths_in o file q n → (2 ≤ v) × (v ≤ 4) × (all_wide o file q n v ≡ true)
   unfolding widths_in
   widths-told v q zero h = one-several h
   widths-told v q (suc n) h = go (all_wide o file q (suc n) (width (number_at o 4 file (q + 28)))) refl

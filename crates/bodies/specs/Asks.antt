@@ -1,11 +1,11 @@
 -- What the code asks of the part s that is read, and of the buffer d that is written.
 -- Assumes nothing.
+use Rattle.std.specs.Prelude.{Option}
 use Rattle.std.specs.Prelude.{◌≡◌, List, ℕ, ◌+◌, ◌*◌, ◌≤◌, length}
 use Rattle.words.specs.declared.Order.{Order}
 use Rattle.bulk.specs.Runs.{NumberWidth}
 use Rattle.rules.specs.declared.Channels.{Channels}
 use Rattle.bodies.specs.Copy.{widths_in}
-use Rattle.bodies.specs.declared.Widths.{Widths}
 
 -- both are n bytes long
 pub record Both (n : ℕ) (s d : List ℕ) : Type 0 where
@@ -38,7 +38,7 @@ pub record SamplesPart (file : List ℕ) (q t : ℕ) (s : List ℕ) (p : ℕ) (d
   pub part : AtLeast p s d
 
 -- s is a frame's clock and its samples, as the subs at cs describe them
-pub record FramePart (o : Order) (file : List ℕ) (cs : Channels) (widths : Widths) (t : ℕ) (s d : List ℕ) : Type 0 where
+pub record FramePart (o : Order) (file : List ℕ) (cs : Channels) (widths : Option ℕ) (t : ℕ) (s d : List ℕ) : Type 0 where
   -- the subs are in the file
   pub channels : cs.subs + 256 * cs.count ≤ length file
   -- these are the widths that they give

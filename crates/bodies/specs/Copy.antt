@@ -1,5 +1,6 @@
 -- What is written of a walk's events, and where.
 -- Assumes nothing.
+use Rattle.std.specs.Prelude.{Option, Some, None}
 use Rattle.std.specs.Prelude.{◌≡◌, Bool, true, ◌&&◌, List, ℕ, zero, suc, ◌+◌, ◌≤◌, eqb, length}
 use Rattle.words.specs.Numbers.{number_at}
 use Rattle.words.specs.Runs.{pasted}
@@ -8,7 +9,6 @@ use Rattle.walk.specs.Trace.{trace, written}
 use Rattle.walk.specs.Walk.{Walk, ◌>>◌, reserve, pick}
 use Rattle.rules.specs.Rules as R
 use Rattle.bodies.specs.declared.Way.{Way}
-use Rattle.bodies.specs.declared.Widths.{Widths}
 
 -- the bytes of the events of a walk over the part s of the file, which stands at b, written anew
 abbrev pub copy : {A : Type 0} → Way → ℕ → List ℕ → ℕ → Walk A → List ℕ
@@ -36,6 +36,6 @@ all_wide o file q zero v = true
 all_wide o file q (suc n) v = eqb (R.width (number_at o 4 file (q + 28))) v && all_wide o file (q + 256) n v
 
 -- the width that they all have, if there is one
-unfoldable pub widths_in : Order → List ℕ → ℕ → ℕ → Widths
-widths_in o file q zero = Widths.Several
-widths_in o file q (suc n) = pick (all_wide o file q (suc n) (R.width (number_at o 4 file (q + 28)))) (Widths.One (R.width (number_at o 4 file (q + 28)))) Widths.Several
+unfoldable pub widths_in : Order → List ℕ → ℕ → ℕ → Option ℕ
+widths_in o file q zero = None
+widths_in o file q (suc n) = pick (all_wide o file q (suc n) (R.width (number_at o 4 file (q + 28)))) (Some (R.width (number_at o 4 file (q + 28)))) None

@@ -26,13 +26,6 @@ pub struct Way {
     pub keep: bool,
 }
 
-// The widths of the samples of a recording's channels: one for all of them, or several.
-#[derive(Clone, Copy)]
-pub enum Widths {
-    One(usize),
-    Several,
-}
-
 // The body of a record 100.
 pub fn basic_body(w: Way, s: &[u8], d: &mut [u8])
     requires { Both 112 s.now d.old }
@@ -177,12 +170,10 @@ pub fn channels_body(w: Way, k: Shape, m: u32, s: &[u8], d: &mut [u8])
         &mut d[..reserve],
     );
     reserved(w, &s[reserve..at], &mut d[reserve..at]);
-    let mut i: u32 = 0;
-    while i < m {
+    for _i in 0..m {
         let end = at + Channel::LENGTH;
         channel(w, k, &s[at..end], &mut d[at..end]);
         at = end;
-        i += 1;
     }
 }
 
@@ -194,12 +185,11 @@ fn item(w: Way, s: &[u8], p: usize, d: &mut [u8]) -> usize
         (result ≡ p + R.item_size x) ×
         (d.new ≡ pasted d.old p (copy w b s.now (b + p) (R.item ok (length s.now - p))))) }
 {
-    let o = w.from;
     let left = s.len() - p;
     if left < Item::LEAST {
         return p;
     }
-    let size = number4(o, s, p) as usize;
+    let size = number4(w.from, s, p) as usize;
     if size < Item::LEAST {
         return p;
     }
@@ -220,8 +210,7 @@ pub fn items_body(w: Way, s: &[u8], d: &mut [u8])
         see w.from b s.now b (R.items_body ok (16 + length s.now)) ≡ goes l e →
         d.new ≡ copy w b s.now b (R.items_body ok (16 + length s.now)) }
 {
-    let o = w.from;
-    let count = number4(o, s, Items::BODY_COUNT);
+    let count = number4(w.from, s, Items::BODY_COUNT);
     let reserve = Items::BODY_RESERVE;
     let mut p = Items::BODY_FIRST;
     numbers(
@@ -232,10 +221,8 @@ pub fn items_body(w: Way, s: &[u8], d: &mut [u8])
         &mut d[..reserve],
     );
     reserved(w, &s[reserve..p], &mut d[reserve..p]);
-    let mut i: u32 = 0;
-    while i < count {
+    for _i in 0..count {
         p = item(w, s, p, d);
-        i += 1;
     }
 }
 
@@ -262,25 +249,23 @@ fn channel_samples(w: Way, file: &[u8], q: usize, t: u32, s: &[u8], p: usize, d:
     end
 }
 
-// The widths of the channels whose subs stand in the file.
-pub fn widths_of(o: Order, file: &[u8], cs: Channels) -> Widths
+// The one width of the samples of the channels whose subs stand in the file, if they all have one.
+pub fn widths_of(o: Order, file: &[u8], cs: Channels) -> Option<usize>
     requires { cs.subs + 256 * cs.count ≤ length file.now }
     ensures { result ≡ widths_in o file.now cs.subs cs.count }
 {
     if cs.count == 0 {
-        return Widths::Several;
+        return None;
     }
     let mut sub = cs.subs;
     let width = records::channels::width(number4(o, file, sub + Channel::FORMAT));
-    let mut i: u32 = 0;
-    while i < cs.count {
+    for _i in 0..cs.count {
         if records::channels::width(number4(o, file, sub + Channel::FORMAT)) != width {
-            return Widths::Several;
+            return None;
         }
         sub += Channel::LENGTH;
-        i += 1;
     }
-    Widths::One(width)
+    Some(width)
 }
 
 // The samples of a frame whose channels have one width: they are one run.
@@ -296,7 +281,15 @@ fn one_run(w: Way, width: usize, s: &[u8], d: &mut [u8])
 }
 
 // A frame's clock and its samples, in one run or channel by channel; the subs stand in the file.
-pub fn frame_body(w: Way, file: &[u8], cs: Channels, widths: Widths, t: u32, s: &[u8], d: &mut [u8])
+pub fn frame_body(
+    w: Way,
+    file: &[u8],
+    cs: Channels,
+    widths: Option<usize>,
+    t: u32,
+    s: &[u8],
+    d: &mut [u8],
+)
     requires { FramePart w.from file.now cs widths t s.now d.old }
     ensures { (b : ℕ) (ch : List R.Channel) → length ch ≡ cs.count → Kept w.from file.now cs.subs ch →
         length s.now ≡ 8 + R.sample_bytes t ch → d.new ≡ copy w b s.now b (filling t ch) }
@@ -311,16 +304,14 @@ pub fn frame_body(w: Way, file: &[u8], cs: Channels, widths: Widths, t: u32, s: 
         &mut d[..reserve],
     );
     reserved(w, &s[reserve..p], &mut d[reserve..p]);
-    if let Widths::One(width) = widths {
+    if let Some(width) = widths {
         one_run(w, width, s, d);
         return;
     }
     let mut q = cs.subs;
-    let mut i: u32 = 0;
-    while i < cs.count {
+    for _i in 0..cs.count {
         p = channel_samples(w, file, q, t, s, p, d);
         q += Channel::LENGTH;
-        i += 1;
     }
 }
 

@@ -45,9 +45,7 @@ pub fn numbers(w: Way, width: usize, n: usize, s: &[u8], d: &mut [u8])
     requires { NumbersPart width n s.now d.old }
     ensures { (b : ℕ) → d.new ≡ copy w b s.now b (R.number_list width n) }
 {
-    let from = w.from;
-    let to = w.to;
-    if same_order(from, to) {
+    if same_order(w.from, w.to) {
         copy_run(s, d);
     } else {
         turn_run(width, n, s, d);

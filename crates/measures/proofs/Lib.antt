@@ -1,4 +1,5 @@
 pub mod Canonic
 pub mod Chained
 pub mod Lengths
+pub mod Gone
 pub mod Measures

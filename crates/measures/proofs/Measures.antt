@@ -1,5 +1,6 @@
 -- The sizes of the canonical form, and that the code measures the measure of the recording that the walk accepted.
 -- Assumes nothing.
+use Rattle.std.proofs.Common.{Some, None}
 use mathlib.Core.Path.{◌≡◌, refl, sym, ap, ◌∙◌}
 use mathlib.Core.Bool.{Bool, true, false, ◌&&◌, ◌||◌}
 use mathlib.Core.List.{List}
@@ -31,7 +32,6 @@ use Rattle.rows.proofs.Lists.{frames-refused}
 use Rattle.measures.specs.Measures.{sized_for, most_served, Large, Serves, measure_for, measured_for, MeasureBounds, Each, Given, MeasureOf}
 use Rattle.measures.specs.declared.Sized.{Sized}
 use Rattle.measures.specs.declared.Measure.{Measure}
-use Rattle.measures.specs.declared.Measured.{Measured}
 use Rattle.measures.proofs.Lengths.{Accepted}
 
 -- sizes
@@ -81,16 +81,16 @@ module _ (at end last seconds size filled count : ℕ) where
   abbrev whole : ℕ
   whole = 16 + (at + (sized_for frames).length + (last - end))
 
-  pub measure-long : most_served < frames → Measured.Nothing ≡ measured_for at end last seconds size filled count
+  pub measure-long : most_served < frames → None ≡ measured_for at end last seconds size filled count
   unfolding measured_for
   measure-long h = rw (measured_for, lt-leb frames most_served h)
 
-  pub measure-over : (s : Sized) → s ≡ sized_for frames → frames ≤ most_served → most_served < 16 + (at + s.length + (last - end)) → Measured.Nothing ≡ measured_for at end last seconds size filled count
+  pub measure-over : (s : Sized) → s ≡ sized_for frames → frames ≤ most_served → most_served < 16 + (at + s.length + (last - end)) → None ≡ measured_for at end last seconds size filled count
   unfolding measured_for
   measure-over s e h k = rw (measured_for, le-leb frames most_served h, lt-leb whole most_served (rw e at k))
 
   pub measure-on : (s w : Sized) → s ≡ sized_for frames → w ≡ sized_for (16 + (at + s.length + (last - end))) → frames ≤ most_served → 16 + (at + s.length + (last - end)) ≤ most_served →
-      Measured.On (record { at = at; end = end; last = last; seconds = seconds; size = size; filled = filled; count = count; signals = s; whole = w }) ≡ measured_for at end last seconds size filled count
+      Some (record { at = at; end = end; last = last; seconds = seconds; size = size; filled = filled; count = count; signals = s; whole = w }) ≡ measured_for at end last seconds size filled count
   unfolding measured_for
   measure-on s w e g h k = rw (measured_for, g, e, le-leb frames most_served h, le-leb whole most_served (rw e at k))
 

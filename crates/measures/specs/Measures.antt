@@ -1,5 +1,7 @@
 -- How long the canonical form of a recording is, and what its records 10 and 140 then say.
 -- Assumes nothing.
+use Rattle.std.specs.Prelude.{Some, None}
+use Rattle.std.specs.Prelude as Std
 use Rattle.std.specs.Prelude.{◌≡◌, ◌&&◌, List, [], ◌∷◌, ◌++◌, ℕ, ◌+◌, ◌*◌, ◌-◌, ◌≤◌, ◌<◌, leb, length, take, drop}
 use Rattle.std.proofs.Math.Option.{Option}
 use Rattle.words.specs.Numbers.{number_at}
@@ -15,7 +17,6 @@ use Rattle.records.specs.Asks.{PartAt}
 use Rattle.records.specs.Says.{ChannelsIn, ChannelsStand}
 use Rattle.measures.specs.declared.Sized.{Sized}
 use Rattle.measures.specs.declared.Measure.{Measure}
-use Rattle.measures.specs.declared.Measured.{Measured}
 
 -- the size and the multiplier of a record of n bytes, and the length that they make
 abbrev pub sized_for : ℕ → Sized
@@ -55,9 +56,9 @@ abbrev pub measure_for : ℕ → ℕ → ℕ → ℕ → ℕ → ℕ → ℕ →
 measure_for at end last seconds size filled count =
     record { at = at; end = end; last = last; seconds = seconds; size = size; filled = filled; count = count; signals = sized_for (32 + filled * count); whole = sized_for (16 + (at + (sized_for (32 + filled * count)).length + (last - end))) }
 
-unfoldable pub measured_for : ℕ → ℕ → ℕ → ℕ → ℕ → ℕ → ℕ → Measured
+unfoldable pub measured_for : ℕ → ℕ → ℕ → ℕ → ℕ → ℕ → ℕ → Std.Option Measure
 measured_for at end last seconds size filled count =
-    pick (leb (32 + filled * count) most_served && leb (16 + (at + (sized_for (32 + filled * count)).length + (last - end))) most_served) (Measured.On (measure_for at end last seconds size filled count)) Measured.Nothing
+    pick (leb (32 + filled * count) most_served && leb (16 + (at + (sized_for (32 + filled * count)).length + (last - end))) most_served) (Some (measure_for at end last seconds size filled count)) None
 
 -- what a measure says of a recording in a file with this label: its 140's own fields, and the sizes of its canonical form
 pub record MeasureOf (label : Label) (f : Measure) (x : R.Placed) : Type 0 where
@@ -82,19 +83,19 @@ pub record MeasureBounds (n : ℕ) (f : Measure) : Type 0 where
   pub most : f.whole.length < 549755813888
 
 -- the length that it asks for
-abbrev pub length_in : Measured → ℕ
-length_in (Measured.On f) = f.whole.length
-length_in Measured.Nothing = 0
+abbrev pub length_in : Std.Option Measure → ℕ
+length_in (Some f) = f.whole.length
+length_in None = 0
 
 -- where the measure is there, it is one that P holds of
-abbrev pub Given : Measured → (Measure → Type 0) → Type 0
-Given (Measured.On f) P = P f
-Given Measured.Nothing P = ⊥
+abbrev pub Given : Std.Option Measure → (Measure → Type 0) → Type 0
+Given (Some f) P = P f
+Given None P = ⊥
 
 -- whatever the bytes are, P holds of the measure, if there is one
-abbrev pub Each : Measured → (Measure → Type 0) → Type 0
-Each (Measured.On f) P = P f
-Each Measured.Nothing P = Unit {0}
+abbrev pub Each : Std.Option Measure → (Measure → Type 0) → Type 0
+Each (Some f) P = P f
+Each None P = Unit {0}
 
 -- the body of the 140 of a recording whose body is s
 abbrev pub signals_in : List ℕ → Measure → List ℕ
@@ -119,7 +120,7 @@ pub record Measurable (file s : List ℕ) (cs : Channels) (at base : ℕ) : Type
   pub part : PartAt base s at
 
 -- what `measure_of` answers of it
-pub record MeasuredAs (o : Order) (label : Label) (file s : List ℕ) (cs : Channels) (at base : ℕ) (a : Measured) : Type 0 where
+pub record MeasuredAs (o : Order) (label : Label) (file s : List ℕ) (cs : Channels) (at base : ℕ) (a : Std.Option Measure) : Type 0 where
   -- whatever the bytes are
   pub bounds : Each a (MeasureBounds (length s))
   pub reads : Each a (MeasureIn o base s)

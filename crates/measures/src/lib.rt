@@ -5,7 +5,6 @@ ghost use Rattle.std.specs.Prelude.{◌≡◌, ◌≤◌};
 ghost use Rattle.measures.specs.Measures.{most_served, Large, Smallest, Serves, InOrder, measured_for, Measurable, MeasuredAs};
 
 use bodies::fits;
-use records::{Headed, Step};
 use rules::{Channels, Frame, Frames, Head, Kind, Label};
 use words::Order;
 
@@ -70,12 +69,6 @@ pub struct Measure {
     pub whole: Sized,
 }
 
-#[derive(Clone, Copy)]
-pub enum Measured {
-    On(Measure),
-    Nothing,
-}
-
 // The measure of a 140 of which these things are known.
 fn measure_for(
     at: usize,
@@ -85,21 +78,20 @@ fn measure_for(
     size: usize,
     filled: usize,
     count: u32,
-) -> Measured
+) -> Option<Measure>
     requires { InOrder at end last filled }
     ensures { result ≡ measured_for at end last seconds size filled count }
 {
     let n = Frames::FIRST + filled * count as usize;
     if Sized::LIMIT < n {
-        return Measured::Nothing;
+        return None;
     }
     let signals = size_for(n);
-    let padded = signals.length;
-    let whole = Head::LENGTH + (at + padded + (last - end));
+    let whole = Head::LENGTH + (at + signals.length + (last - end));
     if Sized::LIMIT < whole {
-        return Measured::Nothing;
+        return None;
     }
-    Measured::On(Measure {
+    Some(Measure {
         at,
         end,
         last,
@@ -121,32 +113,23 @@ pub fn measure_of(
     at: usize,
     s: &[u8],
     base: usize,
-) -> Measured
+) -> Option<Measure>
     requires { Measurable file.now s.now cs at base }
     ensures { MeasuredAs o label file.now s.now cs at base result }
 {
-    let found = records::head::head_at(o, s, base, at);
-    let Headed::At(h) = found else {
-        return Measured::Nothing;
-    };
-    let room = records::kinds::admit(h, base, s.len(), Kind::Frames(label));
-    let Step::On(end) = room else {
-        return Measured::Nothing;
-    };
-    let behind = records::makers::next_head(o, label, s, base, end);
-    let Headed::At(d) = behind else {
-        return Measured::Nothing;
-    };
+    let h = records::head::head_at(o, s, base, at).ok()?;
+    let end = records::kinds::admit(h, base, s.len(), Kind::Frames(label)).ok()?;
+    let d = records::makers::next_head(o, label, s, base, end).ok()?;
     let body = &s[at + Head::LENGTH..end];
     let t = records::field(o, body, Frames::SECONDS);
     let size = records::field(o, body, Frames::FRAME_LENGTH) as usize;
     let count = records::field(o, body, Frames::COUNT);
     if Frames::MOST_SECONDS < t {
-        return Measured::Nothing;
+        return None;
     }
     let bytes = records::channels::sample_bytes(o, file, cs.subs, cs.count, t);
     if !fits(bytes, size, count, body.len()) {
-        return Measured::Nothing;
+        return None;
     }
     let filled = Frame::SAMPLES + bytes;
     measure_for(at, end, d.at + Head::LENGTH, t, size, filled, count)

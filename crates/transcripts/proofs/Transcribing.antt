@@ -166,9 +166,6 @@ module _ (w : Way) (code : ℕ) (s d : List ℕ) where
   pub bodied-items : (code ≡ 100 → ⊥) → is_group code ≡ false → code < 1024 → Itemized w s d → Bodied w code s d
   bodied-items n₁ n₂ l y = record { basic = λ z. absurd (n₁ z); channels = λ z. false-true (sym n₂ ∙ z); patient = λ _. y; events = λ _. y; maker = λ z. absurd (omega (arith, maker-high code z)) }
 
-  pub bodied-other : (code ≡ 100 → ⊥) → is_group code ≡ false → (code ≡ 130 → ⊥) → (code ≡ 200 → ⊥) → d ≡ s → Bodied w code s d
-  bodied-other n₁ n₂ n₃ n₄ y = record { basic = λ z. absurd (n₁ z); channels = λ z. false-true (sym n₂ ∙ z); patient = λ z. absurd (n₃ z); events = λ z. absurd (n₄ z); maker = λ _. y }
-
 -- a 120, 320 or 350 has the length that its count of subs asks for
 pub channels-counted : (o : Order) (b : ℕ) (s : List ℕ) (c : Group) (n : ℕ) {l : List Channel} {e : ℕ} → see o b s b (channels_body c n) ≡ goes l e → n ≡ 32 + 256 * number_at o 4 s 0
 channels-counted o b s c n g =

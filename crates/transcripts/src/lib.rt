@@ -67,8 +67,7 @@ fn sized_channels(w: Way, k: Shape, s: &[u8], d: &mut [u8])
     if s.len() < Channels::BODY_SUBS {
         return;
     }
-    let o = w.from;
-    let count = number4(o, s, Channels::BODY_COUNT);
+    let count = number4(w.from, s, Channels::BODY_COUNT);
     if s.len() != Channels::BODY_SUBS + Channel::LENGTH * count as usize {
         return;
     }

@@ -1,5 +1,6 @@
 -- What is written of a recording, and of all recordings of a file, from what each of the code's steps wrote.
 -- Assumes nothing.
+use Rattle.std.specs.Prelude as Std
 use mathlib.Core.Path.{◌≡◌, refl, sym, ap, subst, ◌∙◌}
 use mathlib.Core.Bool.{true}
 use mathlib.Core.List.{List, [], ◌∷◌, ◌++◌, append_assoc, append-nil}
@@ -32,7 +33,6 @@ use Rattle.children.proofs.Chained.{body-chain}
 use Rattle.children.proofs.Visiting.{chain-parted, chain-closed}
 use Rattle.children.specs.Recordings.{all_of, ReadAs}
 use Rattle.children.proofs.Saying.{nothing}
-use Rattle.descriptions.specs.declared.Before.{Before}
 use Rattle.descriptions.specs.declared.Places.{Places}
 use Rattle.children.proofs.Recordings.{Begun, begun}
 use Rattle.children.proofs.Again.{Next}
@@ -137,7 +137,7 @@ module _ (w : Way) where
 
   module _ {s : List ℕ} {p : ℕ} where
     -- one recording more: the code has its places q, and wrote it where it stands in the file
-    pub sent-next : {i : ℕ} {before : Before} {held : Option R.Held} {q : Places} {x : R.Placed} → p ≤ length s → Next w.from w.label s p i before held q x → {out₀ out : List ℕ} (l : Said) (out' : List ℕ) →
+    pub sent-next : {i : ℕ} {before : Std.Option Places} {held : Option R.Held} {q : Places} {x : R.Placed} → p ≤ length s → Next w.from w.label s p i before held q x → {out₀ out : List ℕ} (l : Said) (out' : List ℕ) →
         ((held : Option R.Held) (j : ℕ) (y : R.Placed) → see w.from 0 s p (recording w.label held (length s - p) j) ≡ goes y q.end → ChannelsStand w.from s (subs_at q.channels q.count) y.recording.channels → out' ≡ pasted out p (copy w 0 s p (recording w.label held (length s - p) j))) →
         AfterHeader out₀ out p (sent_of l) → AfterHeader out₀ out' q.end (sent_of (l then said w.from 0 s p (recording w.label held (length s - p) (i + 1))))
     unfolding said ◌then◌

@@ -1,5 +1,6 @@
 -- The way of turning, and what the steps of the code ask and write.
 -- Assumes nothing.
+use Rattle.std.specs.Prelude as Std
 use Rattle.std.specs.Prelude.{◌≡◌, Bool, true, List, ◌++◌, ℕ, ◌+◌, ◌-◌, ◌*◌, ◌≤◌, length, take, drop}
 use Rattle.std.proofs.Math.Option.{Option}
 use Rattle.words.specs.Numbers.{other}
@@ -17,7 +18,6 @@ use Rattle.children.specs.Children.{Said, Known, Reads, Inner}
 use Rattle.bodies.specs.Copy.{copy, widths_in, Pastes, HoldsFrom}
 use Rattle.bodies.specs.Asks.{AtLeast}
 use Rattle.bodies.specs.declared.Way.{Way}
-use Rattle.bodies.specs.declared.Widths.{Widths}
 use Rattle.transcripts.specs.Transcript.{Copied}
 
 -- from an order to the other, and every byte that is not judged as it stands
@@ -27,7 +27,7 @@ turning o label = record { from = o; label = label; to = other o; keep = true }
 -- what the steps ask of frames that go from s into d
 
 -- the frame s, which has so many bytes before its padding
-pub record FrameFrom (o : Order) (file : List ℕ) (cs : Channels) (widths : Widths) (t filled : ℕ) (s d : List ℕ) : Type 0 where
+pub record FrameFrom (o : Order) (file : List ℕ) (cs : Channels) (widths : Std.Option ℕ) (t filled : ℕ) (s d : List ℕ) : Type 0 where
   -- the subs that hold for it are in the file
   pub channels : cs.subs + 256 * cs.count ≤ length file
   -- these are the widths that they give

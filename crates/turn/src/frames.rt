@@ -8,7 +8,7 @@ ghost use Rattle.bodies.specs.Copy.{copy};
 ghost use Rattle.turn.specs.Steps.{FrameFrom, FramesSized, FramesFrom, FramesPasted, ChildFrom, FramesSent};
 
 use bodies::runs::{numbers, reserved};
-use bodies::{Way, Widths, fits, frame_body, widths_of};
+use bodies::{Way, fits, frame_body, widths_of};
 use bulk::copy_run;
 use rules::{Channels, Frame, Frames, Head};
 use transcripts::head;
@@ -18,7 +18,7 @@ fn frame(
     w: Way,
     file: &[u8],
     cs: Channels,
-    widths: Widths,
+    widths: Option<usize>,
     t: u32,
     filled: usize,
     s: &[u8],
@@ -62,8 +62,7 @@ fn frames_body(
         see w.from b s.now b (R.frames_body w.label c ch hd) ≡ goes f e →
         d.new ≡ copy w b s.now b (R.frames_body w.label c ch hd) }
 {
-    let o = w.from;
-    let widths = widths_of(o, file, cs);
+    let widths = widths_of(w.from, file, cs);
     let reserve = Frames::BODY_RESERVE;
     let mut from = Frames::BODY_FIRST;
     let mut k = Frames::BODY_FIRST;
@@ -75,8 +74,7 @@ fn frames_body(
         &mut d[..reserve],
     );
     reserved(w, &s[reserve..from], &mut d[reserve..k]);
-    let mut i: u32 = 0;
-    while i < count {
+    for _i in 0..count {
         let end = k + size;
         frame(
             w,
@@ -90,7 +88,6 @@ fn frames_body(
         );
         from += size;
         k = end;
-        i += 1;
     }
     copy_run(&s[from..], &mut d[k..]);
 }

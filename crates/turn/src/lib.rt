@@ -6,25 +6,15 @@ pub mod recordings;
 
 ghost use Rattle.turn.specs.Turn.{Turns};
 
-use judge::Judged;
-use permit::Written;
+use rules::Refusal;
 
 // Judges the file, then writes it in the other byte order into `out`.
-pub fn turn(file: &[u8], out: &mut [u8]) -> Written
+pub fn turn(file: &[u8], out: &mut [u8]) -> Result<usize, Refusal>
     ensures { Turns file.now out.old out.new result }
 {
-    let judged = judge::judge(file);
-    let Judged::Accepted(h) = judged else {
-        return Written::Refused(judge::of_judged(judged));
-    };
-    let order = h.order;
-    let made = makers::first_maker(order, file, h.count);
-    let leave = permit::permit(made, file.len(), out.len());
-    let Written::Bytes(_) = leave else {
-        return leave;
-    };
-    let heading = h.heading;
-    let label = heading.label;
-    recordings::file_turned(order, label, file, h.count, out);
-    leave
+    let h = judge::judge(file)?;
+    let made = makers::first_maker(h.order, file, h.count);
+    let size = permit::permit(made, file.len(), out.len())?;
+    recordings::file_turned(h.order, h.heading.label, file, h.count, out);
+    Ok(size)
 }

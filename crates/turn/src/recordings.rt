@@ -14,9 +14,8 @@ ghost use Rattle.turn.specs.Steps.{turning, ChildFrom, BodyFrom, RecordingFrom, 
 use bodies::Way;
 use bodies::runs::letter;
 use bulk::copy_run;
-use children::Direct;
-use descriptions::{Before, Places};
-use judge::recording::{Recorded, recording_again};
+use descriptions::Places;
+use judge::recording::recording_again;
 use rules::{Channels, Delimiter, FileHeader, Frames, Head, Label};
 use words::Order;
 
@@ -36,9 +35,8 @@ fn header(w: Way, s: &[u8], d: &mut [u8])
     ensures { (n : ℕ) (f : R.FileHeader) (e : ℕ) → see w.from 0 s.now 0 (R.file_header n) ≡ goes f e →
         d.new ≡ copy w 0 s.now 0 (R.file_header n) }
 {
-    let to = w.to;
     copy_run(s, d);
-    d[FileHeader::ORDER] = letter(to);
+    d[FileHeader::ORDER] = letter(w.to);
 }
 
 // The record with the head h that stands in a recording, up to byte `end` of its body s, with the subs that hold for it.
@@ -79,18 +77,13 @@ fn body(w: Way, file: &[u8], cs: Channels, s: &[u8], base: usize, out: &mut [u8]
     requires { BodyFrom file.now cs s.now base out.old k }
     ensures { BodySent w file.now cs s.now base out.old out.new k }
 {
-    let o = w.from;
     let mut p: usize = 0;
     let mut next = k;
-    loop {
-        let there = children::record_at(o, s, base, p);
-        let Direct::Record(h, end) = there else {
-            last(w, s, p, out, next);
-            return;
-        };
+    while let Some((h, end)) = children::record_at(w.from, s, base, p) {
         next = child(w, file, cs, s, h, end, out, next);
         p = end;
     }
+    last(w, s, p, out, next);
 }
 
 // The recording from byte p of the file on, which has these places.
@@ -132,16 +125,13 @@ pub fn file_turned(o: Order, label: Label, file: &[u8], count: u32, out: &mut [u
     };
     let mut p = FileHeader::LENGTH;
     header(w, &file[..p], &mut out[..p]);
-    let mut before = Before::Nothing;
-    let mut i: u32 = 0;
-    while i < count {
-        let step = recording_again(o, label, file, p, before);
-        let Recorded::On(q) = step else {
+    let mut before = None;
+    for _i in 0..count {
+        let Ok(q) = recording_again(o, label, file, p, before) else {
             return;
         };
         recording(w, file, p, q, out);
         p = q.end;
-        before = Before::These(q);
-        i += 1;
+        before = Some(q);
     }
 }

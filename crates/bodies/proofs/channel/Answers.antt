@@ -15,24 +15,6 @@ slice_bounds-channel_numbers-end-3 c = simp length-take (omega arith)
 pub channel_numbers-requires : goal.channel_numbers-requires
 channel_numbers-requires c = record { source = simp length-take (omega arith); room = simp length-take (omega arith) }
 
-pub slice_bounds-copy_run-count-3 : goal.slice_bounds-copy_run-count-3
-slice_bounds-copy_run-count-3 c = omega (arith, c)
-
-pub slice_bounds-copy_run-start-3 : goal.slice_bounds-copy_run-start-3
-slice_bounds-copy_run-start-3 c = omega (arith, c)
-
-pub slice_bounds-copy_run-count-4 : goal.slice_bounds-copy_run-count-4
-slice_bounds-copy_run-count-4 c = omega (arith, c)
-
-pub slice_bounds-copy_run-start-4 : goal.slice_bounds-copy_run-start-4
-slice_bounds-copy_run-start-4 c = omega (arith, c)
-
-pub copy_run-requires-2 : goal.copy_run-requires-2
-copy_run-requires-2 c = omega (arith, c)
-
-pub shape_of-d : goal.shape_of-d
-shape_of-d c = omega (arith, c)
-
 pub returns : goal.returns
 returns c =
     let a = c.args in

@@ -4,17 +4,8 @@ use native.Mathlib.Nat.{add-sub_cancel_left}
 use native.Mathlib.Omega.{arith}
 use lib.ListN.{length-take, length-drop}
 use borrow.Author.Rules.{rules}
-use Rattle.records.proofs.Facts.{bytes-short}
-use Rattle.bodies.proofs.Filling.{sample-wide, samples-past, samples-copied}
+use Rattle.bodies.proofs.Filling.{sample-wide, samples-copied}
 use Rattle.bodies.proofs.channel_samples.Goals as goal
-
-pub overflow_mul-bytes : goal.overflow_mul-bytes
-overflow_mul-bytes c = record { fits = omega (arith, bytes-short c.width-width.result c.samples_in-n.result c.width-width.ensures.1 c.samples_in-n.ensures.1) }
-
-pub returns-then-s-p : goal.returns-then-s-p
-returns-then-s-p c =
-    let a = c.args in
-    (search rules, λ b x cs k. samples-past a.w _ a.q a.t _ _ _ _ _ c.number4-flags.ensures.0 c.number4-format.ensures.0 c.number4-rate.ensures.0 c.width-width.ensures.0 c.samples_in-n.ensures.0 a.s.now a.d.now a.p x cs k c.if-s-p.true c.requires.part.least)
 
 pub numbers-requires : goal.numbers-requires
 numbers-requires c =

@@ -3,18 +3,8 @@
 use mathlib.Core.Path.{sym, ◌∙◌}
 use Prim.Native.Nat.{◌+◌, ◌-◌}
 use native.Mathlib.Omega.{arith}
-use lib.Seq.{length-take-le}
 use Rattle.bodies.proofs.Pieces.{channels-front, channels-more, channels-all}
 use Rattle.bodies.proofs.channels_body.Goals as goal
-
-pub slice_bounds-numbers-end : goal.slice_bounds-numbers-end
-slice_bounds-numbers-end c = sym (length-take-le 8 c.args.s.now (omega arith))
-
-pub slice_bounds-numbers-end-3 : goal.slice_bounds-numbers-end-3
-slice_bounds-numbers-end-3 c = sym (length-take-le 8 c.args.d.now (omega arith))
-
-pub numbers-requires : goal.numbers-requires
-numbers-requires c = record { wide = record { least = omega arith; most = omega arith }; run = record { source = length-take-le 8 c.args.s.now (omega arith); room = length-take-le 8 c.args.d.now (omega arith) } }
 
 pub loop-i-init : goal.loop-i-init
 loop-i-init c =
@@ -25,10 +15,10 @@ pub loop-i-preserved : goal.loop-i-preserved
 loop-i-preserved c =
     let l = c.loop-i in
     let a = c.args in
-    channels-more a.w a.k a.m a.s.now l.d l.at l.i (l.at + 256 - l.at) (l.at + 256) _ c.loop-i-test.true (omega arith) (omega arith) c.d-in-loop-i-1.given.1 c.channel.ensures l.invariant
+    channels-more a.w a.k a.m a.s.now l.d l.at l._i (l.at + 256 - l.at) (l.at + 256) _ c.loop-i-test.true (omega arith) (omega arith) c.d-in-loop-i-1.given.1 c.channel.ensures l.invariant
 
 pub returns : goal.returns
 returns c =
     let l = c.loop-i in
     let a = c.args in
-    channels-all a.w a.k a.m a.s.now l.d l.at l.i (omega arith) l.invariant
+    channels-all a.w a.k a.m a.s.now l.d l.at l._i (omega arith) l.invariant

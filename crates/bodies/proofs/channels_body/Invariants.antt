@@ -1,11 +1,7 @@
 -- `bodies::channels_body` meets its contract: after i turns i subs are written behind the front.
 -- Assumes nothing.
-use Prim.Native.Nat.{◌-◌}
 use Rattle.bodies.proofs.Pieces.{SoFar}
 use Rattle.bodies.proofs.channels_body.Given as goal
 
 abbrev pub invariant-loop-i : goal.invariant-loop-i
-invariant-loop-i l = SoFar l.w l.k l.m l.s l.d l.at l.i
-
-abbrev pub decreases-loop-i : goal.decreases-loop-i
-decreases-loop-i l = l.m - l.i
+invariant-loop-i l = SoFar l.w l.k l.m l.s l.d l.at l._i

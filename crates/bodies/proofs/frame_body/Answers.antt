@@ -3,29 +3,19 @@
 use mathlib.Core.Path.{◌∙◌, sym}
 use native.Mathlib.Nat.{sub-zero}
 use native.Mathlib.Omega.{arith}
-use lib.ListN.{length-take}
 use borrow.Author.Rules.{rules}
 use Rattle.bodies.proofs.Filling.{samples-begun, samples-more, samples-all, body-once, widths-told}
 use Rattle.bodies.proofs.frame_body.Goals as goal
 
-pub slice_bounds-numbers-end : goal.slice_bounds-numbers-end
-slice_bounds-numbers-end c = simp length-take (omega arith)
-
-pub slice_bounds-numbers-end-3 : goal.slice_bounds-numbers-end-3
-slice_bounds-numbers-end-3 c = simp length-take (omega arith)
-
-pub numbers-requires : goal.numbers-requires
-numbers-requires c = record { wide = record { least = omega arith; most = omega arith }; run = record { source = simp length-take (omega arith); room = simp length-take (omega arith) } }
-
 pub one_run-requires : goal.one_run-requires
 one_run-requires c =
-    let k = widths-told _ _ _ _ _ (sym c.in-One.is ∙ c.requires.wide) in
+    let k = widths-told _ _ _ _ _ (sym c.in-Some.is ∙ c.requires.wide) in
     record { wide = record { least = k.0; most = k.1 }; clock = search rules }
 
-pub returns-in-One : goal.returns-in-One
-returns-in-One c =
+pub returns-in-Some : goal.returns-in-Some
+returns-in-Some c =
     let a = c.args in
-    let k = widths-told _ _ _ _ _ (sym c.in-One.is ∙ c.requires.wide) in
+    let k = widths-told _ _ _ _ _ (sym c.in-Some.is ∙ c.requires.wide) in
     body-once a.w a.file.now a.t a.s.now a.cs.subs a.cs.count _ a.d.now _ _ _ c.requires.clock.room c.numbers.ensures c.reserved.ensures k.2 c.one_run.ensures
 
 pub loop-i-init : goal.loop-i-init

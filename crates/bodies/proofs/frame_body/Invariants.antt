@@ -10,7 +10,7 @@ use Rattle.bodies.proofs.Filling.{Samples}
 use Rattle.bodies.proofs.frame_body.Given as goal
 
 abbrev pub invariant-loop-i : goal.invariant-loop-i
-invariant-loop-i l = (l.i ≤ l.cs.count) × (l.q ≡ l.cs.subs + 256 * l.i) × (l.p ≤ length l.s) × (length l.d ≡ length l.s) × ((b : ℕ) (ch : List Channel) → length ch ≡ l.cs.count → Kept l.w.from l.file l.cs.subs ch → length l.s ≡ 8 + sample_bytes l.t ch → Samples l.w l.file l.t b l.s ch (l.cs.count - l.i) l.q l.p l.d)
-
-abbrev pub decreases-loop-i : goal.decreases-loop-i
-decreases-loop-i l = l.cs.count - l.i
+invariant-loop-i l =
+    (l._i ≤ l.fn.cs.count) × (l.q ≡ l.fn.cs.subs + 256 * l._i) × (l.p ≤ length l.s) × (length l.d ≡ length l.s) ×
+    ((b : ℕ) (ch : List Channel) → length ch ≡ l.fn.cs.count → Kept l.w.from l.file l.fn.cs.subs ch →
+    length l.s ≡ 8 + sample_bytes l.t ch → Samples l.w l.file l.t b l.s ch (l.fn.cs.count - l._i) l.q l.p l.d)

@@ -3,19 +3,9 @@
 use mathlib.Core.Path.{◌∙◌}
 use native.Mathlib.Nat.{sub-zero}
 use native.Mathlib.Omega.{arith}
-use lib.ListN.{length-take}
 use borrow.Author.Rules.{rules}
 use Rattle.bodies.proofs.Filling.{items-begun, items_more, items-all}
 use Rattle.bodies.proofs.items_body.Goals as goal
-
-pub slice_bounds-numbers-end : goal.slice_bounds-numbers-end
-slice_bounds-numbers-end c = simp length-take (omega arith)
-
-pub slice_bounds-numbers-end-3 : goal.slice_bounds-numbers-end-3
-slice_bounds-numbers-end-3 c = simp length-take (omega arith)
-
-pub numbers-requires : goal.numbers-requires
-numbers-requires c = record { wide = record { least = omega arith; most = omega arith }; run = record { source = simp length-take (omega arith); room = simp length-take (omega arith) } }
 
 pub loop-i-init : goal.loop-i-init
 loop-i-init c =

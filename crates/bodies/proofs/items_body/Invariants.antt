@@ -11,7 +11,6 @@ use Rattle.bodies.proofs.Filling.{Items}
 use Rattle.bodies.proofs.items_body.Given as goal
 
 abbrev pub invariant-loop-i : goal.invariant-loop-i
-invariant-loop-i m = (m.i ≤ m.count) × (m.p ≤ length m.s) × (length m.d ≡ length m.s) × ((b : ℕ) (ok : ℕ → Bool) (l : List Item) (e : ℕ) → see m.w.from b m.s b (items_body ok (16 + length m.s)) ≡ goes l e → Items m.w b m.s ok (m.count - m.i) m.p m.d)
-
-abbrev pub decreases-loop-i : goal.decreases-loop-i
-decreases-loop-i l = l.count - l.i
+invariant-loop-i m =
+    (m._i ≤ m.count) × (m.p ≤ length m.s) × (length m.d ≡ length m.s) ×
+    ((b : ℕ) (ok : ℕ → Bool) (l : List Item) (e : ℕ) → see m.w.from b m.s b (items_body ok (16 + length m.s)) ≡ goes l e → Items m.w b m.s ok (m.count - m._i) m.p m.d)

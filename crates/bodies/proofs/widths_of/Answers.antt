@@ -1,37 +1,30 @@
 -- `bodies::widths_of` meets its contract: whether all channels have the width of the first is whether those have it that are left.
 -- Assumes nothing.
 use mathlib.Core.Path.{◌≡◌, sym, ap, ◌∙◌}
-use Prim.Native.Nat.{ℕ, suc, ◌+◌, ◌-◌}
-use native.Mathlib.Nat.{sub-zero}
+use Prim.Native.Nat.{suc, ◌+◌, ◌-◌}
 use native.Mathlib.Omega.{arith}
 use borrow.Author.Rules.{rules}
 use Rattle.rules.specs.Rules as R
-use Rattle.bodies.specs.Copy.{all_wide}
 use Rattle.bodies.proofs.Filling.{widths-none, widths-several, widths-one, wide-none, wide-more, wide-other}
 use Rattle.bodies.proofs.widths_of.Goals as goal
 
 pub returns-then-cs-eq0 : goal.returns-then-cs-eq0
 returns-then-cs-eq0 c = widths-none _ _ _ _ c.if-cs-eq0.true
 
-pub loop-i-init : goal.loop-i-init
-loop-i-init c =
-    let a = c.args in
-    (search rules, omega (arith, c.if-cs-eq0.false), search rules, c.width-width.ensures.0 ∙ ap R.width c.number4.ensures.0, ap (λ (n : ℕ). all_wide a.o a.file.now a.cs.subs n c.width-width.result) (sym (sub-zero a.cs.count)))
-
 pub returns-then-width : goal.returns-then-width
 returns-then-width c =
     let l = c.loop-i in
-    widths-several _ _ _ _ _ (c.args.cs.count - 1) (omega arith) l.invariant.3 (l.invariant.4 ∙ wide-other _ _ _ _ _ (c.args.cs.count - l.i - 1) (omega arith) (λ e. c.if-width.true (c.width.ensures.0 ∙ (ap R.width c.number4-in-loop-i.ensures.0 ∙ e))))
+    widths-several _ _ _ _ _ (c.args.cs.count - 1) (omega arith) l.invariant.3 (l.invariant.4 ∙ wide-other _ _ _ _ _ (c.args.cs.count - l._i - 1) (omega arith) (λ e. c.if-width.true (c.width.ensures.0 ∙ (ap R.width c.number4-in-loop-i.ensures.0 ∙ e))))
 
 pub loop-i-preserved : goal.loop-i-preserved
 loop-i-preserved c =
     let l = c.loop-i in
-    let m : c.args.cs.count - l.i ≡ suc (c.args.cs.count - (l.i + 1)) = omega arith in
+    let m : c.args.cs.count - l._i ≡ suc (c.args.cs.count - (l._i + 1)) = omega arith in
     let e = sym (c.width.ensures.0 ∙ ap R.width c.number4-in-loop-i.ensures.0) ∙ c.if-width.false in
-    (search rules, l.invariant.1, omega arith, l.invariant.3, l.invariant.4 ∙ wide-more _ _ _ _ _ (c.args.cs.count - (l.i + 1)) m e)
+    (search rules, l.invariant.1, omega arith, l.invariant.3, l.invariant.4 ∙ wide-more _ _ _ _ _ (c.args.cs.count - (l._i + 1)) m e)
 
 pub returns : goal.returns
 returns c =
     let l = c.loop-i in
-    let n : c.args.cs.count - l.i ≡ 0 = omega (arith, c.loop-i-test.false) in
+    let n : c.args.cs.count - l._i ≡ 0 = omega (arith, c.loop-i-test.false) in
     widths-one _ _ _ _ _ (c.args.cs.count - 1) (omega arith) l.invariant.3 (l.invariant.4 ∙ wide-none _ _ _ _ _ n)

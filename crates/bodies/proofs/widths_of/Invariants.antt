@@ -8,7 +8,7 @@ use Rattle.bodies.specs.Copy.{all_wide}
 use Rattle.bodies.proofs.widths_of.Given as goal
 
 abbrev pub invariant-loop-i : goal.invariant-loop-i
-invariant-loop-i l = (l.i ≤ l.cs.count) × (0 < l.cs.count) × (l.sub ≡ l.cs.subs + 256 * l.i) × (l.width ≡ R.width (number_at l.o 4 l.file (l.cs.subs + 28))) × (all_wide l.o l.file l.cs.subs l.cs.count l.width ≡ all_wide l.o l.file l.sub (l.cs.count - l.i) l.width)
-
-abbrev pub decreases-loop-i : goal.decreases-loop-i
-decreases-loop-i l = l.cs.count - l.i
+invariant-loop-i l =
+    (l._i ≤ l.fn.cs.count) × (0 < l.fn.cs.count) × (l.sub ≡ l.fn.cs.subs + 256 * l._i) ×
+    (l.width ≡ R.width (number_at l.o 4 l.file (l.fn.cs.subs + 28))) ×
+    (all_wide l.o l.file l.fn.cs.subs l.fn.cs.count l.width ≡ all_wide l.o l.file l.sub (l.fn.cs.count - l._i) l.width)

@@ -1,15 +1,8 @@
 -- `measures::measure_for` meets its contract: a length beyond what the largest multiplier serves has no measure.
 -- Assumes nothing.
 use native.Mathlib.Omega.{arith}
-use Rattle.records.proofs.Facts.{product}
 use Rattle.measures.proofs.Measures.{measure-long, measure-over, measure-on}
 use Rattle.measures.proofs.measure_for.Goals as goal
-
-pub overflow_mul-n : goal.overflow_mul-n
-overflow_mul-n c = record { fits = omega (arith, product _ _ c.requires.frame c.ranges.count.fits) }
-
-pub overflow_add-n : goal.overflow_add-n
-overflow_add-n c = record { fits = omega (arith, product _ _ c.requires.frame c.ranges.count.fits) }
 
 pub returns-then-n-gt-LIMIT : goal.returns-then-n-gt-LIMIT
 returns-then-n-gt-LIMIT c = measure-long _ _ _ _ _ _ _ (omega arith)

@@ -15,8 +15,5 @@ returns-then-n-le-MOST c = serves-once c.args.n (omega arith)
 pub overflow_cast-result-2 : goal.overflow_cast-result-2
 overflow_cast-result-2 c = record { fits = omega (arith, share-small c.args.n (large c) c.multiplier_for-m.result c.multiplier_for-m.ensures.is) }
 
-pub overflow_mul-result : goal.overflow_mul-result
-overflow_mul-result c = record { fits = omega (arith, c.requires, (serves_more c.args.n (large c) c.multiplier_for-m.result c.multiplier_for-m.ensures.is).close) }
-
 pub returns : goal.returns
 returns c = serves_more c.args.n (large c) c.multiplier_for-m.result c.multiplier_for-m.ensures.is

@@ -4,7 +4,7 @@ use mathlib.Core.Path.{◌≡◌, sym, ◌∙◌}
 use mathlib.Core.Bool.{false}
 use native.Mathlib.Omega.{arith}
 use Rattle.records.specs.Says.{is_group}
-use Rattle.transcripts.proofs.Transcribing.{bodied-100, bodied-subs, bodied-items, bodied-other}
+use Rattle.transcripts.proofs.Transcribing.{bodied-100, bodied-subs, bodied-items}
 use Rattle.transcripts.proofs.body.Goals as goal
 use Rattle.transcripts.proofs.body.Goals.{Else-is_group}
 
@@ -26,7 +26,3 @@ returns-then-code-eq-CODE-2 c =
 pub returns-then-code-eq-CODE-3 : goal.returns-then-code-eq-CODE-3
 returns-then-code-eq-CODE-3 c =
     bodied-items _ _ _ _ c.if-code-eq-CODE.false (ungrouped (goal.at.returns-then-code-eq-CODE-3 c).Else-is_group) (omega (arith, c.if-code-eq-CODE-3.true)) c.sized_items-then-code-eq-CODE-3.ensures
-
-pub returns : goal.returns
-returns c =
-    bodied-other _ _ _ _ c.if-code-eq-CODE.false (ungrouped (goal.at.returns c).Else-is_group) c.if-code-eq-CODE-2.false c.if-code-eq-CODE-3.false c.copy_run.ensures

@@ -1,6 +1,5 @@
 -- `transcripts::sized_channels` meets its contract: a record with subs that the walk accepts has the length that its count asks for.
 -- Assumes nothing.
-use mathlib.Core.Path.{sym}
 use native.Mathlib.Omega.{arith}
 use Rattle.transcripts.proofs.Transcribing.{channels-counted}
 use Rattle.transcripts.proofs.sized_channels.Goals as goal
@@ -14,6 +13,3 @@ pub returns-then-s-count : goal.returns-then-s-count
 returns-then-s-count c =
     let a = c.args in
     λ d k b l e g. absurd (c.if-s-count.true (omega (arith, c.number4-count.ensures.0, channels-counted a.w.from b a.s.now d _ g)))
-
-pub returns : goal.returns
-returns c = λ d k b l e g. c.channels_body.ensures b _ d k (sym c.number4-count.ensures.0)

@@ -1,14 +1,12 @@
 -- `turn::frames::body_if_room` meets its contract: where the walk accepts the body, no test of the code fails, and it is written where there is room.
 -- x: behind its three numbers. Assumes nothing.
-use mathlib.Core.Path.{◌≡◌, sym, ap, ◌∙◌}
+use mathlib.Core.Path.{◌≡◌, sym, ap}
 use mathlib.Core.List.{List}
-use Prim.Native.Nat.{ℕ, ◌+◌, ◌-◌, ◌*◌, ◌≤◌}
+use Prim.Native.Nat.{ℕ, ◌+◌}
 use native.Mathlib.Omega.{arith}
-use lib.ListN.{length, drop, length-drop}
-use lib.Seq.{length-take-le}
+use lib.ListN.{length}
 use Rattle.walk.specs.See.{see, goes}
 use Rattle.rules.specs.Rules as R
-use Rattle.records.proofs.Facts.{both_true}
 use Rattle.bodies.specs.Copy.{copy}
 use Rattle.bodies.proofs.Copying.{pastes-whole, pastes-full}
 use Rattle.turn.proofs.Turning.{FramesTurned, framed, framed-length, framed-fits}
@@ -24,11 +22,6 @@ told : (x : After-field-count) →
 told x b c ch hd f e fills g =
     let a = x.args in
     framed a.w b a.s.now c ch hd fills g _ _ _ (sym x.field-t.ensures.0) (sym x.field-size.ensures.0) (sym x.field-count.ensures.0)
-
--- what the code's test of them says
-fitted : (c : Else-out-k) →
-    (24 + c.sample_bytes-bytes.result ≤ c.field-size.result) × (16 + c.field-size.result * c.field-count.result ≤ length c.args.s.now)
-fitted c = let r = c.fits in both_true _ _ _ _ r.result r.ensures (c.if-not-fits.false)
 
 pub returns-then-t-gt-MOST_SECONDS : goal.returns-then-t-gt-MOST_SECONDS
 returns-then-t-gt-MOST_SECONDS c = record {
@@ -53,17 +46,6 @@ returns-then-out-k c =
       wrote = λ b k ch hd f e st fills g.
           pastes-full a.out.now a.out.now a.k a.k (copy a.w b a.s.now b (R.frames_body a.w.label k ch hd)) (omega (arith, c.if-out-k.true, framed-length a.w b a.s.now k ch hd fills g c.requires.fields));
     }
-
-pub overflow_add-filled : goal.overflow_add-filled
-overflow_add-filled c = omega (arith, (fitted c).0, c.field-size.ensures.1)
-
-pub frames_body-requires : goal.frames_body-requires
-frames_body-requires c =
-    let a = c.args in
-    let l = length a.s.now in
-    let t = fitted (goal.at.frames_body-requires c).Else-out-k in
-    let e : a.k + l - a.k ≡ l = omega arith in
-    record { channels = c.requires.channels.inside; seconds = omega (arith, c.if-t-gt-MOST_SECONDS.false); least = omega arith; fits = t.0; part = record { least = t.1; room = length-take-le (a.k + l - a.k) (drop a.k a.out.now) (rw length-drop (omega (arith, c.if-out-k.false))) ∙ e } }
 
 pub returns : goal.returns
 returns c =

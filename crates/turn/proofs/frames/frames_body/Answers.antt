@@ -1,11 +1,10 @@
 -- `turn::frames::frames_body` meets its contract. The loop's invariant: what is written of the body is what stands before the next frame, which is read where it is written.
--- The measure is how many frames are left. Assumes nothing.
-use mathlib.Core.Path.{◌≡◌, refl, sym, ap, ◌∙◌}
+-- Assumes nothing.
+use mathlib.Core.Path.{◌≡◌, refl, ap, ◌∙◌}
 use Prim.Native.Nat.{ℕ, ◌+◌, ◌-◌, ◌*◌, ◌≤◌}
 use native.Mathlib.Omega.{arith}
 use native.Mathlib.Nat.{mul-add}
 use lib.ListN.{length}
-use lib.Seq.{length-take-le}
 use Rattle.rows.proofs.Written.{series-reach}
 use Rattle.turn.proofs.Turning.{framed, framing-start, framing-more, framing-end}
 use borrow.Author.Rules.{rules}
@@ -18,16 +17,7 @@ reach : (c : In-loop-i) →
     c.loop-i.k + a.size ≤ length a.s.now
 reach c =
     let a = c.args in
-    omega (arith, series-reach c.loop-i.i a.count 16 a.size (omega arith))
-
-pub slice_bounds-numbers-end : goal.slice_bounds-numbers-end
-slice_bounds-numbers-end c = sym (length-take-le 12 c.args.s.now (omega arith))
-
-pub slice_bounds-numbers-end-3 : goal.slice_bounds-numbers-end-3
-slice_bounds-numbers-end-3 c = sym (length-take-le 12 c.args.d.now (omega arith))
-
-pub numbers-requires : goal.numbers-requires
-numbers-requires c = record { wide = record { least = omega arith; most = omega arith }; run = record { source = length-take-le 12 c.args.s.now (omega arith); room = length-take-le 12 c.args.d.now (omega arith) } }
+    omega (arith, series-reach c.loop-i._i a.count 16 a.size (omega arith))
 
 pub loop-i-init : goal.loop-i-init
 loop-i-init c =
@@ -40,43 +30,23 @@ loop-i-init c =
       λ b k ch hd f e st l e₁ e₂ e₃ q v. framing-start (framed a.w b a.s.now k ch hd q v a.t a.size a.count e₁ e₂ e₃) a.d.now _ _ _ c.requires.part.room (c.numbers.ensures b) refl (c.reserved.ensures (b + 12)),
     )
 
-pub overflow_add-end : goal.overflow_add-end
-overflow_add-end c = omega (arith, reach c, c.well_formed)
-
-pub overflow_add-from : goal.overflow_add-from
-overflow_add-from c = omega (arith, reach c, c.well_formed)
-
-pub slice_bounds-frame-end : goal.slice_bounds-frame-end
-slice_bounds-frame-end c = omega (arith, reach c)
-
-pub slice_bounds-frame-end-in-loop-i : goal.slice_bounds-frame-end-in-loop-i
-slice_bounds-frame-end-in-loop-i c = omega (arith, reach (goal.at.slice_bounds-frame-end-in-loop-i c).In-loop-i)
-
-pub frame-requires : goal.frame-requires
-frame-requires c =
-    record { channels = c.requires.channels; wide = c.widths_of-widths.ensures; seconds = c.requires.seconds; least = c.requires.least; part = search rules }
-
-pub overflow_add-from-in-loop-i : goal.overflow_add-from-in-loop-i
-overflow_add-from-in-loop-i c =
-    omega (arith, reach (goal.at.overflow_add-from-in-loop-i c).In-loop-i, c.well_formed)
-
 pub loop-i-preserved : goal.loop-i-preserved
 loop-i-preserved c =
     let l = c.loop-i in
     let a = c.args in
     let m : l.k + a.size - l.k ≡ a.size = omega arith in (
       search rules,
-      omega (arith, mul-add a.size l.i 1),
+      omega (arith, mul-add a.size l._i 1),
       reach (goal.at.loop-i-preserved c).In-loop-i,
       c.d-in-loop-i-1.given.1 ∙ l.invariant.3,
       omega arith,
       λ b k ch hd f e st j e₁ e₂ e₃ q v.
           framing-more (l.invariant.5 b k ch hd f e st j e₁ e₂ e₃ q v) (l.k + a.size - l.k) (l.k + a.size - l.k) _ c.loop-i-test.true (reach (goal.at.loop-i-preserved c).In-loop-i) m m
-          (rw l.invariant.4 at (c.frame.ensures (b + l.k) (length a.s.now - l.k) (l.i + 1) ch st j)),
+          (rw l.invariant.4 at (c.frame.ensures (b + l.k) (length a.s.now - l.k) (l._i + 1) ch st j)),
     )
 
 pub returns : goal.returns
 returns c =
     let l = c.loop-i in
-    let h : l.i ≡ c.args.count = omega arith in
+    let h : l._i ≡ c.args.count = omega arith in
     λ b k ch hd f e st m e₁ e₂ e₃ q v. framing-end (l.invariant.5 b k ch hd f e st m e₁ e₂ e₃ q v) _ c.loop-i-test.false (l.invariant.1 ∙ ap (λ (n : ℕ). 16 + c.args.size * n) h) l.invariant.2 (rw l.invariant.4 at c.copy_run.ensures)

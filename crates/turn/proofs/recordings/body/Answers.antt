@@ -11,25 +11,15 @@ use Rattle.turn.proofs.recordings.body.Goals as goal
 pub loop-h-init : goal.loop-h-init
 loop-h-init c = (omega arith, search rules, refl, λ held h x e n m g. sent-none held h x e n g)
 
-pub returns-in_default : goal.returns-in_default
-returns-in_default c =
+pub returns : goal.returns
+returns c =
     let w = c.loop-h.invariant in
-    let v = unrecorded c.in_default.is c.record_at-there.ensures in
+    let v = unrecorded c.in_default.is c.record_at.ensures in
     λ held h x e n m g. sent-last _ (w.3 held h x e n m g) w.0 v c.last.ensures
-
-pub child-next-requires : goal.child-next-requires
-child-next-requires c =
-    let v = recorded c.in-Record.is c.record_at-there.ensures in
-    record { channels = search rules; headed = omega (arith, v.place, v.least); inside = v.inside; target = search rules }
-
-pub loop-h-smaller : goal.loop-h-smaller
-loop-h-smaller c =
-    let v = recorded c.in-Record.is c.record_at-there.ensures in
-    omega (arith, v.least, v.inside)
 
 pub loop-h-preserved : goal.loop-h-preserved
 loop-h-preserved c =
     let w = c.loop-h.invariant in
-    let v = recorded c.in-Record.is c.record_at-there.ensures in
+    let v = recorded c.in-Some.is c.record_at.ensures in
     let d = c.child-next.ensures in
     (v.inside, omega (arith, d.inside), search rules, λ held h x e n m g. sent-more _ (w.3 held h x e n m g) _ v (λ l stop i. d.wrote _ (known_of _ x) refl l stop m i))

@@ -1,12 +1,12 @@
 -- `turn::recordings::file_turned` meets its contract. The loop's invariant: the recordings that are passed stand in the buffer, behind the header.
--- The measure is how many recordings are left. Assumes nothing.
+-- Assumes nothing.
 use mathlib.Core.Path.{refl, sym, ◌∙◌}
 use mathlib.Core.Bool.{true}
 use native.Mathlib.Omega.{arith}
 use lib.ListN.{length}
 use lib.Seq.{length-take-le}
 use Rattle.children.specs.Children.{said}
-use Rattle.children.proofs.Again.{along-start, along-stop, along-fits, along-next, along-end}
+use Rattle.children.proofs.Again.{along-start, along-stop, along-next, along-end}
 use Rattle.bodies.specs.declared.Way.{Way}
 use Rattle.turn.proofs.Sent.{whole-file, sent-first, sent-next, sent-length, header-first}
 use Rattle.turn.proofs.recordings.file_turned.Goals as goal
@@ -15,9 +15,6 @@ use Rattle.turn.proofs.recordings.file_turned.Goals.{After-header}
 -- the way from order to order
 abbrev way : After-header → Way
 way c = record { from = c.args.o; label = c.args.label; to = c.other.result; keep = true }
-
-pub slice_bounds-header-end : goal.slice_bounds-header-end
-slice_bounds-header-end c = sym (length-take-le 32 c.args.file.now (omega arith))
 
 pub slice_bounds-header-end-3 : goal.slice_bounds-header-end-3
 slice_bounds-header-end-3 c = sym (length-take-le 32 c.args.out.now (omega arith))
@@ -31,21 +28,16 @@ loop-i-init c =
 
 pub returns-in_default : goal.returns-in_default
 returns-in_default c =
-    λ f ps e h g. along-stop c.loop-i.invariant.along c.loop-i-test.true _ c.recording_again-step.ensures c.in_default.is g
-
-pub recording-requires : goal.recording-requires
-recording-requires c =
-    let x = along-fits c.loop-i.invariant.along c.loop-i-test.true _ c.recording_again-step.ensures c.in-On.is in
-    record { on = x.start; inside = x.end; short = c.requires.headed.short; room = omega (arith, c.loop-i.invariant.room, c.loop-i.invariant.same); channels = x.channels }
+    λ f ps e h g. along-stop c.loop-i.invariant.along c.loop-i-test.true _ c.recording_again.ensures c.in_default.is g
 
 pub loop-i-preserved : goal.loop-i-preserved
 loop-i-preserved c =
     let i = c.loop-i.invariant in
-    let r = c.recording_again-step in
+    let r = c.recording_again in
     record {
       room = i.room;
       same = c.out-in-loop-i-1.given ∙ i.same;
-      along = along-next i.along c.loop-i-test.true _ r.ensures c.in-On.is (λ held done m x many n h. sent-next (way (goal.at.loop-i-preserved c).After-header) i.along.inside n m _ c.recording.ensures h);
+      along = along-next i.along c.loop-i-test.true _ r.ensures c.in-Ok.is (λ held done m x many n h. sent-next (way (goal.at.loop-i-preserved c).After-header) i.along.inside n m _ c.recording.ensures h);
     }
 
 pub returns : goal.returns

@@ -1,11 +1,7 @@
 -- `turn::recordings::last` meets its contract: the delimiter's head, and the bytes behind it.
 -- Assumes nothing.
-use native.Mathlib.Omega.{arith}
 use Rattle.bodies.proofs.Copying.{holds-join}
 use Rattle.turn.proofs.recordings.last.Goals as goal
-
-pub returns-then-s-p-lt-LENGTH : goal.returns-then-s-p-lt-LENGTH
-returns-then-s-p-lt-LENGTH c = λ fit b room. absurd (omega (arith, fit, c.if-s-p-lt-LENGTH.true))
 
 pub returns : goal.returns
 returns c =
