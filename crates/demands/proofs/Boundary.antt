@@ -53,7 +53,7 @@ use Rattle.turn.specs.Turn.{Turns}
 use Rattle.rewrite.specs.Rewrite as Rewrite
 use Rattle.rewrite.specs.Rewrite.{rewritten_in, Rewrites}
 use Rattle.room.specs.Room.{room_of}
-use Rattle.answers.specs.Flat.{counted_rows, counted_bytes, flat_heading, flat_facts, flat_channel, flat_item, flat_clock, flat_count, flat_place, flat_sample, flat_montage}
+use Rattle.answers.specs.Flat.{unheaded, flat_header, counted_rows, counted_bytes, flat_heading, flat_facts, flat_channel, flat_item, flat_clock, flat_count, flat_place, flat_sample, flat_montage}
 use Rattle.answers.specs.Flat.{flat_track}
 use Rattle.answers.specs.declared.Channel.{Channel}
 use Rattle.answers.specs.declared.Clock.{Clock}
@@ -304,15 +304,24 @@ ends-indexed (Err r) e = stops r refl e
 -- The calls, of every list of bytes
 
 module _ (s : List ℕ) (b : Bytes s) where
+  -- the rules' refusal has a reason's number
+  file-named : {n p : ℕ} → R.judge s ≡ refused n p → Named n
+  file-named {n} {p} h = (of-file s of_file 0 (λ n h. h) n p h).named
+
+  header-refused : {n p : ℕ} → R.judge s ≡ refused n p → flat_header s (R.judge s) ≡ refused_c (refusal_of n p)
+  header-refused {n} {p} h = rw h (ap (λ (k : ℕ). unheaded k p) (sym (file-named h)))
+
   pub judge-apart : (a : Header) → JudgeAnswers s a → TakenApart s (JudgedAs s) Err flat_judged of_file 0 a.refusal a.position a
   judge-apart a x = go (R.judge s) refl
     where
       told : (j : Result FileHeader Refusal) → JudgedAs s j → a ≡ flat_judged j → Kind Err a.refusal j → TakenApart s (JudgedAs s) Err flat_judged of_file 0 a.refusal a.position a
       told j m e k =
-          taken-apart s j m e (λ n p h. x ∙ rw h) (λ r i. ap (λ (y : Header). refusal_of y.refusal y.position) (e ∙ ap flat_judged i)) (λ r i. of-file s of_file 0 (λ n h. h) r (rw i at m)) k
+          taken-apart s j m e (λ n p h. x ∙ header-refused h)
+          (λ r i. let f = sym (e ∙ ap flat_judged i) in (ap (λ (y : Header). y.refusal) f, ap (λ (y : Header). y.position) f))
+          (λ r i. of-file s of_file 0 (λ n h. h) (number_of r.0) r.1 (rw i at m)) k
 
       go : (y : Outcome R.File) → R.judge s ≡ y → TakenApart s (JudgedAs s) Err flat_judged of_file 0 a.refusal a.position a
-      go (refused n p) e = told (Err (refusal_of n p)) e (x ∙ rw e) (is-refusal (refusal_of n p) refl)
+      go (refused n p) e = told (Err (refusal_of n p)) (e ∙ ap (λ (k : ℕ). refused k p) (sym (file-named e))) (x ∙ header-refused e) (is-refusal (refusal_of n p) refl)
       go (passed v l t) e =
           let h = e ∙ ap (λ (y : List ℕ). passed v y t) (nothing_left s b e) in
           told (Ok (header_judged s v)) (accepted-as h) (headed-by s x h) (is-value (ap (λ (y : Header). y.refusal) (headed-by s x h)))
@@ -381,13 +390,13 @@ module _ (s : List ℕ) (b : Bytes s) where
     where
       go : (j : Result FileHeader Refusal) → JudgedAs s j → a ≡ flat_judged j → (h : FileHeader) × AcceptedAs s h × (a ≡ header_c h)
       go (Ok h) m e = (h, m, e)
-      go (Err r) m e = let i : r.0 ≡ 0 = ap (λ (y : Header). y.refusal) (sym e) ∙ z in absurd (omega (arith, (of-file s of_file 0 (λ n h. h) r m).nonzero))
+      go (Err r) m e = let i : number_of r.0 ≡ 0 = ap (λ (y : Header). y.refusal) (sym e) ∙ z in absurd (omega (arith, (of-file s of_file 0 (λ n h. h) (number_of r.0) r.1 m).nonzero))
 
   pub boundary-judges : (a : Header) → JudgeAnswers s a → JudgesByRules header_c refused_c s a
   boundary-judges a x =
       let y = judge-apart a x in
-      record { accepts = λ v t h. headed-by s x h; refuses = λ n p h. x ∙ rw h; refused = as-refused y.told y.met y.same }
+      record { accepts = λ v t h. headed-by s x h; refuses = λ n p h. (file-named h, x ∙ header-refused h); refused = as-refused y.told y.met y.same }
     where
-      as-refused : (j : Result FileHeader Refusal) → JudgedAs s j → a ≡ flat_judged j → (n p : ℕ) → a ≡ refused_c (refusal_of n p) → R.judge s ≡ refused n p
-      as-refused (Ok k) m e n p i = let z : letter_of k.order ≡ 0 = ap (λ (y : Header). y.order) (sym e ∙ i) in absurd (omega (arith, letter-some k.order))
-      as-refused (Err r) m e n p i = m ∙ ap (λ (y : Header). refused y.refusal y.position) (sym e ∙ i)
+      as-refused : (j : Result FileHeader Refusal) → JudgedAs s j → a ≡ flat_judged j → (r : Refusal) → a ≡ refused_c r → R.judge s ≡ refused (number_of r.0) r.1
+      as-refused (Ok k) m e r i = let z : letter_of k.order ≡ 0 = ap (λ (y : Header). y.order) (sym e ∙ i) in absurd (omega (arith, letter-some k.order))
+      as-refused (Err q) m e r i = m ∙ ap (λ (y : Header). refused y.refusal y.position) (sym e ∙ i)

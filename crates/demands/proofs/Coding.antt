@@ -15,7 +15,7 @@ use Rattle.recordings.proofs.Chosen.{refusal-value}
 use Rattle.codes.specs.Codes.{kind_of, kind_told, KindAnswer}
 use Rattle.codes.specs.declared.EventKind.{EventKind}
 use Rattle.codes.proofs.Table.{kind-is}
-use Rattle.codes.proofs.Unique.{told, told_back}
+use Rattle.recordings.proofs.Answers.{meaning-one}
 use Rattle.answers.specs.Flat.{flat_kind}
 use Rattle.answers.specs.declared.Kind.{Kind}
 use Rattle.psg.specs.Calls.{KindAnswers}
@@ -28,7 +28,7 @@ kind-refuses c size n p h = go (leb c 65535) h
   where
     go : (b : Bool) → pick b (value (kind_of c)) outside ≡ refusal n p → Refuses of_code size 0 n p
     go true h = refusal-value (sym h)
-    go false h = out_of_range of_code size 0 (refusal_of n p) refl (cc) (cc)
+    go false h = out_of_range of_code size 0 n p refl (cc) (cc)
 
 pub kind-answered : (c size : ℕ) (a : Result EventKind Refusal) → KindAnswer c a → Answered Err of_code size 0 a
 kind-answered c size a x r i = kind-refuses c size (number_of r.0) r.1 (sym x ∙ ap meaning i)
@@ -56,8 +56,8 @@ kind-apart c a x = go (kind_told c) refl x
         let r = kind-refuses c 0 n p e in
         rw x (record {
           told = Err (refusal_of n p);
-          met = sym e;
-          same = refl;
+          met = ap (λ (k : ℕ). refusal k p) r.named ∙ sym e;
+          same = ap (λ (k : ℕ). flat_kind (refusal k p)) (sym r.named);
           answered = λ z _ _. omega (arith, r.nonzero);
           refused = λ _. refl;
           proper = λ _. r;
@@ -70,7 +70,10 @@ module _ {E : Type 0} (tell : Answer EventKind → E) (c : ℕ) {a : E} (x : a �
   kind-tells = record { kind = λ l. (kind_of c, kind-is c, x ∙ rw (le-leb c 65535 l)); outside = λ l. x ∙ rw (lt-leb c 65535 l) }
 
 pub kinds : (c : ℕ) (a : Result EventKind Refusal) → KindAnswer c a → KindTells Ok Err c a
-kinds c a x = kind-tells told c (sym (told_back a) ∙ ap told x)
+kinds c a x = record {
+  kind = λ l. (kind_of c, kind-is c, meaning-one a (Ok (kind_of c)) x (sym (rw (le-leb c 65535 l))));
+  outside = λ l. meaning-one a (Err (refusal_of 19 0)) x (sym (rw (lt-leb c 65535 l)));
+}
 
 pub boundary-kinds : (c : ℕ) (a : Kind) → KindAnswers c a → KindTells kind_c unkind_c c a
 boundary-kinds c a x = kind-tells flat_kind c x
