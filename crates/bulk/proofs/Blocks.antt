@@ -1,50 +1,39 @@
--- A block of bytes, loaded whole and stored whole in another order.
+-- A number that is turned, and words of eight bytes as the library reads and writes them.
 -- Assumes nothing.
-use mathlib.Core.Path.{◌≡◌, refl, sym, ap, ◌∙◌, subst}
-use mathlib.Core.List.{List, [], ◌∷◌, append-nil}
-use Prim.Native.Nat.{ℕ, zero, suc, ◌*◌, ◌≤◌, ◌<◌}
-use native.Mathlib.Nat.{suc_inj}
+use mathlib.Core.Path.{◌≡◌, sym, ap, ◌∙◌}
+use mathlib.Core.List.{List, [], reverse, append-nil}
+use Prim.Native.Nat.{ℕ, ◌*◌, ◌≤◌}
+use native.Mathlib.Nat.{div-div-eq-div-mul}
 use native.Mathlib.Omega.{arith}
-use lib.ListN.{length, get_or, take, drop}
-use lib.Seq.{sets, length-sets, take_all}
+use lib.ListN.{length, take}
+use lib.Seq.{take_all, length-take-le}
+use Rattle.std.specs.Int.{w64, from_le_bytes, to_le_bytes}
+use Rattle.words.specs.Numbers.{other, word, word_in, bytes_of, bytes_in, number_at, Bytes}
 use Rattle.words.specs.Runs.{turned}
-use Rattle.words.proofs.Fronts.{stored, Begun}
-use Rattle.bulk.specs.Runs.{Run}
+use Rattle.words.specs.declared.Order.TheVariants.{Little, Big}
+use Rattle.words.proofs.Words.{bytes_take, bytes_in-word_in}
+use Rattle.words.proofs.Runs.{bytes_in-other}
+use Rattle.words.proofs.Fours.{written_out}
+use Rattle.words.proofs.Fronts.{Begun}
 
--- the bytes of s at some places, and its first n bytes, written out
-abbrev pub picked : List ℕ → List ℕ → List ℕ
-picked [] s = []
-picked (k ∷ ks) s = get_or s k 0 ∷ picked ks s
+-- a number that is read in one order and written in the other is turned
+pub one-turned : (w : ℕ) (s : List ℕ) → length s ≡ 1 * w → Bytes s → bytes_in Big w (number_at Little w s 0) ≡ turned w 1 s
+unfolding number_at turned other
+one-turned w s h b =
+    let t = take w s in
+    let l : length t ≡ w = length-take-le w s (omega arith) in
+    let e : bytes_in Little w (word_in Little t) ≡ t =
+    ap (λ (n : ℕ). bytes_in Little n (word_in Little t)) (sym l) ∙ bytes_in-word_in Little t (bytes_take w s b) in
+    bytes_in-other Little w (word_in Little t) ∙ (ap reverse e ∙ sym (append-nil (reverse t)))
 
-abbrev pub listed : ℕ → List ℕ → List ℕ
-listed zero s = []
-listed (suc n) s = get_or s 0 0 ∷ listed n (drop 1 s)
+-- the library's reading of eight bytes, and its way to write them
+pub eight-read : (s : List ℕ) → length s ≡ 8 → from_le_bytes w64 s ≡ word s
+unfolding word
+eight-read s h = written_out 8 s (λ (t : List ℕ). from_le_bytes w64 t ≡ word t) h (omega arith)
 
-is-listed : (n : ℕ) (s : List ℕ) → length s ≡ n → s ≡ listed n s
-is-listed zero [] h = refl
-is-listed zero (x ∷ s) h = absurd (omega arith)
-is-listed (suc n) [] h = absurd (omega arith)
-is-listed (suc n) (x ∷ s) h = ap (λ (t : List ℕ). x ∷ t) (is-listed n s (suc_inj h))
-
--- what holds of the first n bytes of s, written out, holds of s
-pub written_out : (n : ℕ) (s : List ℕ) (P : List ℕ → Type 0) → length s ≡ n → P (listed n s) → P s
-written_out n s P h p = subst P (sym (is-listed n s h)) p
-
--- the place of a store is within the block after the stores vs before it
-pub next-store : (n : ℕ) (d vs : List ℕ) → length d ≡ n → length vs < n → length vs < length (sets d 0 vs)
-next-store n d vs e h = omega (arith, length-sets d 0 vs)
-
-length-picked : (ks s : List ℕ) → length (picked ks s) ≡ length ks
-length-picked [] s = refl
-length-picked (k ∷ ks) s = ap suc (length-picked ks s)
-
--- where the places ks turn the n numbers of every block that is written out, storing what stands there turns the block s
-pub block-turned :
-    {w n : ℕ} {s d : List ℕ} (ks : List ℕ) → Run w n s d → length ks ≡ n * w →
-    picked ks (listed (length ks) s) ≡ turned w n (listed (length ks) s) → sets d 0 (picked ks s) ≡ turned w n s
-block-turned {w} {n} {s} {d} ks r k e =
-    stored d (picked ks s) (r.room ∙ sym (length-picked ks s ∙ k))
-    ∙ written_out (length ks) s (λ (t : List ℕ). picked ks t ≡ turned w n t) (r.source ∙ sym k) e
+pub eight-written : (n : ℕ) → to_le_bytes w64 n ≡ bytes_of 8 n
+unfolding bytes_of
+eight-written n = simp div-div-eq-div-mul
 
 -- where nothing is left, all is written
 pub begun_all : {m : ℕ} {all d : List ℕ} {n : ℕ} → Begun m all d n [] → m ≤ n → d ≡ all

@@ -1,13 +1,12 @@
--- Loops that write a run front to back: copied, cleared, and turned, once over the width and the numbers of a step.
+-- Loops that turn a run front to back, once over the width and the numbers of a step.
 -- Assumes nothing.
 use mathlib.Core.Path.{◌≡◌, refl, sym, ap, ◌∙◌}
-use mathlib.Core.List.{List, [], ◌∷◌, ◌++◌}
+use mathlib.Core.List.{List, ◌++◌}
 use Prim.Native.Nat.{ℕ, ◌+◌, ◌-◌, ◌*◌, ◌<◌, ◌≤◌, zero-le}
 use native.Mathlib.Nat.{zero-mul, mul-le-mul_right, add-mul}
-use native.Mathlib.Numerals.{add-one}
 use native.Mathlib.Omega.{arith}
-use lib.ListN.{length, get_or, take, drop, set, replicate, length-append, length-take, length-drop, replicate-append-replicate}
-use lib.Seq.{drop-drop, drop_at, take-suc, take-suc-set, take_all, take-add, take-take, length-take-le}
+use lib.ListN.{length, take, drop, length-append, length-take, length-drop}
+use lib.Seq.{drop-drop, drop_at, take_all, take-add, take-take, length-take-le}
 use Rattle.words.specs.Runs.{turned}
 use Rattle.words.proofs.Runs.{turned-add, length-turned, turned-take}
 use Rattle.words.proofs.Fronts.{put, front-more}
@@ -16,16 +15,6 @@ use Rattle.bulk.specs.Runs.{Run}
 -- a loop that has come to the end has written all of d
 pub all_done : (d xs : List ℕ) (at : ℕ) → take at d ≡ xs → length d ≤ at → d ≡ xs
 all_done d xs at e h = sym (take_all at d h) ∙ e
-
--- one byte more, behind the first i: copied and cleared
-stored_more : (d xs : List ℕ) (i v : ℕ) → i < length d → take i d ≡ xs → take (i + 1) (set d i v) ≡ xs ++ (v ∷ [])
-stored_more d xs i v h e = rw add-one (take-suc-set d i v h ∙ ap (λ (x : List ℕ). x ++ (v ∷ [])) e)
-
-pub copied_more : (d s : List ℕ) (i : ℕ) → i < length s → i < length d → take i d ≡ take i s → take (i + 1) (set d i (get_or s i 0)) ≡ take (i + 1) s
-copied_more d s i hs hd e = stored_more d (take i s) i (get_or s i 0) hd e ∙ rw (add-one, take-suc s i 0 hs)
-
-pub cleared_more : (d : List ℕ) (i : ℕ) → i < length d → take i d ≡ replicate i 0 → take (i + 1) (set d i 0) ≡ replicate (i + 1) 0
-cleared_more d i h e = stored_more d (replicate i 0) i 0 h e ∙ replicate-append-replicate i 1 0
 
 -- the first i of n numbers of s are turned, and stand in front in d
 pub record Turning (w n : ℕ) (s d : List ℕ) (i at : ℕ) : Type 0 where
@@ -87,6 +76,15 @@ turning-more {w} {n} {s} {i = i} {at} k e t l he hy =
     let f : i * w + k * w ≤ n * w = rw add-mul at (mul-le-mul_right w l) in
     turning-by k e t l he (hy ∙ turned-first w k (e - at) (drop at s) (omega arith) (simp length-drop (omega arith)))
 
+-- one number
+pub turning-one :
+    {w n : ℕ} {s d : List ℕ} {i : ℕ} {ys : List ℕ} →
+    Turning w n s d i (i * w) → i < n → ys ≡ turned w 1 (take (i * w + w - i * w) (drop (i * w) s)) →
+    Turning w n s (put (i * w) (i * w + w - i * w) d ys) (i + 1) ((i + 1) * w)
+turning-one {w} {i = i} t l hy =
+    let e : (i + 1) * w ≡ i * w + w = rw add-mul (omega arith) in
+    rw e (turning-more 1 (i * w + w) t (omega arith) (omega arith) hy)
+
 -- or with p bytes before them and q behind them
 pub turning-within :
     {w n : ℕ} {s d : List ℕ} {i at : ℕ} {ys : List ℕ} (k p q e : ℕ) →
@@ -99,9 +97,8 @@ turning-within {w} {s = s} {at = at} k p q e t l he hp hq hy =
 
 -- and all the others
 pub turning-rest :
-    {w n : ℕ} {s d : List ℕ} {i at : ℕ} {ys : List ℕ} →
-    Turning w n s d i at → ys ≡ turned w (n - i) (take (length s - at) (drop at s)) → put at (length d - at) d ys ≡ turned w n s
-turning-rest {w} {n} {s} {d} {i} {at} t hy =
-    let l : i + (n - i) ≡ n = omega arith in
-    let e : length s ≡ at + (n - i) * w = t.run.source ∙ (ap (λ (x : ℕ). x * w) (sym l) ∙ (add-mul i (n - i) w ∙ ap (λ (x : ℕ). x + (n - i) * w) (sym t.place))) in
-    rw (t.run.room ∙ sym t.run.source) (turning-all (turning-more (n - i) (length s) t (omega arith) e hy) (omega arith))
+    {w n : ℕ} {s d : List ℕ} {i at : ℕ} {ys : List ℕ} (k : ℕ) →
+    Turning w n s d i at → i + k ≡ n → ys ≡ turned w k (take (length s - at) (drop at s)) → put at (length d - at) d ys ≡ turned w n s
+turning-rest {w} {n} {s} {d} {i} {at} k t l hy =
+    let e : length s ≡ at + k * w = t.run.source ∙ (ap (λ (x : ℕ). x * w) (sym l) ∙ (add-mul i k w ∙ ap (λ (x : ℕ). x + k * w) (sym t.place))) in
+    rw (t.run.room ∙ sym t.run.source) (turning-all (turning-more k (length s) t (omega arith) e hy) (omega arith))

@@ -11,7 +11,7 @@ use Rattle.words.specs.Numbers.{word, bytes_of, Bytes}
 use Rattle.words.specs.Runs.{turned}
 use Rattle.words.proofs.Words.{bytes_take, bytes_drop, bytes_of-word}
 use Rattle.bulk.specs.Masks.{masked, woven_word}
-use Rattle.bulk.proofs.Blocks.{written_out}
+use Rattle.words.proofs.Fours.{written_out}
 
 -- one of three numbers, and one of three bytes at each place of three lists
 abbrev pub pick : ℕ → ℕ → ℕ → ℕ → ℕ

@@ -1,13 +1,8 @@
 -- Words of eight bytes, put together from three, each under a mask.
 -- Assumes nothing.
-use Rattle.std.specs.Prelude.{◌≡◌, List, ℕ, ◌<◌, take, drop}
+use Rattle.std.specs.Prelude.{List, ℕ, take, drop}
 use Rattle.std.specs.Int.Bits.{bit_and, bit_or}
 use Rattle.words.specs.Numbers.{word}
-
--- a byte, and the same number with more bits
-pub record Widened (x r : ℕ) : Type 0 where
-  pub same : r ≡ x
-  pub small : r < 256
 
 -- what x has under the mask a, y under b and z under c
 abbrev pub masked : ℕ → ℕ → ℕ → ℕ → ℕ → ℕ → ℕ

@@ -3,15 +3,10 @@
 use mathlib.Core.Path.{◌≡◌, refl, sym, ap, ◌∙◌}
 use mathlib.Core.List.{List, [], ◌∷◌, ◌++◌, append_assoc, append-nil}
 use Prim.Native.Nat.{ℕ, ◌+◌, ◌-◌, ◌≤◌, ◌<◌}
-use native.Mathlib.Nat.{zero-add}
 use native.Mathlib.Omega.{arith}
-use lib.ListN.{length, take, drop, set, length-append, length-drop, drop_of_length-le}
-use lib.Seq.{sets, sets-eq, take_all, take_at, length-take-le}
+use lib.ListN.{length, take, drop, set, length-append, length-drop}
+use lib.Seq.{take_all, take_at, length-take-le}
 use Rattle.words.proofs.Runs.{part-pasted, set-pasted}
-
--- stores of a whole block leave nothing of what was there
-pub stored : (d vs : List ℕ) → length d ≡ length vs → sets d 0 vs ≡ vs
-stored d vs h = sets-eq vs d 0 (omega arith) ∙ rw (zero-add, drop_of_length-le d {i = length vs} (omega arith)) (append-nil vs)
 
 -- a buffer with ys in the place of its m bytes from n on
 abbrev pub put : ℕ → ℕ → List ℕ → List ℕ → List ℕ

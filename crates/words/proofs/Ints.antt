@@ -1,7 +1,7 @@
 -- Signed values as an i32 holds them.
 -- Assumes nothing.
 use mathlib.Core.Path.{◌≡◌, refl, sym, ap, ◌∙◌}
-use Prim.Native.Nat.{ℕ, zero, suc, ◌+◌, ◌-◌, ◌^◌, ◌≤◌, ◌<◌}
+use Prim.Native.Nat.{ℕ, zero, suc, ◌+◌, ◌-◌, ◌*◌, ◌%◌, ◌^◌, ◌≤◌, ◌<◌}
 use native.Mathlib.Omega.{arith}
 use lib.IntN.{ℤ, pos, negsuc, ◌-ℤ◌}
 use lib.Signed.{mag}
@@ -26,11 +26,27 @@ minus_one k h = rw (to_z_pos w32 h) (minus k)
 pub minus-fits : (k : ℕ) → k < 2 ^ 31 → SFits w32 (negsuc 0 -ℤ to_z w32 k)
 minus-fits k h = rw (minus_one k h) (record { sfits = h })
 
--- a word below half of the words is its own value; one above is -1 less what is left of the words
-pub held-pos : (w h n : ℕ) → word_count w ≡ h + h → n < h → n < 2 ^ 31 → to_z w32 n ≡ signed w n
-held-pos w h n e l k = to_z_pos w32 k ∙ sym (signed-pos w n (omega arith))
+-- h is the first negative word of w bytes
+pub record Halved (w h : ℕ) : Type 0 where
+  pub double : word_count w ≡ h + h
+  pub fits : h ≤ 2147483648
 
-pub held-neg : (w h n k : ℕ) → word_count w ≡ h + h → h ≤ n → k ≡ h + h - 1 - n → k < 2 ^ 31 → to_z w32 (of_z w32 (negsuc 0 -ℤ to_z w32 k)) ≡ signed w n
-held-neg w h n k e l q f =
-    let d : k ≡ word_count w - 1 - n = omega arith in
-    to_z-of_z (minus-fits k f) ∙ minus_one k f ∙ ap negsuc d ∙ sym (signed-neg w n (omega arith))
+-- as the code computes it
+pub halved : (w : ℕ) → (0 < w) × (w ≤ 4) → Halved w (1 * 2 ^ (8 * w - 1) % 4294967296)
+halved zero f = absurd (omega arith)
+halved (suc zero) f = record { double = refl; fits = omega arith }
+halved (suc (suc zero)) f = record { double = refl; fits = omega arith }
+halved (suc (suc (suc zero))) f = record { double = refl; fits = omega arith }
+halved (suc (suc (suc (suc zero)))) f = record { double = refl; fits = omega arith }
+halved (suc (suc (suc (suc (suc w))))) f = absurd (omega arith)
+
+-- a word below it is its own value; one above is -1 less what is left of the words
+pub held-pos : {w h n : ℕ} → Halved w h → n < h → to_z w32 n ≡ signed w n
+held-pos {w} {h} {n} f l = let k : n < 2 ^ 31 = omega (arith, f.fits) in to_z_pos w32 k ∙ sym (signed-pos w n (omega (arith, f.double)))
+
+pub held-neg : {w h n : ℕ} → Halved w h → h ≤ n → n < word_count w → to_z w32 (of_z w32 (negsuc 0 -ℤ to_z w32 (h - 1 - (n - h)))) ≡ signed w n
+held-neg {w} {h} {n} f l b =
+    let k = h - 1 - (n - h) in
+    let s : k < 2 ^ 31 = omega (arith, f.double, f.fits) in
+    let d : k ≡ word_count w - 1 - n = omega (arith, f.double) in
+    to_z-of_z (minus-fits k s) ∙ minus_one k s ∙ ap negsuc d ∙ sym (signed-neg w n (omega (arith, f.double)))

@@ -13,7 +13,7 @@ use Rattle.words.specs.Joins.{join}
 use Rattle.words.specs.declared.Order.{Order}
 use Rattle.words.specs.declared.Order.TheVariants.{Little, Big}
 
-word-append : (r : List ℕ) (x : ℕ) → word (r ++ (x ∷ [])) ≡ x * 256 ^ length r + word r
+pub word-append : (r : List ℕ) (x : ℕ) → word (r ++ (x ∷ [])) ≡ x * 256 ^ length r + word r
 unfolding word
 word-append [] x = rw pow-zero (omega arith)
 word-append (y ∷ r) x = rw (word-append r x, pow-suc, ← mul_assoc) (omega arith)
@@ -32,9 +32,3 @@ number_step Big w s at h =
     let k : at < length s = omega arith in
     let r : w ≤ length (drop (suc at) s) = simp length-drop (omega arith) in
     rw (add-one, drop-cons s at 0 k, reverse_aux-eq (take w (drop (suc at) s)) (get_or s at 0 ∷ []), word-append, length-reverse, length-take-le w (drop (suc at) s) r)
-
--- as a reader of w + 1 bytes cites it: x is the first byte, y the number of the w after it, r the two joined
-pub number_more :
-    (w : ℕ) (o : Order) (s : List ℕ) (at x y r : ℕ) →
-    at + suc w ≤ length s → x ≡ get_or s at 0 → y ≡ number_at o w s (at + 1) → r ≡ join o (256 ^ w) x y → r ≡ number_at o (suc w) s at
-number_more w o s at x y r h p q e = rw (number_step o w s at h, ← p, ← q) e

@@ -1,5 +1,6 @@
 pub mod Words
 pub mod Joins
+pub mod Fours
 pub mod Values
 pub mod Ints
 pub mod Floats

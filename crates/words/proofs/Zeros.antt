@@ -2,16 +2,23 @@
 -- Assumes nothing.
 use mathlib.Core.Path.{◌≡◌, refl, sym, ap, ◌∙◌}
 use mathlib.Core.List.{List, [], ◌∷◌, ◌++◌}
-use Prim.Native.Nat.{ℕ, zero, suc, ◌+◌, ◌<◌, ◌≤◌, zero-le}
+use Prim.Native.Nat.{ℕ, zero, suc, ◌+◌, ◌-◌, ◌*◌, ◌/◌, ◌<◌, ◌≤◌, zero-le}
 use native.Mathlib.Nat.{zero-add}
 use native.Mathlib.Numerals.{add-one}
 use native.Mathlib.Omega.{arith}
-use lib.ListN.{length, get_or, take, drop, replicate, length-drop, take-append-drop, drop_of_length-le}
-use lib.Seq.{drop-cons, drop-drop, length-take-le}
+use lib.ListN.{length, get_or, take, drop, replicate, length-drop, take-append-drop}
+use lib.Seq.{drop-drop, take_all, length-take-le}
 use borrow.Author.Tests.{eq-eqb, ne_eqb}
-use Rattle.words.specs.Numbers.{ordered, word, word_in, number_at}
+use Rattle.std.specs.Prelude.{Option}
+use Rattle.std.specs.Prelude.{None, Some}
+use Rattle.std.specs.Int.{w32, from_le_bytes}
+use Rattle.std.specs.Simd.{first_chunks}
+use Rattle.words.proofs.Fours.{four-little}
+use Rattle.std.specs.Option.{MatchOption, unwrap_or}
+use Rattle.std.specs.List.{AllWithin, HoldsAt}
+use Rattle.std.proofs.lemmas.Iterator.{index_from_first}
+use Rattle.words.specs.Numbers.{word}
 use Rattle.words.specs.Runs.{first_nonzero, Zeros}
-use Rattle.words.specs.declared.Order.TheVariants.{Little}
 
 first-cons-zero : (b : ℕ) (s : List ℕ) → b ≡ 0 → first_nonzero (b ∷ s) ≡ suc (first_nonzero s)
 unfolding first_nonzero
@@ -31,26 +38,49 @@ first_word (b ∷ bs) t h = first-cons-zero b (bs ++ t) (omega arith) ∙ rw (fi
 pub zeros-none : (s : List ℕ) → Zeros s 0
 zeros-none s = record { within = zero-le; passed = sym (zero-add _) }
 
-pub zeros-more : (w : ℕ) (s : List ℕ) (i : ℕ) → i + w ≤ length s → Zeros s i → number_at Little w s i ≡ 0 → Zeros s (i + w)
-unfolding number_at word_in ordered
-zeros-more w s i h z e =
-    let l : length (take w (drop i s)) ≡ w = length-take-le w (drop i s) (simp length-drop (omega arith)) in
-    let p : first_nonzero (drop i s) ≡ w + first_nonzero (drop (i + w) s) =
-    ap first_nonzero (sym (take-append-drop w (drop i s))) ∙ first_word (take w (drop i s)) (drop w (drop i s)) e ∙ rw (l, drop-drop) in
-    record { within = h; passed = omega (arith, z.passed) }
+-- four bytes whose number is 0 are passed, and i bytes behind them
+zeros-four : (s : List ℕ) (i : ℕ) → 4 ≤ length s → from_le_bytes w32 (take 4 s) ≡ 0 → Zeros (drop 4 s) i → Zeros s (4 + i)
+zeros-four s i h n z =
+    let l : length (take 4 s) ≡ 4 = length-take-le 4 s h in
+    let p : first_nonzero s ≡ 4 + first_nonzero (drop 4 s) =
+    ap first_nonzero (sym (take-append-drop 4 s)) ∙ first_word (take 4 s) (drop 4 s) (sym (four-little (take 4 s) l) ∙ n) ∙ rw l in
+    let q : first_nonzero (drop i (drop 4 s)) ≡ first_nonzero (drop (4 + i) s) = rw drop-drop in
+    record { within = omega (arith, z.within, length-drop 4 s); passed = omega (arith, p, q, z.passed) }
 
-pub zeros-byte : (s : List ℕ) (i : ℕ) → i < length s → Zeros s i → get_or s i 0 ≡ 0 → Zeros s (i + 1)
-zeros-byte s i h z e = record { within = omega arith; passed = omega (arith, z.passed, p) }
-  where
-    p : first_nonzero (drop i s) ≡ 1 + first_nonzero (drop (i + 1) s)
-    p = rw (drop-cons s i 0 h, add-one) (first-cons-zero (get_or s i 0) (drop (suc i) s) e ∙ omega arith)
+-- so are the first k of m fours
+zeros-fours : (k m : ℕ) (s : List ℕ) → k ≤ m → m * 4 ≤ length s →
+    AllWithin (λ x. from_le_bytes w32 x ≡ 0) (first_chunks 4 m s) 0 k → Zeros s (4 * k)
+zeros-fours zero m s l h a = zeros-none s
+zeros-fours (suc k) zero s l h a = absurd (omega arith)
+zeros-fours (suc k) (suc m) s l h a =
+    let e : 4 * suc k ≡ 4 + 4 * k = omega arith in
+    let f : m * 4 ≤ length (drop 4 s) = rw length-drop (omega arith) in
+    let t = zeros-fours k m (drop 4 s) (omega arith) f (λ j d x y. a (suc j) d zero-le (omega arith)) in
+    rw e (zeros-four s (4 * k) (omega arith) (a 0 [] zero-le (omega arith)) t)
 
-pub zeros-found : (s : List ℕ) (i : ℕ) → i < length s → Zeros s i → (get_or s i 0 ≡ 0 → ⊥) → i ≡ first_nonzero s
-zeros-found s i h z e = omega (arith, z.passed, ap first_nonzero (drop-cons s i 0 h) ∙ first-cons-other (get_or s i 0) (drop (suc i) s) e)
+-- what a search answers for the first of xs whose number v is not 0
+abbrev pub Found : {X : Type 0} → (X → ℕ) → List X → Option ℕ → Type 0
+Found v xs r =
+    MatchOption r (AllWithin (λ x. v x ≡ 0) xs 0 (length xs))
+    (λ j. (j < length xs) × HoldsAt (λ x. v x ≡ 0 → ⊥) xs j × AllWithin (λ x. v x ≡ 0) xs 0 j)
 
-pub zeros-all : (s : List ℕ) (i : ℕ) → Zeros s i → length s ≤ i → i ≡ first_nonzero s
+-- the fours before the first that is not 0
+pub zeros-passed : (s : List ℕ) (k : ℕ) (r : Option ℕ) → let fours = first_chunks 4 (length s / 4) s in
+    Found (from_le_bytes w32) fours r → length fours ≡ length s / 4 → k ≡ unwrap_or r (length fours) → Zeros s (4 * k)
+zeros-passed s k None a l e = rw (e, l) (zeros-fours (length s / 4) (length s / 4) s (omega arith) (omega arith) (rw l at a))
+zeros-passed s k (Some j) a l e = rw e (zeros-fours j (length s / 4) s (omega (arith, a.0)) (omega arith) a.2)
+
+-- and the first byte that is not 0 of the rest behind them
+pub zeros-rest : (s : List ℕ) (i k : ℕ) (r : Option ℕ) → let t = take (length s - i) (drop i s) in
+    Zeros s i → Found (λ x. x) t r → k ≡ unwrap_or r (length t) → i + k ≡ first_nonzero s
 unfolding first_nonzero
-zeros-all s i z h = omega (arith, rw (drop_of_length-le s h) at z.passed)
+zeros-rest s i k r z h e =
+    let t = take (length s - i) (drop i s) in
+    let all : t ≡ drop i s = take_all (length s - i) (drop i s) (rw length-drop (omega arith)) in
+    let none = λ (x : ℕ) (xs : List ℕ) (n : x ≡ 0). first-cons-zero x xs n ∙ sym (add-one _) in
+    let first : first_nonzero t ≡ unwrap_or r (length t) =
+    index_from_first first_nonzero (λ x. x ≡ 0 → ⊥) (λ x. x ≡ 0) refl (λ x xs n. first-cons-other x xs n) none t r h in
+    omega (arith, z.passed, ap first_nonzero all, first, e)
 
 -- what the first byte that is not 0 means
 pub first-le : (s : List ℕ) → first_nonzero s ≤ length s

@@ -1,6 +1,6 @@
 -- A number of one byte more.
 -- Assumes nothing.
-use Rattle.std.specs.Prelude.{ℕ, ◌+◌, ◌*◌, ◌≤◌, ◌<◌}
+use Rattle.std.specs.Prelude.{ℕ, ◌+◌, ◌*◌}
 use Rattle.words.specs.declared.Order.{Order}
 use Rattle.words.specs.declared.Order.TheVariants.{Little, Big}
 
@@ -8,12 +8,3 @@ use Rattle.words.specs.declared.Order.TheVariants.{Little, Big}
 abbrev pub join : Order → ℕ → ℕ → ℕ → ℕ
 join Little place first rest = first + rest * 256
 join Big place first rest = first * place + rest
-
--- what the code asks of the three
-pub record Joinable (place first rest : ℕ) : Type 0 where
-  -- the first is a byte
-  pub byte : first < 256
-  -- the rest is below the place
-  pub below : rest < place
-  -- what is joined fits 32 bits
-  pub fits : place ≤ 16777216

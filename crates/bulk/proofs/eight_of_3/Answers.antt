@@ -5,4 +5,4 @@ use Rattle.bulk.proofs.eight_of_3.Goals as goal
 
 pub returns : goal.returns
 returns c =
-    c.put_words.ensures ∙ c.turned_words-w.ensures
+    c.put_words.ensures ∙ c.turned_words.ensures

@@ -1,23 +1,19 @@
--- `words::first_nonzero` meets its contract: i zeros are passed.
+-- `words::first_nonzero` meets its contract: the zeros that are passed, and the first that is none behind them.
 -- Assumes nothing.
-use native.Mathlib.Omega.{arith}
-use Rattle.words.proofs.Zeros.{zeros-byte, zeros-found, zeros-all}
+use mathlib.Core.Path.{◌≡◌}
+use Prim.Native.Nat.{◌-◌}
+use borrow.Author.Tests.{tests}
+use borrow.Author.Rules.{rules}
+use lib.ListN.{length, take, drop}
+use Rattle.std.proofs.lemmas.Iterator.{IsFirst-from_position, YieldsList-from_slice}
+use Rattle.words.proofs.Zeros.{zeros-rest}
 use Rattle.words.proofs.first_nonzero.Goals as goal
-
-pub loop-i-init : goal.loop-i-init
-loop-i-init c = c.zero_words-i.ensures
-
-pub returns-then-s-i-ne0 : goal.returns-then-s-i-ne0
-returns-then-s-i-ne0 c =
-    let l = c.loop-i in
-    zeros-found _ l.i (omega arith) l.invariant c.if-s-i-ne0.true
-
-pub loop-i-preserved : goal.loop-i-preserved
-loop-i-preserved c =
-    let l = c.loop-i in
-    zeros-byte _ l.i (omega arith) l.invariant c.if-s-i-ne0.false
 
 pub returns : goal.returns
 returns c =
-    let l = c.loop-i in
-    zeros-all _ l.i l.invariant (omega arith)
+    let s = c.args.s.now in
+    let i = c.zero_fours-passed.result in
+    let chain = YieldsList-from_slice (take (length s - i) (drop i s)) c.iter.ensures.rest in
+    let ran = c.position.ensures.ran in
+    let first = IsFirst-from_position _ _ _ (λ x. x ≡ 0 → ⊥) (λ x. x ≡ 0) ran chain (λ x q k. search (rules, tests)) (λ x q k. search (rules, tests)) in
+    zeros-rest s i _ _ c.zero_fours-passed.ensures first c.unwrap_or.ensures
