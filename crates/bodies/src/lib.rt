@@ -15,7 +15,7 @@ ghost use Rattle.bodies.specs.Asks.{Both, AtLeast, OneWidth, SamplesPart, FrameP
 use crate::runs::{numbers, reserved};
 use bulk::copy_run;
 use rules::{Basic, Channel, Channels, Frame, Frames, Head, Item, Items, Label, Shape};
-use words::{Order, number4};
+use words::{Order, number};
 
 // From the file's order to another or the same, in a file with this label; `keep`: reserve areas stand as they are, else they are zero.
 #[derive(Clone, Copy)]
@@ -189,7 +189,7 @@ fn item(w: Way, s: &[u8], p: usize, d: &mut [u8]) -> usize
     if left < Item::LEAST {
         return p;
     }
-    let size = number4(w.from, s, p) as usize;
+    let size = number::<4>(w.from, s, p) as usize;
     if size < Item::LEAST {
         return p;
     }
@@ -210,7 +210,7 @@ pub fn items_body(w: Way, s: &[u8], d: &mut [u8])
         see w.from b s.now b (R.items_body ok (16 + length s.now)) ≡ goes l e →
         d.new ≡ copy w b s.now b (R.items_body ok (16 + length s.now)) }
 {
-    let count = number4(w.from, s, Items::BODY_COUNT);
+    let count = number::<4>(w.from, s, Items::BODY_COUNT);
     let reserve = Items::BODY_RESERVE;
     let mut p = Items::BODY_FIRST;
     numbers(
@@ -235,9 +235,9 @@ fn channel_samples(w: Way, file: &[u8], q: usize, t: u32, s: &[u8], p: usize, d:
         (d.new ≡ pasted d.old p (copy w b s.now (b + p) (R.number_list (R.width c.format) (R.samples_in t c))))) }
 {
     let o = w.from;
-    let flags = number4(o, file, q + Channel::FLAGS);
-    let format = number4(o, file, q + Channel::FORMAT);
-    let rate = number4(o, file, q + Channel::RATE);
+    let flags = number::<4>(o, file, q + Channel::FLAGS);
+    let format = number::<4>(o, file, q + Channel::FORMAT);
+    let rate = number::<4>(o, file, q + Channel::RATE);
     let width = records::channels::width(format);
     let n = records::channels::samples_in(t, flags, rate);
     let bytes = n * width;
@@ -258,9 +258,9 @@ pub fn widths_of(o: Order, file: &[u8], cs: Channels) -> Option<usize>
         return None;
     }
     let mut sub = cs.subs;
-    let width = records::channels::width(number4(o, file, sub + Channel::FORMAT));
+    let width = records::channels::width(number::<4>(o, file, sub + Channel::FORMAT));
     for _i in 0..cs.count {
-        if records::channels::width(number4(o, file, sub + Channel::FORMAT)) != width {
+        if records::channels::width(number::<4>(o, file, sub + Channel::FORMAT)) != width {
             return None;
         }
         sub += Channel::LENGTH;

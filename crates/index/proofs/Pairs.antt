@@ -17,7 +17,7 @@ use Rattle.words.specs.declared.Order.TheVariants.{Little, Big}
 use Rattle.words.proofs.Joins.{number-1, number_step}
 use Rattle.words.proofs.Words.{bytes_take, bytes_drop}
 use Rattle.walk.proofs.Seen.{part-number}
-use Rattle.bulk.proofs.Blocks.{written_out}
+use Rattle.words.proofs.Fours.{written_out}
 use Rattle.index.specs.Listing.{pair_of, Same}
 
 -- a byte of a list of bytes

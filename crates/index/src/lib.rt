@@ -18,7 +18,7 @@ use judge::recording::recording_again;
 use records::channels::{sample_bytes, samples_in, width};
 use rules::{Channel, Channels, FileHeader, Frame, Frames, Label, Reason, Refusal};
 use samples::{Place, part};
-use words::{Order, number2, number4};
+use words::{Order, number};
 
 // A channel in a frame of a recording, each from 1.
 #[derive(Clone, Copy)]
@@ -119,7 +119,7 @@ fn repeated(o: Order, s: &[u8], n: usize, p: usize, code: u32) -> usize
 {
     let start = same_eights(s, n, p, pair_of(o, code));
     for i in start..n {
-        if number2(o, s, 2 * i) != code {
+        if number::<2>(o, s, 2 * i) != code {
             return i;
         }
     }
@@ -145,7 +145,7 @@ fn sample_entries(
     let mut code = before;
     let mut p = repeated(o, s, n, 0, code);
     while p < n {
-        code = number2(o, s, 2 * p);
+        code = number::<2>(o, s, 2 * p);
         next = changed(out, next, write, spot, p, code);
         p = repeated(o, s, n, p + 1, code);
     }
@@ -157,10 +157,10 @@ fn events_at(o: Order, s: &[u8], p: usize) -> bool
     requires { p + 256 ≤ length s.now }
     ensures { result ≡ events_at o s.now p }
 {
-    if number4(o, s, p + Channel::TYPE) != Channel::EVENTS {
+    if number::<4>(o, s, p + Channel::TYPE) != Channel::EVENTS {
         return false;
     }
-    number4(o, s, p + Channel::FORMAT) == Channel::SHORTS
+    number::<4>(o, s, p + Channel::FORMAT) == Channel::SHORTS
 }
 
 // The first channel of events, from 0, of the m whose subs stand from byte `subs` on; m where there is none.
@@ -197,7 +197,7 @@ fn code_before(o: Order, s: &[u8], frame: u32, at: usize, n: usize, size: usize)
     if frame == 1 {
         return 0;
     }
-    number2(o, s, at - size + 2 * (n - 1))
+    number::<2>(o, s, at - size + 2 * (n - 1))
 }
 
 // The entries of channel c, from 0, whose samples in a frame stand at byte `at`.
@@ -216,9 +216,9 @@ fn channel_entries(
     ensures { ChannelListed file.now spot c at write out.old out.new k result }
 {
     let p = q.channels + Channels::SUBS + Channel::LENGTH * c as usize;
-    let flags = number4(o, file, p + Channel::FLAGS);
-    let format = number4(o, file, p + Channel::FORMAT);
-    let rate = number4(o, file, p + Channel::RATE);
+    let flags = number::<4>(o, file, p + Channel::FLAGS);
+    let format = number::<4>(o, file, p + Channel::FORMAT);
+    let rate = number::<4>(o, file, p + Channel::RATE);
     let n = samples_in(q.seconds, flags, rate);
     let wide = width(format);
     let end = at + wide * n;

@@ -7,7 +7,7 @@ use descriptions::{Described, Places, channels_of, judge_descriptions};
 use records::kinds::open;
 use rules::{Frames, Head, Kind, Label, Reason, Refusal};
 use signals::signals;
-use words::{Order, number4};
+use words::{Order, number};
 
 // The places of the recording at `at`, whose body has n bytes and these descriptions: its frames are so long, and of so many seconds.
 fn places_for(at: usize, n: usize, t: Described, frame: usize, seconds: u32) -> Places
@@ -98,8 +98,8 @@ fn body_again(
     if s.len() < p + Frames::FIRST {
         return Err(Refusal(Reason::Length, place));
     }
-    let seconds = number4(o, s, p + Frames::SECONDS);
-    let frame = number4(o, s, p + Frames::FRAME_LENGTH) as usize;
+    let seconds = number::<4>(o, s, p + Frames::SECONDS);
+    let frame = number::<4>(o, s, p + Frames::FRAME_LENGTH) as usize;
     Ok(places_for(at, s.len(), t, frame, seconds))
 }
 

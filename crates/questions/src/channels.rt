@@ -5,7 +5,7 @@ ghost use Rattle.questions.specs.Holding.{MontageInside, montage_channels};
 
 use descriptions::Places;
 use rules::{Channel, Channels, Electrode, Head};
-use words::{Order, int4, is_nan, number4};
+use words::{Order, int, is_nan, number};
 
 // A text of the file: its first byte, and how many bytes it has.
 #[derive(Clone, Copy)]
@@ -86,17 +86,17 @@ fn calibration_at(o: Order, s: &[u8], p: usize, format: u32) -> Calibration
 {
     if format == Channel::FLOATS {
         return floats_of(
-            number4(o, s, p + Channel::CAL),
-            number4(o, s, p + Channel::CAL_AD),
-            number4(o, s, p + Channel::OFFSET_AD),
-            number4(o, s, p + Channel::OFFSET_CAL),
+            number::<4>(o, s, p + Channel::CAL),
+            number::<4>(o, s, p + Channel::CAL_AD),
+            number::<4>(o, s, p + Channel::OFFSET_AD),
+            number::<4>(o, s, p + Channel::OFFSET_CAL),
         );
     }
     Calibration::Numbers(
-        int4(o, s, p + Channel::CAL),
-        int4(o, s, p + Channel::CAL_AD),
-        int4(o, s, p + Channel::OFFSET_AD),
-        int4(o, s, p + Channel::OFFSET_CAL),
+        int::<4>(o, s, p + Channel::CAL),
+        int::<4>(o, s, p + Channel::CAL_AD),
+        int::<4>(o, s, p + Channel::OFFSET_AD),
+        int::<4>(o, s, p + Channel::OFFSET_CAL),
     )
 }
 
@@ -105,10 +105,10 @@ fn field_if(o: Order, s: &[u8], p: usize, offset: usize) -> i32
     requires { FieldOf p offset (length s.now) }
     ensures { result ≡ field_in o s.now p offset }
 {
-    if number4(o, s, p + Head::CODE) == Electrode::CODE {
+    if number::<4>(o, s, p + Head::CODE) == Electrode::CODE {
         return 0;
     }
-    int4(o, s, p + offset)
+    int::<4>(o, s, p + offset)
 }
 
 // What the sub at byte p of s says.
@@ -116,17 +116,17 @@ pub fn descriptor_at(o: Order, s: &[u8], p: usize) -> Descriptor
     requires { p + 256 ≤ length s.now }
     ensures { DescriptorAt o s.now p result }
 {
-    let calibration = calibration_at(o, s, p, number4(o, s, p + Channel::FORMAT));
+    let calibration = calibration_at(o, s, p, number::<4>(o, s, p + Channel::FORMAT));
     Descriptor {
-        number: int4(o, s, p + Channel::NUMBER),
-        flags: int4(o, s, p + Channel::FLAGS),
-        kind: int4(o, s, p + Channel::TYPE),
-        format: int4(o, s, p + Channel::FORMAT),
-        rate: int4(o, s, p + Channel::RATE),
+        number: int::<4>(o, s, p + Channel::NUMBER),
+        flags: int::<4>(o, s, p + Channel::FLAGS),
+        kind: int::<4>(o, s, p + Channel::TYPE),
+        format: int::<4>(o, s, p + Channel::FORMAT),
+        rate: int::<4>(o, s, p + Channel::RATE),
         calibration,
         frequency: field_if(o, s, p, Channel::CAL_FREQUENCY),
-        low_cut: int4(o, s, p + Channel::LOW_CUT),
-        high_cut: int4(o, s, p + Channel::HIGH_CUT),
+        low_cut: int::<4>(o, s, p + Channel::LOW_CUT),
+        high_cut: int::<4>(o, s, p + Channel::HIGH_CUT),
         sensitivity: field_if(o, s, p, Channel::SENSITIVITY),
         label: Text {
             at: p + Channel::LABEL,
@@ -151,8 +151,8 @@ pub fn wired_at(o: Order, s: &[u8], p: usize) -> Wired
     let channel = descriptor_at(o, s, p);
     Wired {
         channel,
-        g1: int4(o, s, p + Channel::G1),
-        g2: int4(o, s, p + Channel::G2),
+        g1: int::<4>(o, s, p + Channel::G1),
+        g2: int::<4>(o, s, p + Channel::G2),
     }
 }
 
@@ -164,5 +164,5 @@ pub fn montage_channels(o: Order, s: &[u8], q: Places) -> u32
     let Some(montage) = q.montage else {
         return 0;
     };
-    number4(o, s, montage + Channels::COUNT)
+    number::<4>(o, s, montage + Channels::COUNT)
 }

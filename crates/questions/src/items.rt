@@ -8,7 +8,7 @@ use crate::channels::Text;
 use descriptions::Places;
 use records::items::Holder;
 use rules::{Item, Items, Reason, Refusal};
-use words::{Order, int4, number4};
+use words::{Order, int, number};
 
 #[derive(Clone, Copy)]
 pub struct Entry {
@@ -26,7 +26,7 @@ fn item_place(o: Order, s: &[u8], first: usize, n: usize) -> usize
         if s.len() - p < Item::LEAST {
             return p;
         }
-        let size = number4(o, s, p) as usize;
+        let size = number::<4>(o, s, p) as usize;
         if s.len() - p < size {
             return p;
         }
@@ -43,7 +43,7 @@ fn item_in(o: Order, s: &[u8], at: usize, item: usize) -> Result<Entry, Refusal>
     if s.len() - at < Items::FIRST {
         return Err(Refusal(Reason::Range, 0));
     }
-    let count = number4(o, s, at + Items::COUNT);
+    let count = number::<4>(o, s, at + Items::COUNT);
     if !recordings::within(item, count) {
         return Err(Refusal(Reason::Range, 0));
     }
@@ -51,8 +51,8 @@ fn item_in(o: Order, s: &[u8], at: usize, item: usize) -> Result<Entry, Refusal>
     if s.len() - p < Item::LEAST {
         return Err(Refusal(Reason::Range, 0));
     }
-    let size = number4(o, s, p) as usize;
-    let code = int4(o, s, p + Item::CODE);
+    let size = number::<4>(o, s, p) as usize;
+    let code = int::<4>(o, s, p + Item::CODE);
     let text = Text {
         at: p + Item::TEXT,
         length: records::less(size, Item::TEXT),

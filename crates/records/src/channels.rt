@@ -13,7 +13,7 @@ use rules::{
     Refusal, Shape, Version,
 };
 use versions::allows;
-use words::{Order, number4};
+use words::{Order, number};
 
 // Whether a record with this code holds subs.
 pub fn is_group(code: u32) -> bool
@@ -299,9 +299,9 @@ pub fn sample_bytes(o: Order, s: &[u8], subs: usize, m: u32, t: u32) -> usize
     let mut p = subs;
     let mut sum: usize = 0;
     for _i in 0..m {
-        let flags = number4(o, s, p + Channel::FLAGS);
-        let format = number4(o, s, p + Channel::FORMAT);
-        let rate = number4(o, s, p + Channel::RATE);
+        let flags = number::<4>(o, s, p + Channel::FLAGS);
+        let format = number::<4>(o, s, p + Channel::FORMAT);
+        let rate = number::<4>(o, s, p + Channel::RATE);
         sum += width(format) * samples_in(t, flags, rate);
         p += Channel::LENGTH;
     }

@@ -5,7 +5,7 @@ ghost use Rattle.records.specs.Asks.{PartAt, Spanned};
 ghost use Rattle.records.specs.Says.{HeadAt};
 
 use rules::{Head, Reason, Refusal};
-use words::{Order, number4};
+use words::{Order, number};
 
 // The head of the record at byte p of the part s, which stands at `base` in the file and ends where the record's parent ends.
 pub fn head_at(o: Order, s: &[u8], base: usize, p: usize) -> Result<Head, Refusal>
@@ -15,10 +15,10 @@ pub fn head_at(o: Order, s: &[u8], base: usize, p: usize) -> Result<Head, Refusa
     if s.len() < p + Head::LENGTH {
         return Err(Refusal(Reason::Length, base + p));
     }
-    let size = number4(o, s, p);
-    let code = number4(o, s, p + Head::CODE);
-    let serial = number4(o, s, p + Head::SERIAL);
-    let multiplier = number4(o, s, p + Head::MULTIPLIER);
+    let size = number::<4>(o, s, p);
+    let code = number::<4>(o, s, p + Head::CODE);
+    let serial = number::<4>(o, s, p + Head::SERIAL);
+    let multiplier = number::<4>(o, s, p + Head::MULTIPLIER);
     Ok(Head {
         at: p,
         size,

@@ -9,7 +9,7 @@ ghost use Rattle.records.specs.Says.{head_of, Beyond, ok_of, tested, StepOver};
 use crate::kinds::admit;
 use crate::{between, field};
 use rules::{Head, Item, Items, Kind, Reason, Refusal};
-use words::{Order, number4};
+use words::{Order, number};
 
 // The records of items: 130 and 200.
 #[derive(Clone, Copy)]
@@ -66,7 +66,7 @@ fn item_at(o: Order, k: Holder, s: &[u8], base: usize, p: usize) -> Result<usize
     if n < p + Item::LEAST {
         return Err(Refusal(Reason::Length, base + p));
     }
-    let size = number4(o, s, p) as usize;
+    let size = number::<4>(o, s, p) as usize;
     if size < Item::LEAST {
         return Err(Refusal(Reason::Length, base + p));
     }
@@ -76,7 +76,7 @@ fn item_at(o: Order, k: Holder, s: &[u8], base: usize, p: usize) -> Result<usize
     if n < p + size {
         return Err(Refusal(Reason::Length, base + p));
     }
-    let code = number4(o, s, p + Item::CODE);
+    let code = number::<4>(o, s, p + Item::CODE);
     if code_ok(k, code) {
         return Ok(p + size);
     }

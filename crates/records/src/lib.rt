@@ -20,7 +20,7 @@ ghost use Rattle.records.specs.Asks.{BytesIn, FieldIn};
 ghost use Rattle.records.specs.Says.{tested};
 
 use rules::{Head, Reason, Refusal};
-use words::{Order, first_nonzero, number2, number4};
+use words::{Order, first_nonzero, number};
 
 pub fn between(low: u32, high: u32, n: u32) -> bool
     ensures { result ≡ R.between low high n }
@@ -53,7 +53,7 @@ pub fn field(o: Order, s: &[u8], offset: usize) -> u32
     requires { FieldIn s.now offset 4 }
     ensures { (result ≡ number_at o 4 s.now (offset - 16)) × (result < 4294967296) }
 {
-    number4(o, s, offset - Head::LENGTH)
+    number::<4>(o, s, offset - Head::LENGTH)
 }
 
 // The field of two bytes at an offset of a record.
@@ -61,7 +61,7 @@ pub fn short_field(o: Order, s: &[u8], offset: usize) -> u32
     requires { FieldIn s.now offset 2 }
     ensures { (result ≡ number_at o 2 s.now (offset - 16)) × (result < 65536) }
 {
-    number2(o, s, offset - Head::LENGTH)
+    number::<2>(o, s, offset - Head::LENGTH)
 }
 
 // The bytes of s from `from` up to `to` are zero.

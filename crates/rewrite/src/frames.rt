@@ -6,7 +6,7 @@ use bulk::clear_run;
 use measures::Measure;
 use records::writing::put_head;
 use rules::{Channels, Frame, Frames, Head};
-use words::put4;
+use words::put;
 
 // A record 145 with the serial i: the frame s up to its padding, under a head of its own.
 fn frame(w: Way, file: &[u8], cs: Channels, widths: Widths, t: u32, i: u32, s: &[u8], d: &mut [u8])
@@ -51,13 +51,13 @@ fn frames_body(
     let o = w.from;
     let widths = widths_of(o, file, cs);
     let to = w.to;
-    put4(to, t, &mut d[..Frames::BODY_FRAME_LENGTH]);
-    put4(
+    put::<4>(to, t, &mut d[..Frames::BODY_FRAME_LENGTH]);
+    put::<4>(
         to,
         filled as u32,
         &mut d[Frames::BODY_FRAME_LENGTH..Frames::BODY_COUNT],
     );
-    put4(to, count, &mut d[Frames::BODY_COUNT..Frames::BODY_RESERVE]);
+    put::<4>(to, count, &mut d[Frames::BODY_COUNT..Frames::BODY_RESERVE]);
     clear_run(&mut d[Frames::BODY_RESERVE..Frames::BODY_FIRST]);
     let mut from = Frames::BODY_FIRST;
     let mut k = Frames::BODY_FIRST;

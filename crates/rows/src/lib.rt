@@ -10,7 +10,7 @@ ghost use Rattle.rows.specs.Listing.{BodyListed, RecordingListed, FileListed};
 
 use records::channels::{is_group, sub_code};
 use rules::{Channel, Channels, Delimiter, FileHeader, Frame, Frames, Head};
-use words::{Order, number4, signed4};
+use words::{Order, number, signed};
 
 // Where the next recording starts, and where its first row goes.
 #[derive(Clone, Copy)]
@@ -43,7 +43,7 @@ fn put(
     out[k] = start as i64;
     out[k + 1] = size as i64;
     out[k + 2] = code as i64;
-    out[k + 3] = signed4(serial) as i64;
+    out[k + 3] = signed::<4>(serial) as i64;
     end
 }
 
@@ -89,7 +89,7 @@ fn channels_rows(
     if end - p < Channels::SUBS {
         return k;
     }
-    let count = number4(o, s, p + Channels::COUNT);
+    let count = number::<4>(o, s, p + Channels::COUNT);
     if end - p != Channels::SUBS + Channel::LENGTH * count as usize {
         return k;
     }
@@ -115,8 +115,8 @@ fn frames_rows(
     if end - p < Frames::FIRST {
         return k;
     }
-    let size = number4(o, s, p + Frames::FRAME_LENGTH) as usize;
-    let count = number4(o, s, p + Frames::COUNT);
+    let size = number::<4>(o, s, p + Frames::FRAME_LENGTH) as usize;
+    let count = number::<4>(o, s, p + Frames::COUNT);
     if !fits(size, count, end - p) {
         return k;
     }

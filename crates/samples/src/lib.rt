@@ -11,7 +11,7 @@ ghost use Rattle.samples.specs.Asked.{FrameFoundAs, SamplesFoundAs, track_at, Cl
 
 use descriptions::Places;
 use rules::{Channel, Channels, Frame, Frames, Reason, Refusal};
-use words::{Order, int2, int3, int4, is_nan, number2, number4};
+use words::{Order, int, is_nan, number};
 
 #[derive(Clone, Copy)]
 pub struct Time {
@@ -135,9 +135,9 @@ pub fn time_at(o: Order, s: &[u8], at: usize) -> Time
     ensures { ClockAt o s.now at result }
 {
     Time {
-        hour: number2(o, s, at + Frame::HOUR),
-        minute: number2(o, s, at + Frame::MINUTE),
-        second: number2(o, s, at + Frame::SECOND),
+        hour: number::<2>(o, s, at + Frame::HOUR),
+        minute: number::<2>(o, s, at + Frame::MINUTE),
+        second: number::<2>(o, s, at + Frame::SECOND),
     }
 }
 
@@ -149,9 +149,9 @@ fn run_at(o: Order, s: &[u8], subs: usize, c: u32, t: u32, at: usize) -> Run
 {
     let before = records::channels::sample_bytes(o, s, subs, c, t);
     let p = subs + Channel::LENGTH * c as usize;
-    let flags = number4(o, s, p + Channel::FLAGS);
-    let format = number4(o, s, p + Channel::FORMAT);
-    let rate = number4(o, s, p + Channel::RATE);
+    let flags = number::<4>(o, s, p + Channel::FLAGS);
+    let format = number::<4>(o, s, p + Channel::FORMAT);
+    let rate = number::<4>(o, s, p + Channel::RATE);
     let count = records::channels::samples_in(t, flags, rate);
     let width = records::channels::width(format);
     let start = at + Frame::SAMPLES;
@@ -222,13 +222,13 @@ pub fn number_at(o: Order, s: &[u8], p: usize, format: u32) -> Number
     ensures { result ≡ number_in (value_of format (R.width format) (number_at o (R.width format) s.now p)) }
 {
     if format == Channel::SHORTS {
-        return Number::Whole(int2(o, s, p));
+        return Number::Whole(int::<2>(o, s, p));
     }
     if format == Channel::TRIPLES {
-        return Number::Whole(int3(o, s, p));
+        return Number::Whole(int::<3>(o, s, p));
     }
     if format == Channel::FLOATS {
-        return float_in(number4(o, s, p));
+        return float_in(number::<4>(o, s, p));
     }
-    Number::Whole(int4(o, s, p))
+    Number::Whole(int::<4>(o, s, p))
 }

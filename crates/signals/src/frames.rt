@@ -8,7 +8,7 @@ ghost use Rattle.signals.specs.Shaped.{Countable, FieldsAsked, RestAsked, Fields
 
 use records::field;
 use rules::{Basic, Channel, Channels, Frame, Frames, Head, Kind, Label, Reason, Refusal};
-use words::{Order, number4};
+use words::{Order, number};
 
 // T, the frame length, and the byte of a frame where its samples end: what a 140's own fields say.
 #[derive(Clone, Copy)]
@@ -37,8 +37,8 @@ fn all_sampled(o: Order, file: &[u8], cs: Channels, t: u32) -> bool
     let m = cs.count;
     let mut p = cs.subs;
     for _i in 0..m {
-        let flags = number4(o, file, p + Channel::FLAGS);
-        let rate = number4(o, file, p + Channel::RATE);
+        let flags = number::<4>(o, file, p + Channel::FLAGS);
+        let rate = number::<4>(o, file, p + Channel::RATE);
         if !sampled(t, flags, rate) {
             return false;
         }

@@ -13,7 +13,7 @@ use bodies::{Way, basic_body, channels_body, items_body};
 use bulk::copy_run;
 use records::channels::{is_group, shape_of};
 use rules::{Basic, Channel, Channels, Events, Head, Items, Patient, Shape};
-use words::number4;
+use words::number;
 
 // Bytes as they stand, if there is room for them.
 pub fn text(s: &[u8], out: &mut [u8], k: usize) -> usize
@@ -67,7 +67,7 @@ fn sized_channels(w: Way, k: Shape, s: &[u8], d: &mut [u8])
     if s.len() < Channels::BODY_SUBS {
         return;
     }
-    let count = number4(w.from, s, Channels::BODY_COUNT);
+    let count = number::<4>(w.from, s, Channels::BODY_COUNT);
     if s.len() != Channels::BODY_SUBS + Channel::LENGTH * count as usize {
         return;
     }

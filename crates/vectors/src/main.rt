@@ -2,7 +2,7 @@
 #![tactic(auto)]
 
 use std::io::{self, Read, Write};
-use words::{Order, number4};
+use words::{Order, number};
 
 const MOST: usize = 32768;
 
@@ -24,7 +24,7 @@ fn list_next<R: Read, W: Write>(from: &mut R, to: &mut W) -> io::Result<bool> {
     if lister::read_full(from, &mut head)? < 4 {
         return Ok(false);
     }
-    let n = number4(Order::Little, &head, 0) as usize;
+    let n = number::<4>(Order::Little, &head, 0) as usize;
     if MOST < n {
         return Ok(false);
     }

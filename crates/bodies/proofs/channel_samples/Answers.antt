@@ -14,4 +14,4 @@ numbers-requires c =
 pub returns : goal.returns
 returns c =
     let a = c.args in
-    (search rules, λ b x cs k _. samples-copied a.w _ a.q a.t _ _ _ _ _ c.number4-flags.ensures.0 c.number4-format.ensures.0 c.number4-rate.ensures.0 c.width-width.ensures.0 c.samples_in-n.ensures.0 a.s.now a.d.now a.p x cs k _ _ (add-sub_cancel_left _ _) (omega arith) c.numbers.ensures b)
+    (search rules, λ b x cs k _. samples-copied a.w _ a.q a.t _ _ _ _ _ c.number-flags.ensures.0 c.number-format.ensures.0 c.number-rate.ensures.0 c.width-width.ensures.0 c.samples_in-n.ensures.0 a.s.now a.d.now a.p x cs k _ _ (add-sub_cancel_left _ _) (omega arith) c.numbers.ensures b)

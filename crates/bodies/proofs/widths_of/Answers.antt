@@ -14,13 +14,13 @@ returns-then-cs-eq0 c = widths-none _ _ _ _ c.if-cs-eq0.true
 pub returns-then-width : goal.returns-then-width
 returns-then-width c =
     let l = c.loop-i in
-    widths-several _ _ _ _ _ (c.args.cs.count - 1) (omega arith) l.invariant.3 (l.invariant.4 ∙ wide-other _ _ _ _ _ (c.args.cs.count - l._i - 1) (omega arith) (λ e. c.if-width.true (c.width.ensures.0 ∙ (ap R.width c.number4-in-loop-i.ensures.0 ∙ e))))
+    widths-several _ _ _ _ _ (c.args.cs.count - 1) (omega arith) l.invariant.3 (l.invariant.4 ∙ wide-other _ _ _ _ _ (c.args.cs.count - l._i - 1) (omega arith) (λ e. c.if-width.true (c.width.ensures.0 ∙ (ap R.width c.number-in-loop-i.ensures.0 ∙ e))))
 
 pub loop-i-preserved : goal.loop-i-preserved
 loop-i-preserved c =
     let l = c.loop-i in
     let m : c.args.cs.count - l._i ≡ suc (c.args.cs.count - (l._i + 1)) = omega arith in
-    let e = sym (c.width.ensures.0 ∙ ap R.width c.number4-in-loop-i.ensures.0) ∙ c.if-width.false in
+    let e = sym (c.width.ensures.0 ∙ ap R.width c.number-in-loop-i.ensures.0) ∙ c.if-width.false in
     (search rules, l.invariant.1, omega arith, l.invariant.3, l.invariant.4 ∙ wide-more _ _ _ _ _ (c.args.cs.count - (l._i + 1)) m e)
 
 pub returns : goal.returns

@@ -27,11 +27,11 @@ many : (w : After-width-wide) → w.samples_in-n.result ≡ R.samples_in w.args.
 many w =
     let k = its-sub w.requires in
     let t = w.args.q.seconds in
-    w.samples_in-n.ensures.0 ∙ ap (λ (n : ℕ). R.samples_of t n w.number4-rate.result) (w.number4-flags.ensures.0 ∙ sym k.flags) ∙
-    ap (R.samples_of t (y w).flags) (w.number4-rate.ensures.0 ∙ sym k.rate)
+    w.samples_in-n.ensures.0 ∙ ap (λ (n : ℕ). R.samples_of t n w.number-rate.result) (w.number-flags.ensures.0 ∙ sym k.flags) ∙
+    ap (R.samples_of t (y w).flags) (w.number-rate.ensures.0 ∙ sym k.rate)
 
 wide : (w : After-width-wide) → w.width-wide.result ≡ R.width (y w).format
-wide w = w.width-wide.ensures.0 ∙ ap R.width (w.number4-format.ensures.0 ∙ sym (its-sub w.requires).format)
+wide w = w.width-wide.ensures.0 ∙ ap R.width (w.number-format.ensures.0 ∙ sym (its-sub w.requires).format)
 
 ends : (w : After-width-wide) → w.args.at + w.width-wide.result * w.samples_in-n.result ≡ w.args.at + R.samples_in w.args.q.seconds (y w) * R.width (y w).format
 ends w = ap (λ (n : ℕ). w.args.at + n) (mul_comm w.width-wide.result w.samples_in-n.result ∙ ap (λ (m : ℕ). m * w.width-wide.result) (many w) ∙ ap (λ (m : ℕ). R.samples_in w.args.q.seconds (y w) * m) (wide w))
@@ -77,20 +77,20 @@ overflow_add-p-2 c = record { fits = omega (arith, sub-inside c, c.well_formed) 
 pub overflow_add-p-3 : goal.overflow_add-p-3
 overflow_add-p-3 c = record { fits = omega (arith, sub-inside c, c.well_formed) }
 
-pub number4-flags-requires : goal.number4-flags-requires
-number4-flags-requires c = omega (arith, sub-inside c)
+pub number-flags-requires-clause-within : goal.number-flags-requires-clause-within
+number-flags-requires-clause-within c = omega (arith, sub-inside c)
 
 pub overflow_add-p-4 : goal.overflow_add-p-4
 overflow_add-p-4 c = record { fits = omega (arith, sub-inside (goal.at.overflow_add-p-4 c).After-struct_known-1, c.well_formed) }
 
-pub number4-format-requires : goal.number4-format-requires
-number4-format-requires c = omega (arith, sub-inside (goal.at.number4-format-requires c).After-struct_known-1)
+pub number-format-requires-clause-within : goal.number-format-requires-clause-within
+number-format-requires-clause-within c = omega (arith, sub-inside (goal.at.number-format-requires-clause-within c).After-struct_known-1)
 
 pub overflow_add-p-5 : goal.overflow_add-p-5
 overflow_add-p-5 c = record { fits = omega (arith, sub-inside (goal.at.overflow_add-p-5 c).After-struct_known-1, c.well_formed) }
 
-pub number4-rate-requires : goal.number4-rate-requires
-number4-rate-requires c = omega (arith, sub-inside (goal.at.number4-rate-requires c).After-struct_known-1)
+pub number-rate-requires-clause-within : goal.number-rate-requires-clause-within
+number-rate-requires-clause-within c = omega (arith, sub-inside (goal.at.number-rate-requires-clause-within c).After-struct_known-1)
 
 pub samples_in-n-requires : goal.samples_in-n-requires
 samples_in-n-requires c = c.requires.stands.found.seconds

@@ -14,4 +14,4 @@ overflow_sub-at c = c.requires.before c.if-frame-eq1.false
 
 pub returns : goal.returns
 unfolding code_behind
-returns c = (rw (ne_eqb c.args.frame 1 c.if-frame-eq1.false) c.number2.ensures.0, c.number2.ensures.1)
+returns c = (rw (ne_eqb c.args.frame 1 c.if-frame-eq1.false) c.number.ensures.0, c.number.ensures.1)

@@ -16,14 +16,14 @@ no-type a b h = rw (ne_eqb a 1 h)
 its-type : (a b n : ℕ) → a ≡ 1 → n ≡ b → eqb n 1 ≡ eqb a 1 && eqb b 1
 its-type a b n h e = rw (eq-eqb a 1 h, e)
 
-pub returns-then-number4-ne-EVENTS : goal.returns-then-number4-ne-EVENTS
+pub returns-then-number-ne-EVENTS : goal.returns-then-number-ne-EVENTS
 unfolding events_at
-returns-then-number4-ne-EVENTS c =
+returns-then-number-ne-EVENTS c =
     let a = c.args in
-    no-type (number_at a.o 4 a.s.now (a.p + 24)) (number_at a.o 4 a.s.now (a.p + 28)) (λ z. c.if-number4-ne-EVENTS.true (c.number4.ensures.0 ∙ z))
+    no-type (number_at a.o 4 a.s.now (a.p + 24)) (number_at a.o 4 a.s.now (a.p + 28)) (λ z. c.if-number-ne-EVENTS.true (c.number.ensures.0 ∙ z))
 
 pub returns : goal.returns
 unfolding events_at
 returns c =
     let a = c.args in
-    its-type (number_at a.o 4 a.s.now (a.p + 24)) (number_at a.o 4 a.s.now (a.p + 28)) c.number4-2.result (sym c.number4.ensures.0 ∙ c.if-number4-ne-EVENTS.false) c.number4-2.ensures.0
+    its-type (number_at a.o 4 a.s.now (a.p + 24)) (number_at a.o 4 a.s.now (a.p + 28)) c.number-2.result (sym c.number.ensures.0 ∙ c.if-number-ne-EVENTS.false) c.number-2.ensures.0

@@ -21,18 +21,18 @@ loop-i-init c =
 pub overflow_mul-i : goal.overflow_mul-i
 overflow_mul-i c = record { fits = omega (arith, c.requires.long, c.well_formed, c.loop-i-test.true) }
 
-pub number2-requires : goal.number2-requires
-number2-requires c = omega (arith, c.requires.long, c.loop-i-test.true)
+pub number-requires-clause-within : goal.number-requires-clause-within
+number-requires-clause-within c = omega (arith, c.requires.long, c.loop-i-test.true)
 
-pub returns-then-number2-code : goal.returns-then-number2-code
-returns-then-number2-code c = record { same = c.loop-i.invariant; other = λ l e. c.if-number2-code.true (c.number2.ensures.0 ∙ e) }
+pub returns-then-number-code : goal.returns-then-number-code
+returns-then-number-code c = record { same = c.loop-i.invariant; other = λ l e. c.if-number-code.true (c.number.ensures.0 ∙ e) }
 
 pub loop-i-preserved : goal.loop-i-preserved
 loop-i-preserved c =
     let l = c.loop-i in
     let a = c.args in
     same_more 1 (omega (arith, c.loop-i-test.true)) l.invariant
-    (λ q h. ap (number_at a.o 2 a.s.now) (omega arith) ∙ sym c.number2.ensures.0 ∙ c.if-number2-code.false)
+    (λ q h. ap (number_at a.o 2 a.s.now) (omega arith) ∙ sym c.number.ensures.0 ∙ c.if-number-code.false)
 
 pub returns : goal.returns
 returns c =

@@ -15,14 +15,14 @@ loop-p-init c = (sampled-start c.requires.small c.repeated-p.result c.repeated-p
 pub overflow_mul-p : goal.overflow_mul-p
 overflow_mul-p c = record { fits = omega (arith, c.requires.long, c.well_formed, c.loop-p-test.true) }
 
-pub number2-code-requires : goal.number2-code-requires
-number2-code-requires c = omega (arith, c.requires.long, c.loop-p-test.true)
+pub number-code-requires-clause-within : goal.number-code-requires-clause-within
+number-code-requires-clause-within c = omega (arith, c.requires.long, c.loop-p-test.true)
 
 pub changed-next-requires : goal.changed-next-requires
 changed-next-requires c = sampled-room c.loop-p.invariant.0 c.loop-p-test.true c.requires.ahead
 
 pub repeated-p-requires-in-loop-p : goal.repeated-p-requires-in-loop-p
-repeated-p-requires-in-loop-p c = record { long = c.requires.long; inside = omega (arith, c.loop-p-test.true); small = c.number2-code.ensures.1 }
+repeated-p-requires-in-loop-p c = record { long = c.requires.long; inside = omega (arith, c.loop-p-test.true); small = c.number-code.ensures.1 }
 
 pub loop-p-smaller : goal.loop-p-smaller
 loop-p-smaller c = omega (arith, c.repeated-p-in-loop-p.ensures.same.on, c.loop-p-test.true)
@@ -30,7 +30,7 @@ loop-p-smaller c = omega (arith, c.repeated-p-in-loop-p.ensures.same.on, c.loop-
 pub loop-p-preserved : goal.loop-p-preserved
 loop-p-preserved c =
     let l = c.loop-p in
-    let m = sampled-more l.invariant.0 c.number2-code.result c.number2-code.ensures.0 c.loop-p-test.true c.number2-code.ensures.1 c.changed-next.ensures c.repeated-p-in-loop-p.result c.repeated-p-in-loop-p.ensures in
+    let m = sampled-more l.invariant.0 c.number-code.result c.number-code.ensures.0 c.loop-p-test.true c.number-code.ensures.1 c.changed-next.ensures c.repeated-p-in-loop-p.result c.repeated-p-in-loop-p.ensures in
     (m, search rules)
 
 pub shape_of-out : goal.shape_of-out

@@ -16,20 +16,20 @@ returns-then-end-p-lt-FIRST c = record { reaches = omega arith; wrote = λ e. ab
 pub returns-then-not-fits : goal.returns-then-not-fits
 returns-then-not-fits c =
     let f = c.fits in
-    let size = c.number4-size in
-    let count = c.number4-count in
+    let size = c.number-size in
+    let count = c.number-count in
     record { reaches = omega arith; wrote = λ e. absurd (fits-false size.result count.result (c.args.end - c.args.p) f.result f.ensures (c.if-not-fits.true) (omega (arith, e.least, size.ensures.0)) (as_read size.ensures.0 count.ensures.0 e.inside)) }
 
 pub series_rows-requires : goal.series_rows-requires
 series_rows-requires c =
     let f = c.fits in
-    let t = fits-true c.number4-size.result c.number4-count.result (c.args.end - c.args.p) f.result f.ensures (c.if-not-fits.false) in
+    let t = fits-true c.number-size.result c.number-count.result (c.args.end - c.args.p) f.result f.ensures (c.if-not-fits.false) in
     record { low = omega arith; least = omega arith; short = omega arith; small = omega arith }
 
 pub returns : goal.returns
 returns c =
     let f = c.fits in
-    let size = c.number4-size in
-    let count = c.number4-count in
+    let size = c.number-size in
+    let count = c.number-count in
     let t = fits-true size.result count.result (c.args.end - c.args.p) f.result f.ensures (c.if-not-fits.false) in
     record { reaches = omega (arith, t.1, c.series_rows.ensures.reaches); wrote = λ e. rw (← size.ensures.0, ← count.ensures.0) c.series_rows.ensures.wrote }

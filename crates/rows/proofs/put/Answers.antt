@@ -29,7 +29,7 @@ pub bounds-out-k-3 : goal.bounds-out-k-3
 bounds-out-k-3 c = simp length-set (omega arith)
 
 pub overflow_cast-out-4 : goal.overflow_cast-out-4
-overflow_cast-out-4 c = rw (kept c.signed4.result c.signed4.type_inv) (wide c.signed4.result c.signed4.type_inv)
+overflow_cast-out-4 c = rw (kept c.signed.result c.signed.type_inv) (wide c.signed.result c.signed.type_inv)
 
 pub bounds-out-k-4 : goal.bounds-out-k-4
 bounds-out-k-4 c = simp length-set (omega arith)
@@ -37,4 +37,4 @@ bounds-out-k-4 c = simp length-set (omega arith)
 pub returns : goal.returns
 returns c =
     let a = c.args in
-    wrote_one _ _ _ _ _ _ _ _ (c.if-not-write.false) (omega arith) (to_z_pos w64 a.start (omega arith)) (to_z_pos w64 a.size (omega arith)) (to_z_pos w64 a.code (omega arith)) (rw (kept c.signed4.result c.signed4.type_inv, to_z-of_z w64 c.signed4.result (wide c.signed4.result c.signed4.type_inv)) c.signed4.ensures)
+    wrote_one _ _ _ _ _ _ _ _ (c.if-not-write.false) (omega arith) (to_z_pos w64 a.start (omega arith)) (to_z_pos w64 a.size (omega arith)) (to_z_pos w64 a.code (omega arith)) (rw (kept c.signed.result c.signed.type_inv, to_z-of_z w64 c.signed.result (wide c.signed.result c.signed.type_inv)) c.signed.ensures)

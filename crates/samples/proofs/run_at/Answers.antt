@@ -26,7 +26,7 @@ overflow_mul-bytes c =
 
 pub returns-then-not-fits : goal.returns-then-not-fits
 returns-then-not-fits c =
-    run-outside _ _ _ _ _ _ _ _ _ _ _ _ c.sample_bytes-before.ensures c.number4-flags.ensures.0 c.number4-format.ensures.0 c.number4-rate.ensures.0 c.samples_in-count.ensures.0 c.width-width.ensures.0
+    run-outside _ _ _ _ _ _ _ _ _ _ _ _ c.sample_bytes-before.ensures c.number-flags.ensures.0 c.number-format.ensures.0 c.number-rate.ensures.0 c.samples_in-count.ensures.0 c.width-width.ensures.0
     (omega arith) (omega (arith, tested-out (taken (goal.at.returns-then-not-fits c).After-fits) (room (goal.at.returns-then-not-fits c).After-fits) c.fits.ensures c.if-not-fits.true))
 
 pub overflow_add-place : goal.overflow_add-place
@@ -34,5 +34,5 @@ overflow_add-place c = record { fits = omega (arith, inside c) }
 
 pub returns : goal.returns
 returns c =
-    run-found _ _ _ _ _ _ _ _ _ _ _ _ c.sample_bytes-before.ensures c.number4-flags.ensures.0 c.number4-format.ensures.0 c.number4-rate.ensures.0 c.samples_in-count.ensures.0 c.width-width.ensures.0
+    run-found _ _ _ _ _ _ _ _ _ _ _ _ c.sample_bytes-before.ensures c.number-flags.ensures.0 c.number-format.ensures.0 c.number-rate.ensures.0 c.samples_in-count.ensures.0 c.width-width.ensures.0
     (omega (arith, inside c))

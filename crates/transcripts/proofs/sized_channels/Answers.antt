@@ -12,4 +12,4 @@ returns-then-s-lt-BODY_SUBS c =
 pub returns-then-s-count : goal.returns-then-s-count
 returns-then-s-count c =
     let a = c.args in
-    λ d k b l e g. absurd (c.if-s-count.true (omega (arith, c.number4-count.ensures.0, channels-counted a.w.from b a.s.now d _ g)))
+    λ d k b l e g. absurd (c.if-s-count.true (omega (arith, c.number-count.ensures.0, channels-counted a.w.from b a.s.now d _ g)))

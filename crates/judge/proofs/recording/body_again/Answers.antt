@@ -34,4 +34,4 @@ returns-then-s-p c =
 pub returns : goal.returns
 returns c =
     let a = c.args in
-    rw c.places_for.ensures (again-holds a.o a.label a.s.now a.at a.before (described (goal.at.returns c).In_ok-t) c.number4-seconds.ensures.0 c.number4-frame.ensures.0)
+    rw c.places_for.ensures (again-holds a.o a.label a.s.now a.at a.before (described (goal.at.returns c).In_ok-t) c.number-seconds.ensures.0 c.number-frame.ensures.0)

@@ -11,10 +11,10 @@ pub returns-then-format-eq-FLOATS : goal.returns-then-format-eq-FLOATS
 unfolding calibration_of
 returns-then-format-eq-FLOATS c =
     rw (eq-eqb _ _ c.if-format-eq-FLOATS.true)
-    (c.floats_of.ensures ∙ (λ j. floats_of (c.number4.ensures.0 j) (c.number4-then-format-eq-FLOATS.ensures.0 j) (c.number4-then-format-eq-FLOATS-2.ensures.0 j) (c.number4-then-format-eq-FLOATS-3.ensures.0 j)))
+    (c.floats_of.ensures ∙ (λ j. floats_of (c.number.ensures.0 j) (c.number-then-format-eq-FLOATS.ensures.0 j) (c.number-then-format-eq-FLOATS-2.ensures.0 j) (c.number-then-format-eq-FLOATS-3.ensures.0 j)))
 
 pub returns : goal.returns
 unfolding calibration_of
 returns c =
     rw (ne_eqb _ _ c.if-format-eq-FLOATS.false)
-    (λ j. Numbers (held c.int4.type_inv c.int4.ensures j) (held c.int4-2.type_inv c.int4-2.ensures j) (held c.int4-3.type_inv c.int4-3.ensures j) (held c.int4-4.type_inv c.int4-4.ensures j))
+    (λ j. Numbers (held c.int.type_inv c.int.ensures j) (held c.int-2.type_inv c.int-2.ensures j) (held c.int-3.type_inv c.int-3.ensures j) (held c.int-4.type_inv c.int-4.ensures j))

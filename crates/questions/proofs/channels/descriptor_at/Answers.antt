@@ -16,15 +16,15 @@ returns c k room i x e calibrated h =
     let z = sub_read _ _ _ k room i h in
     rw z.is
     (λ j. record {
-      number = held c.int4.type_inv c.int4.ensures j;
-      flags = held c.int4-2.type_inv c.int4-2.ensures j;
-      kind = held c.int4-3.type_inv c.int4-3.ensures j;
-      format = held c.int4-4.type_inv c.int4-4.ensures j;
-      rate = held c.int4-5.type_inv c.int4-5.ensures j;
-      calibration = (rw c.number4.ensures.0 at c.calibration_at-calibration.ensures) j;
+      number = held c.int.type_inv c.int.ensures j;
+      flags = held c.int-2.type_inv c.int-2.ensures j;
+      kind = held c.int-3.type_inv c.int-3.ensures j;
+      format = held c.int-4.type_inv c.int-4.ensures j;
+      rate = held c.int-5.type_inv c.int-5.ensures j;
+      calibration = (rw c.number.ensures.0 at c.calibration_at-calibration.ensures) j;
       frequency = held c.field_if.type_inv (c.field_if.ensures ∙ field-read _ _ _ z calibrated 52) j;
-      low_cut = held c.int4-6.type_inv c.int4-6.ensures j;
-      high_cut = held c.int4-7.type_inv c.int4-7.ensures j;
+      low_cut = held c.int-6.type_inv c.int-6.ensures j;
+      high_cut = held c.int-7.type_inv c.int-7.ensures j;
       sensitivity = held c.field_if-2.type_inv (c.field_if-2.ensures ∙ field-read _ _ _ z calibrated 64) j;
       label = d.label;
       unit = d.unit;

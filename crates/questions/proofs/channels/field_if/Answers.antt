@@ -6,11 +6,11 @@ use Rattle.samples.proofs.Clocked.{held}
 use Rattle.questions.specs.Values.{field_in}
 use Rattle.questions.proofs.channels.field_if.Goals as goal
 
-pub returns-then-number4-eq-CODE : goal.returns-then-number4-eq-CODE
+pub returns-then-number-eq-CODE : goal.returns-then-number-eq-CODE
 unfolding field_in
-returns-then-number4-eq-CODE c = rw (eq-eqb _ _ (sym c.number4.ensures.0 ∙ c.if-number4-eq-CODE.true))
+returns-then-number-eq-CODE c = rw (eq-eqb _ _ (sym c.number.ensures.0 ∙ c.if-number-eq-CODE.true))
 
 pub returns : goal.returns
 unfolding field_in
 returns c =
-    rw (ne_eqb _ _ (λ h. c.if-number4-eq-CODE.false (c.number4.ensures.0 ∙ h))) (held c.int4.type_inv c.int4.ensures)
+    rw (ne_eqb _ _ (λ h. c.if-number-eq-CODE.false (c.number.ensures.0 ∙ h))) (held c.int.type_inv c.int.ensures)

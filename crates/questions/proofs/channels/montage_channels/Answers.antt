@@ -9,4 +9,4 @@ returns-in_default c = rw c.in_default.is
 
 pub returns : goal.returns
 unfolding montage_channels
-returns c = rw c.in-Some.is c.number4.ensures.0
+returns c = rw c.in-Some.is c.number.ensures.0

@@ -19,6 +19,6 @@ returns c k room i x e calibrated wired h =
     let g2 : x.g2 ≡ number_at a.o 4 a.s.now (a.p + 108) = ap (λ (y : R.Channel). y.g2) z ∙ rw wired in
     (λ j. record {
       channel = c.descriptor_at-channel.ensures k room i x e calibrated h j;
-      g1 = (held c.int4.type_inv c.int4.ensures ∙ sym (ap (signed 4) g1)) j;
-      g2 = (held c.int4-2.type_inv c.int4-2.ensures ∙ sym (ap (signed 4) g2)) j;
+      g1 = (held c.int.type_inv c.int.ensures ∙ sym (ap (signed 4) g1)) j;
+      g2 = (held c.int-2.type_inv c.int-2.ensures ∙ sym (ap (signed 4) g2)) j;
     })

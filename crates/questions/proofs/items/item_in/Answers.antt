@@ -12,7 +12,7 @@ returns-then-s-at-lt-FIRST c = λ ok room h is e g k. absurd (omega (arith, item
 
 pub returns-then-not-within : goal.returns-then-not-within
 returns-then-not-within c = λ ok room h is e g k.
-    entry-outside _ _ _ ok room h g k _ c.number4-count.ensures.0 _ (sym c.within.ensures ∙ c.if-not-within.true)
+    entry-outside _ _ _ ok room h g k _ c.number-count.ensures.0 _ (sym c.within.ensures ∙ c.if-not-within.true)
 
 pub overflow_sub-item : goal.overflow_sub-item
 overflow_sub-item c = omega (arith, (between_in _ _ _ (sym c.within.ensures ∙ c.if-not-within.false)).0)
@@ -20,10 +20,10 @@ overflow_sub-item c = omega (arith, (between_in _ _ _ (sym c.within.ensures ∙ 
 pub returns-then-s-p-lt-LEAST : goal.returns-then-s-p-lt-LEAST
 returns-then-s-p-lt-LEAST c = λ ok room h is e g k.
     let w = sym c.within.ensures ∙ c.if-not-within.false in
-    absurd (omega (arith, c.if-s-p-lt-LEAST.true, c.item_place-p.ensures.inside, entry-inside _ _ _ ok room h g k _ c.number4-count.ensures.0 _ w _ c.item_place-p.ensures.passed))
+    absurd (omega (arith, c.if-s-p-lt-LEAST.true, c.item_place-p.ensures.inside, entry-inside _ _ _ ok room h g k _ c.number-count.ensures.0 _ w _ c.item_place-p.ensures.passed))
 
 pub returns : goal.returns
 returns c = λ ok room h is e g k.
     let w = sym c.within.ensures ∙ c.if-not-within.false in
-    rw (kept c.int4-code.result c.int4-code.type_inv, c.int4-code.ensures, c.less.ensures, c.number4-size.ensures.0)
-    (entry-is _ _ _ ok room h g k _ c.number4-count.ensures.0 _ w _ c.item_place-p.ensures.passed)
+    rw (kept c.int-code.result c.int-code.type_inv, c.int-code.ensures, c.less.ensures, c.number-size.ensures.0)
+    (entry-is _ _ _ ok room h g k _ c.number-count.ensures.0 _ w _ c.item_place-p.ensures.passed)

@@ -17,12 +17,12 @@ returns-then-s-p-lt-LEAST c =
 pub returns-then-s-p : goal.returns-then-s-p
 returns-then-s-p c =
     let l = c.loop-i in
-    let v = c.number4-size.ensures in
+    let v = c.number-size.ensures in
     record { inside = search rules; passed = λ ok count room is e m g k. absurd (let x = reaches-item _ _ _ _ _ _ l.invariant.2 c.loop-i-test.true ok count room is e m g k in omega (arith, x.fits, x.size)) }
 
 pub loop-i-preserved : goal.loop-i-preserved
 loop-i-preserved c =
-    (search rules, search rules, reaches_more _ _ _ _ _ _ c.loop-i.invariant.2 c.loop-i-test.true _ c.number4-size.ensures.0)
+    (search rules, search rules, reaches_more _ _ _ _ _ _ c.loop-i.invariant.2 c.loop-i-test.true _ c.number-size.ensures.0)
 
 pub returns : goal.returns
 returns c =

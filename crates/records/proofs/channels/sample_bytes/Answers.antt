@@ -29,7 +29,7 @@ loop-i-preserved c =
       omega arith,
       λ cs e k.
           rw (c.width.ensures.0, c.samples_in.ensures.0)
-          (rest_more (c.loop-i.invariant.3 cs e k) _ (omega arith) _ _ _ c.number4-flags.ensures.0 c.number4-format.ensures.0 c.number4-rate.ensures.0),
+          (rest_more (c.loop-i.invariant.3 cs e k) _ (omega arith) _ _ _ c.number-flags.ensures.0 c.number-format.ensures.0 c.number-rate.ensures.0),
     )
 
 pub returns : goal.returns

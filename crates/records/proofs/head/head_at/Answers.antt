@@ -11,4 +11,4 @@ returns-then-s-p c = record { seen = simp (walks, tests, c.if-s-p.true); stands 
 pub returns : goal.returns
 unfolding head
 returns c =
-    record { seen = simp (walks, tests, ← c.number4-multiplier.ensures.0, ← c.number4-serial.ensures.0, ← c.number4-code.ensures.0, ← c.number4-size.ensures.0, c.if-s-p.false); stands = search rules }
+    record { seen = simp (walks, tests, ← c.number-multiplier.ensures.0, ← c.number-serial.ensures.0, ← c.number-code.ensures.0, ← c.number-size.ensures.0, c.if-s-p.false); stands = search rules }

@@ -6,17 +6,17 @@ use lib.Seq.{length-take-le}
 use Rattle.records.proofs.Heads.{head-written}
 use Rattle.records.proofs.writing.put_head.Goals as goal
 
-pub slice_bounds-put4-end-2 : goal.slice_bounds-put4-end-2
-slice_bounds-put4-end-2 c = sym (length-take-le 4 c.args.d.now (omega arith))
+pub slice_bounds-put-end-2 : goal.slice_bounds-put-end-2
+slice_bounds-put-end-2 c = sym (length-take-le 4 c.args.d.now (omega arith))
 
-pub put4-requires : goal.put4-requires
-put4-requires c = length-take-le 4 c.args.d.now (omega arith)
+pub put-requires-clause-room : goal.put-requires-clause-room
+put-requires-clause-room c = length-take-le 4 c.args.d.now (omega arith)
 
 pub returns : goal.returns
 returns c =
     let a = c.args in
     head-written a.to (record { size = a.size; code = a.code; serial = a.serial; multiplier = a.multiplier }) a.d.now _ _ _ _ c.requires
-    c.put4.ensures
-    c.put4-2.ensures
-    c.put4-3.ensures
-    c.put4-4.ensures
+    c.put.ensures
+    c.put-2.ensures
+    c.put-3.ensures
+    c.put-4.ensures

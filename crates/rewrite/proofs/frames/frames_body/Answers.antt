@@ -8,18 +8,18 @@ use borrow.Author.Rules.{rules}
 use Rattle.rewrite.proofs.Framing.{framing-start, framing-room, framing-more, framing-end}
 use Rattle.rewrite.proofs.frames.frames_body.Goals as goal
 
-pub slice_bounds-put4-end-2 : goal.slice_bounds-put4-end-2
-slice_bounds-put4-end-2 c = sym (length-take-le 4 c.args.d.now (omega arith))
+pub slice_bounds-put-end-2 : goal.slice_bounds-put-end-2
+slice_bounds-put-end-2 c = sym (length-take-le 4 c.args.d.now (omega arith))
 
-pub put4-requires : goal.put4-requires
-put4-requires c = length-take-le 4 c.args.d.now (omega arith)
+pub put-requires-clause-room : goal.put-requires-clause-room
+put-requires-clause-room c = length-take-le 4 c.args.d.now (omega arith)
 
 pub loop-i-init : goal.loop-i-init
 loop-i-init c =
     let a = c.args in
     framing-start a.w a.file.now a.cs a.t a.filled a.size a.count a.s.now a.d.now _ _ _ _ c.requires.source c.requires.target
     c.d-1.given.1 c.d-2-1.given.1 c.d-3-1.given.1 c.d-4-1.given.1
-    c.put4.ensures c.put4-2.ensures c.put4-3.ensures c.clear_run.ensures
+    c.put.ensures c.put-2.ensures c.put-3.ensures c.clear_run.ensures
 
 pub overflow_add-end : goal.overflow_add-end
 overflow_add-end c = omega (arith, framing-room _ _ _ _ _ _ _ _ c.loop-i.invariant c.loop-i-test.true, c.loop-i.invariant.long, c)

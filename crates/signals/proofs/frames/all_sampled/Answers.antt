@@ -13,7 +13,7 @@ loop-i-init c = record { few = search rules; place = search rules; left = λ ch 
 pub returns-then-not-sampled : goal.returns-then-not-sampled
 returns-then-not-sampled c =
     λ ch st. sampled-stop (c.loop-i.invariant.left ch st)
-    (λ d f r. c.sampled.ensures d (f ∙ sym c.number4-flags.ensures.0) (r ∙ sym c.number4-rate.ensures.0))
+    (λ d f r. c.sampled.ensures d (f ∙ sym c.number-flags.ensures.0) (r ∙ sym c.number-rate.ensures.0))
     (omega arith)
     (c.if-not-sampled.true)
 
@@ -23,7 +23,7 @@ loop-i-preserved c =
       few = omega arith;
       place = omega (arith, c.loop-i.invariant.place);
       left = λ ch st. sampled-more (c.loop-i.invariant.left ch st)
-          (λ d f r. c.sampled.ensures d (f ∙ sym c.number4-flags.ensures.0) (r ∙ sym c.number4-rate.ensures.0))
+          (λ d f r. c.sampled.ensures d (f ∙ sym c.number-flags.ensures.0) (r ∙ sym c.number-rate.ensures.0))
           _
           (omega arith)
           (c.if-not-sampled.false);
