@@ -1,5 +1,6 @@
 -- What C is answered is an answer of the call of Rattle, taken apart: there is one, and the number 0 tells a value from a refusal.
 -- Assumes nothing.
+use Rattle.std.proofs.Common.{Result, Ok, Err}
 use Rattle.rules.proofs.Reasons.{refusal-is}
 use Rattle.rules.specs.Reasons.{refusal_of, number_of}
 use mathlib.Core.Path.{◌≡◌, refl, sym, ap, ◌∙◌}
@@ -177,7 +178,7 @@ listed = record { meaning = Table.meaning; tell = Ok; refuse = Err; flat = count
 abbrev written : Meant Permit.bytes Permit.refusal (Result ℕ Refusal) Counted
 written = record { meaning = Permit.meaning; tell = Ok; refuse = Err; flat = counted_bytes; says = λ a. (a.refusal, a.position); tells = λ v. refl; refuses = λ r. refl; zero = λ v. refl; named = λ n p. refl }
 
-abbrev header : Meant {X = Asked.Header} value refusal (Result Header Refusal) Heading
+abbrev header : Meant {X = Asked.Header} value refusal (Result Asked.Header Refusal) Heading
 header = record { meaning = meaning; tell = Ok; refuse = Err; flat = flat_heading; says = λ a. (a.refusal, a.position); tells = λ v. refl; refuses = λ r. refl; zero = λ v. refl; named = λ n p. refl }
 
 abbrev pub facts : Meant {X = Counts} value refusal (Result Counts Refusal) Facts
@@ -329,27 +330,27 @@ module _ (s : List ℕ) (b : Bytes s) where
   pub table-apart : (out out' : List ℤ) (a : Counted) → TableAnswers s out out' a → TakenApart s (Lists s out out') Err (λ c. counted_rows (Table.meaning c)) of_table (4 * length (listed_rows (R.judge s))) a.refusal a.position a
   table-apart out out' a x =
       by-meaning listed s (either-rows (Table.answer_of s (length out))) (λ c e. record { answer = e; buffer = x.holds }) x.answers (λ n p h. rw h)
-      (λ n p e. table-refuses s (length out) (refusal_of n p) (sym e))
+      (λ n p e. table-refuses s (length out) n p (sym e))
 
   pub turn-apart : (out out' : List ℕ) (a : Counted) → TurnAnswers s out out' a → TakenApart s (Turns s out out') Err (λ c. counted_bytes (Permit.meaning c)) of_turn (length s) a.refusal a.position a
   turn-apart out out' a x =
       by-meaning written s (either-bytes (Turn.answer_of s (length out))) (λ c e. record { answer = e; buffer = x.holds }) x.answers (λ n p h. rw h)
-      (λ n p e. turn-refuses s b (length out) (refusal_of n p) (sym e))
+      (λ n p e. turn-refuses s b (length out) n p (sym e))
 
   pub rewrite-apart : (order : ℕ) (out out' : List ℕ) (a : Counted) → RewriteAnswers s order out out' a → TakenApart s (Rewrites s order out out') Err (λ c. counted_bytes (Permit.meaning c)) of_rewrite (length (rewritten_in (lettered order) s)) a.refusal a.position a
   rewrite-apart order out out' a x =
       by-meaning written s (either-bytes (Rewrite.answer_of s order (length out))) (λ c e. record { answer = e; buffer = x.holds }) x.answers (λ n p h. rw h)
-      (λ n p e. rewrite-refuses s b order (length out) (refusal_of n p) (sym e))
+      (λ n p e. rewrite-refuses s b order (length out) n p (sym e))
 
   pub run-apart : (c : Sibling) (i j k first n : ℕ) (out out' : List (Element c)) (a : Counted) → RunAnswers c s i j k first n out out' a → TakenApart s (RunAnswer c s i j k first n out out') Err (λ d. flat_count (meaning d)) of_run n a.refusal a.position a
   run-apart c i j k first n out out' a x =
       by-meaning ran s (either (Runs.answer_of c s i j k first n (length out))) (λ d e. record { answer = e; buffer = x.holds }) x.answers (λ m p h. rw h)
-      (λ m p e. run-refuses s c i j k first n (length out) (refusal_of m p) (sym e))
+      (λ m p e. run-refuses s c i j k first n (length out) m p (sym e))
 
   pub index-apart : (out out' : List ℤ) (a : Counted) → IndexAnswers s out out' a → TakenApart s (Indexes s out out') Err (λ d. flat_count (meaning d)) of_table (5 * length (entries_of s (R.judge s))) a.refusal a.position a
   index-apart out out' a x =
       by-meaning indexed s (either (Index.answer_of s (length out))) (λ d e. record { answer = e; buffer = x.holds }) x.answers (λ m p h. rw h)
-      (λ m p e. index-refuses s (length out) (refusal_of m p) (sym e))
+      (λ m p e. index-refuses s (length out) m p (sym e))
 
   -- a question's refusals
   asked : {A : Type 0} {x : Answer A} → Proper s x → (n p : ℕ) → x ≡ refusal n p → Refuses of_question (length s) 0 n p

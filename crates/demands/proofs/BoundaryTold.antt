@@ -1,6 +1,5 @@
 -- Demands 2 and 3, of what C is answered: what the reading has, and the same of two files of which the rules say the same.
 -- Assumes nothing.
-use Rattle.rules.specs.Reasons.{number_of, refusal_of}
 use mathlib.Core.Path.{◌≡◌, refl, ap, ◌∙◌}
 use mathlib.Core.List.{List}
 use Prim.Native.Nat.{ℕ}
@@ -12,7 +11,6 @@ use Rattle.rules.specs.Rules as R
 use Rattle.rules.specs.Reading.{Value, ChannelReading, Reading, reading}
 use Rattle.rules.specs.declared.Version.{Version}
 use Rattle.rules.specs.declared.Form.{Form}
-use Rattle.rules.specs.declared.Refusal.{Refusal}
 use Rattle.records.specs.declared.items.Holder.TheVariants as Holder
 use Rattle.recordings.specs.Answers.{Answer, value, refusal}
 use Rattle.recordings.proofs.Chosen.{refusal-value}
@@ -55,20 +53,20 @@ alike-given refusals e = refusal-value e
 module _ {Y E A : Type 0} (l : Meant {X = Y} value refusal E A) {X : Type 0} {P : Y → X → Type 0} {a : A} (Holds : A → X → Type 0) where
   tells : {m : Answer Y} {x : Answer X} → a ≡ l.flat m → Alike P m x → ((y : Y) (u : X) → P y u → Holds (l.flat (value y)) u) → TellsC (Holds a) (l.says a).0 (l.says a).1 x
   tells e (values {a = y} {b = u} p) f = (ap (λ (z : A). (l.says z).0) e ∙ l.zero y, rw e (f y u p))
-  tells e (refusals {n} {p = q}) f = (ap (λ (z : A). (l.says z).0) e ∙ ap (λ (r : Refusal). r.0) (l.named n q), ap (λ (z : A). (l.says z).1) e ∙ ap (λ (r : Refusal). r.1) (l.named n q))
+  tells e (refusals {n} {p = q}) f = (ap (λ (z : A). (l.says z).0) e ∙ ap (λ (r : ℕ × ℕ). r.0) (l.named n q), ap (λ (z : A). (l.says z).1) e ∙ ap (λ (r : ℕ × ℕ). r.1) (l.named n q))
 
 -- the numbers of a version and of a form
 abbrev number_in : Version → ℕ
 number_in v = version_number (record { version = v; form = Form.Channels })
 
-abbrev number_of : Form → ℕ
-number_of f = form_number (record { version = Version.V300; form = f })
+abbrev form_in : Form → ℕ
+form_in f = form_number (record { version = Version.V300; form = f })
 
 -- what C is answered of a header
 heading-is : (o : Order) (g : Reading) {a : Heading} → a ≡ flat_heading (value (header_read o g)) → HeadingIs o g a
 unfolding R.decimal R.between R.all_spaces R.versioned R.formed
 heading-is o g x =
-    rw x (record { accepted = refl; spg = λ e. ap spelling_number e; psg = λ e. ap spelling_number e; v100 = λ e. ap number_in e; v110 = λ e. ap number_in e; v200 = λ e. ap number_in e; v300 = λ e. ap number_in e; channels = λ e. ap number_of e; electrodes = λ e. ap number_of e; order = refl; script = refl; recordings = refl })
+    rw x (record { accepted = refl; spg = λ e. ap spelling_number e; psg = λ e. ap spelling_number e; v100 = λ e. ap number_in e; v110 = λ e. ap number_in e; v200 = λ e. ap number_in e; v300 = λ e. ap number_in e; channels = λ e. ap form_in e; electrodes = λ e. ap form_in e; order = refl; script = refl; recordings = refl })
 
 -- An accepted file
 

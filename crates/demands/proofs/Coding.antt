@@ -1,5 +1,6 @@
 -- The question about the kind of a code, which needs no file: refused by 19 at 0 alone, answered for C by the same, and else the kind of document 02.
 -- Assumes nothing.
+use Rattle.std.proofs.Common.{Result, Ok, Err}
 use Rattle.rules.specs.Reasons.{refusal_of, number_of}
 use mathlib.Core.Path.{◌≡◌, refl, sym, ap, ◌∙◌}
 use mathlib.Core.Bool.{Bool, true, false}
@@ -10,7 +11,7 @@ use lib.Dec.{leb}
 use Rattle.walk.specs.Walk.{pick}
 use Rattle.walk.proofs.Apart.{zero_one}
 use Rattle.rules.specs.declared.Refusal.{Refusal}
-use Rattle.recordings.specs.Answers.{Answer, value, refusal, outside}
+use Rattle.recordings.specs.Answers.{Answer, value, refusal, outside, meaning}
 use Rattle.recordings.proofs.Chosen.{refusal-value}
 use Rattle.codes.specs.Codes.{kind_of, kind_told, KindAnswer}
 use Rattle.codes.specs.declared.EventKind.{EventKind}

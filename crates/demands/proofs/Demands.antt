@@ -1,5 +1,6 @@
 -- The three demands, of every list of bytes that a file is: `demand-1`, `demand-2`, `demand-3`. What they say stands in specs/Demands.
 -- Assumes nothing.
+use Rattle.std.proofs.Common.{Result, Ok, Err, Some}
 use Rattle.rules.specs.Reasons.{number_of, refusal_of}
 use Rattle.rules.specs.declared.Refusal.{Refusal}
 use mathlib.Core.Path.{◌≡◌, refl, sym, ap, ◌∙◌}
@@ -66,7 +67,7 @@ use Rattle.room.proofs.Growth.{no_longer}
 use Rattle.answers.specs.Flat.{counted_rows, counted_bytes, flat_heading, flat_count}
 use Rattle.answers.specs.declared.Counted.{Counted}
 use Rattle.psg.specs.Calls.{TableAnswers}
-use Rattle.demands.specs.Demands.{of_file, Demand-1, Accepted, HandsUp, TableHolds, IndexHolds, Tells, WrittenAnew, SufficesC, Reserved, Demand-2, header_read, in_other, SameEnd, SameNumbers, BoundarySame, Same, Demand-3}
+use Rattle.demands.specs.Demands.{of_file, Named, Demand-1, Accepted, HandsUp, TableHolds, IndexHolds, Tells, WrittenAnew, SufficesC, Reserved, Demand-2, header_read, in_other, SameEnd, SameNumbers, BoundarySame, Same, Demand-3}
 use Rattle.demands.specs.Demands.{track_in_other}
 use Rattle.demands.proofs.Agreeing.{agree-first, numbered-image}
 use Rattle.demands.proofs.Refusing.{of-file, header_refused, room-refused, table-refuses, table-keeps, turn-refuses, turn-keeps, rewrite-refuses, rewrite-keeps, index-refuses, index-keeps, question, proper-facts, proper-channel, proper-item, proper-clock, proper-place, proper-sample, proper-montage-count, proper-montage}
@@ -82,15 +83,15 @@ use Rattle.demands.proofs.BoundaryTold.{boundary-tells}
 
 pub demand-1 : (s : List ℕ) → Bytes s → Demand-1 s
 demand-1 s b = record {
-  judge = λ a x r i. of-file s of_file 0 (λ n h. h) r (rw i at x);
-  table = λ out out' a x r i. table-refuses s (length out) r (sym (ap Table.meaning i) ∙ x.answer);
+  judge = λ a x r i. of-file s of_file 0 (λ n h. h) (number_of r.0) r.1 (rw i at x);
+  table = λ out out' a x r i. table-refuses s (length out) (number_of r.0) r.1 (sym (ap Table.meaning i) ∙ x.answer);
   table_keeps = table-keeps s;
-  turn = λ out out' a x r i. turn-refuses s b (length out) r (sym (ap Permit.meaning i) ∙ x.answer);
+  turn = λ out out' a x r i. turn-refuses s b (length out) (number_of r.0) r.1 (sym (ap Permit.meaning i) ∙ x.answer);
   turn_keeps = turn-keeps s b;
-  rewrite = λ order out out' a x r i. rewrite-refuses s b order (length out) r (sym (ap Permit.meaning i) ∙ x.answer);
+  rewrite = λ order out out' a x r i. rewrite-refuses s b order (length out) (number_of r.0) r.1 (sym (ap Permit.meaning i) ∙ x.answer);
   rewrite_keeps = rewrite-keeps s;
-  room = λ a x r i. of-file s of_file 0 (λ n h. h) r (room-refused s r (sym (ap Permit.meaning i) ∙ x));
-  header = λ a x r i. of-file s of_file 0 (λ n h. h) r (header_refused s r (sym (ap meaning i) ∙ x));
+  room = λ a x r i. of-file s of_file 0 (λ n h. h) (number_of r.0) r.1 (room-refused s (number_of r.0) r.1 (sym (ap Permit.meaning i) ∙ x));
+  header = λ a x r i. of-file s of_file 0 (λ n h. h) (number_of r.0) r.1 (header_refused s (number_of r.0) r.1 (sym (ap meaning i) ∙ x));
   facts = λ i a x. question s meaning Err (λ r. refl) (proper-facts s i) a x;
   channel = λ i j a x. question s meaning Err (λ r. refl) (proper-channel s i j) a x;
   montage_count = λ i a x. question s meaning Err (λ r. refl) (proper-montage-count s i) a x;
@@ -102,9 +103,9 @@ demand-1 s b = record {
   track = λ i k a x. question s meaning Err (λ r. refl) (proper-track s i k) a x;
   part = λ file e p r x. shown file p r x;
   sample = λ i j k n a x. question s meaning Err (λ r. refl) (proper-sample s i j k n) a x;
-  run = λ c i j k first n out out' a x r e. run-refuses s c i j k first n (length out) r (sym (ap meaning e) ∙ x.answer);
+  run = λ c i j k first n out out' a x r e. run-refuses s c i j k first n (length out) (number_of r.0) r.1 (sym (ap meaning e) ∙ x.answer);
   run_keeps = run-keeps s;
-  index = λ out out' a x r i. index-refuses s (length out) r (sym (ap meaning i) ∙ x.answer);
+  index = λ out out' a x r i. index-refuses s (length out) (number_of r.0) r.1 (sym (ap meaning i) ∙ x.answer);
   index_keeps = index-keeps s;
   event_kind = λ c a x. kind-answered c (length s) a x;
   boundary = boundary s b;
@@ -113,25 +114,32 @@ demand-1 s b = record {
 -- Demand 2
 
 hands-up : (s : List ℕ) (n p : ℕ) → R.judge s ≡ refused n p → HandsUp s n p
-hands-up s n p h = record {
-  table = λ out out' a x. (table-unique s out out' out a _ x (lists-refused s out h)).0;
-  turn = λ out out' a x. (turn-unique s out out' out a _ x (turns-refused s out h)).0;
-  rewrite = λ order out out' a x. (rewrite-unique s order out out' out a _ x (rewrites-refused s order out h)).0;
-  room = λ a x. room-unique s a _ x (rw h);
-  header = λ a x. header-unique s a _ x (rw h);
-  facts = λ i a x. facts-unique s i a _ x (rw h);
-  channel = λ i j a x. channel-unique s i j a _ x (rw h);
-  montage_count = λ i a x. montage-count-unique s i a _ x (rw h);
-  montage = λ i j a x. montage-unique s i j a _ x (rw h);
-  patient_item = λ i j a x. patient-item-unique s i j a _ x (rw h);
-  event_item = λ i j a x. event-item-unique s i j a _ x (rw h);
-  clock = λ i j a x. clock-unique s i j a _ x (rw h);
-  place = λ i j k a x. place-unique s i j k a _ x (rw h);
-  track = λ i k a x. track-unique s i k a _ x (rw h);
-  sample = λ i j k m a x. sample-unique s i j k m a _ x (rw h);
-  run = λ c i j k first m out out' a x. (run-unique c s i j k first m out out' out a _ x (runs-refused c s i j k first m out {m = n} {p = p} (rw h))).0;
-  index = λ out out' a x. (index-unique s out out' out a _ x (indexes-refused s out h)).0;
-}
+hands-up s n p h = handed (of-file s of_file 0 (λ n h. h) n p h).named
+  where
+    handed : Named n → HandsUp s n p
+    handed named =
+        let u = refusal_of n p in
+        let h' : R.judge s ≡ refused (number_of u.0) u.1 = h ∙ ap (λ (k : ℕ). refused k p) (sym named) in
+        record {
+          named = named;
+          table = λ out out' a x. (table-unique s out out' out a _ x (lists-refused s out u h')).0;
+          turn = λ out out' a x. (turn-unique s out out' out a _ x (turns-refused s out u h')).0;
+          rewrite = λ order out out' a x. (rewrite-unique s order out out' out a _ x (rewrites-refused s order out u h')).0;
+          room = λ a x. room-unique s a (Err u) x (rw h');
+          header = λ a x. header-unique s a (Err u) x (rw h');
+          facts = λ i a x. facts-unique s i a (Err u) x (rw h');
+          channel = λ i j a x. channel-unique s i j a (Err u) x (rw h');
+          montage_count = λ i a x. montage-count-unique s i a (Err u) x (rw h');
+          montage = λ i j a x. montage-unique s i j a (Err u) x (rw h');
+          patient_item = λ i j a x. patient-item-unique s i j a (Err u) x (rw h');
+          event_item = λ i j a x. event-item-unique s i j a (Err u) x (rw h');
+          clock = λ i j a x. clock-unique s i j a (Err u) x (rw h');
+          place = λ i j k a x. place-unique s i j k a (Err u) x (rw h');
+          track = λ i k a x. track-unique s i k a (Err u) x (rw h');
+          sample = λ i j k m a x. sample-unique s i j k m a (Err u) x (rw h');
+          run = λ c i j k first m out out' a x. (run-unique c s i j k first m out out' out a _ x (runs-refused c s i j k first m out u (rw h'))).0;
+          index = λ out out' a x. (index-unique s out out' out a _ x (indexes-refused s out u h')).0;
+        }
 
 described : (s : List ℕ) {v : R.File} {t : List Event} → Accepted s v t → (out out' : List ℤ) (a : Result ℕ Refusal) → 4 * length (rows 0 t) ≤ length out → Lists s out out' a → TableHolds Ok (rows 0 t) out' a
 described s {v} {t} h out out' a room x =
@@ -199,7 +207,7 @@ module _ (s : List ℕ) (b : Bytes s) {v : R.File} {t : List Event} (h : Accepte
   boundary-suffices : (n : ℕ) → ((to : Order) → length (rewritten to s) ≤ n) → SufficesC s n
   boundary-suffices n k order out out' a l x e =
       let y = rewrite-apart s b order out out' a x in
-      rewrite-enough s n k order out out' y.told l y.met (refusal_of a.refusal a.position) (y.refused (omega (arith, e))) e
+      rewrite-enough s n k order out out' y.told l y.met (refusal_of a.refusal a.position) (y.refused (omega (arith, e))) ((y.proper (omega (arith, e))).named ∙ e)
 
   room-reserved : Reserved s v
   room-reserved = record {
@@ -217,8 +225,8 @@ pub demand-2 : (s : List ℕ) → Bytes s → Demand-2 s
 demand-2 s b = record {
   judges = λ a x. record {
     accepts = λ v t h. judge-accepted s a x h;
-    refuses = λ n p h. judge-refused s a x h;
-    refused = λ n p i. rw i at x;
+    refuses = λ n p h. ((of-file s of_file 0 (λ n h. h) n p h).named, judge-refused s a x h);
+    refused = λ r i. rw i at x;
   };
   accepted = λ a x h i. rw i at x;
   refuses = hands-up s;

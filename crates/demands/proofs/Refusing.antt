@@ -1,5 +1,7 @@
 -- Demand 1: which refusals each call can give, and what it leaves of a buffer.
 -- Assumes nothing.
+use Rattle.words.specs.declared.Order.{Order}
+use Rattle.std.proofs.Common.{Result, Ok, Err, Some, None}
 use Rattle.rules.proofs.Reasons.{number-again}
 use Rattle.rules.specs.Reasons.{number_of}
 use Rattle.std.specs.Prelude as Std
@@ -31,7 +33,7 @@ use Rattle.header.specs.Letters.{lettered}
 use Rattle.rows.specs.Rows as Rows
 use Rattle.table.specs.Table as Table
 use Rattle.table.proofs.Answers.{rows-refusal}
-use Rattle.recordings.specs.Answers.{Answer, value, refusal, ◌>>=◌, indexed, numbered}
+use Rattle.recordings.specs.Answers.{meaning, Answer, value, refusal, ◌>>=◌, indexed, numbered}
 use Rattle.recordings.specs.Recordings.{judged, recording_of}
 use Rattle.recordings.proofs.Chosen.{in_between, refusal-value}
 use Rattle.samples.specs.Frames.{frame_of, format_of, samples_of}
@@ -248,7 +250,7 @@ module _ {A E M : Type 0} (numbers : A → List ℤ) (n : ℕ) (each : (a : A) �
       let room : n * length xs ≤ length out = leb-true _ _ r in
       let same : (m : ℕ) → a ≡ tell m → m ≡ length xs = λ m i. one m (length xs) (sym (tells m) ∙ sym (ap meaning i) ∙ h) in
       record {
-        refused = λ u i. absurd (apart (length xs) u.0 u.1 (sym h ∙ ap meaning i ∙ refuses u));
+        refused = λ u i. absurd (apart (length xs) (number_of u.0) u.1 (sym h ∙ ap meaning i ∙ refuses u));
         fits = λ m i. rw (same m i) room;
         beyond = λ m i. rw (e, same m i) (written-beyond numbers n each out xs);
         long = ap length e ∙ length-written numbers n each true out 0 xs (λ _. omega arith);

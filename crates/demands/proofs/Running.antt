@@ -1,7 +1,8 @@
 -- Demands 1 and 2, of a run of samples: its refusals, what it leaves of the buffer, what the reading has of it, and each entry as the question about that
 -- sample answers it. Once over the two calls.
 -- Assumes nothing.
-use Rattle.rules.specs.Reasons.{number_of}
+use Rattle.samples.specs.declared.Number.{Number}
+use Rattle.std.proofs.Common.{Result, Ok, Err}
 use mathlib.Core.Path.{◌≡◌, refl, sym, ap, ◌∙◌}
 use mathlib.Core.Bool.{Bool, true, false, ◌&&◌, ◌||◌}
 use mathlib.Core.List.{List, ◌++◌, map}
@@ -19,7 +20,7 @@ use Rattle.walk.proofs.Seen.{and_right}
 use Rattle.rules.specs.Reading.{Value, float, channel_reading, recording_reading, reading}
 use Rattle.rules.specs.Rules as R
 use Rattle.rules.specs.declared.Refusal.{Refusal}
-use Rattle.recordings.specs.Answers.{Answer, value, refusal, ◌>>=◌, outside, indexed}
+use Rattle.recordings.specs.Answers.{meaning, Answer, value, refusal, ◌>>=◌, outside, indexed}
 use Rattle.recordings.proofs.Chosen.{refusal-value, indexed-in, answered}
 use Rattle.samples.specs.Frames.{format_of, Samples, samples_of, number_in}
 use Rattle.samples.specs.Placed.{place_of, bytes_of, values_of}
@@ -28,7 +29,7 @@ use Rattle.samples.proofs.Placing.{values-many}
 use Rattle.questions.specs.Promised.{SampleAnswer}
 use Rattle.questions.specs.Tied.{channel_read}
 use Rattle.questions.proofs.Unique.{sample-unique}
-use Rattle.runs.specs.Runs.{Element, element_of, serves, run_within, place_from, run_of, counted, holding, meaning, answer_of, RunAnswer}
+use Rattle.runs.specs.Runs.{Element, element_of, serves, run_within, place_from, run_of, counted, holding, answer_of, RunAnswer}
 use Rattle.runs.proofs.Asked.{as_before}
 use Rattle.runs.specs.declared.Sibling.{Sibling}
 use Rattle.demands.specs.Demands.{of_file, of_question, of_run, Refuses, KeepsRest, Accepted, Agree, values, refusals, run_read, EntryTells}
@@ -62,22 +63,22 @@ module _ (s : List ℕ) (b : Sibling) (i j k first n : ℕ) where
       go vs true = tt
       go vs false = proper-outside s
 
-  pub run-refuses : (room : ℕ) (r : Refusal) → refusal (number_of r.0) r.1 ≡ answer_of b s i j k first n room → Refuses of_run (length s) n (number_of r.0) r.1
-  run-refuses room r h = go (run_of b s i j k first n) proper-run h
+  pub run-refuses : (room o q : ℕ) → refusal o q ≡ answer_of b s i j k first n room → Refuses of_run (length s) n o q
+  run-refuses room o q h = go (run_of b s i j k first n) proper-run h
     where
-      wider : Refuses of_question (length s) 0 (number_of r.0) r.1 → Refuses of_run (length s) n (number_of r.0) r.1
-      wider x = record { number = also r.0 x.number; nonzero = x.nonzero; file = x.file; maker = x.maker; room = λ e. absurd (no-seventeen (rw e at x.number)); range = x.range }
+      wider : Refuses of_question (length s) 0 o q → Refuses of_run (length s) n o q
+      wider x = record { number = also o x.number; named = x.named; nonzero = x.nonzero; file = x.file; maker = x.maker; room = λ e. absurd (no-seventeen (rw e at x.number)); range = x.range }
 
-      go : (x : Answer (List Value)) → Proper s x → refusal (number_of r.0) r.1 ≡ counted n room x → Refuses of_run (length s) n (number_of r.0) r.1
+      go : (x : Answer (List Value)) → Proper s x → refusal o q ≡ counted n room x → Refuses of_run (length s) n o q
       go (refusal m p) y h =
-          let e : r.0 ≡ m = cc in
-          let f : r.1 ≡ p = cc in
+          let e : o ≡ m = cc in
+          let f : q ≡ p = cc in
           wider (rw (← e, ← f) at y)
       go (value vs) y h = room_for (leb n room) h
         where
-          room_for : (c : Bool) → refusal (number_of r.0) r.1 ≡ pick c (value n) (refusal 17 n) → Refuses of_run (length s) n (number_of r.0) r.1
+          room_for : (c : Bool) → refusal o q ≡ pick c (value n) (refusal 17 n) → Refuses of_run (length s) n o q
           room_for true h = refusal-value h
-          room_for false h = short of_run (length s) n r (or_right (of_file 17) refl) (cc) (cc)
+          room_for false h = short of_run (length s) n o q (or_right (of_file 17) refl) (cc) (cc)
 
 -- Where a run is answered: so many samples, and inside
 

@@ -2,6 +2,8 @@
 -- `ensures` cites, in Rattle and (`boundary`) for C; that each call ends, for every input, is the language's own check. `proofs/Demands.antt` proves them of
 -- every list of bytes.
 -- Assumes nothing.
+use Rattle.questions.specs.declared.channels.Wired.{Wired}
+use Rattle.std.specs.Prelude.{Result, Ok, Err, Some}
 use Rattle.rules.specs.Reasons.{number_of, reason_of, refusal_of}
 use Rattle.std.specs.Prelude.{◌≡◌, Bool, true, ◌||◌, List, [], ℕ, ◌+◌, ◌*◌, ◌≤◌, ◌<◌, eqb, ℤ, length, take, drop}
 use Rattle.std.proofs.Math.Option.{none}
@@ -30,7 +32,6 @@ use Rattle.table.specs.Table as Table
 use Rattle.table.specs.Table.{Lists}
 use Rattle.recordings.specs.Answers.{Answer, value, refusal, ◌>>=◌, indexed, meaning}
 use Rattle.recordings.specs.declared.Counts.{Counts}
-use Rattle.codes.specs.Codes as Codes
 use Rattle.codes.specs.Codes.{KindAnswer, KindIs}
 use Rattle.codes.specs.declared.EventKind.{EventKind}
 use Rattle.samples.specs.Placed.{PartAnswer, values_at}
@@ -264,7 +265,7 @@ pub record Demand-1 (s : List ℕ) : Type 0 where
   -- the room for it: only the file is refused
   pub room : (a : Result ℕ Refusal) → RoomAnswer s a → Answered Err of_file (length s) 0 a
   -- the questions; about the header only the file is refused
-  pub header : (a : Result Header Refusal) → HeaderAnswer s a → Answered Err of_file (length s) 0 a
+  pub header : (a : Result Asked.Header Refusal) → HeaderAnswer s a → Answered Err of_file (length s) 0 a
   pub facts : (i : ℕ) (a : Result Counts Refusal) → FactsAnswer s i a → Answered Err of_question (length s) 0 a
   pub channel : (i j : ℕ) (a : Result Descriptor Refusal) → ChannelAnswer s i j a → Answered Err of_question (length s) 0 a
   pub montage_count : (i : ℕ) (a : Result ℕ Refusal) → MontageCountAnswer s i a → Answered Err of_question (length s) 0 a
@@ -318,7 +319,7 @@ pub record HandsUp (s : List ℕ) (n p : ℕ) : Type 0 where
   pub turn : (out out' : List ℕ) (a : Result ℕ Refusal) → Turns s out out' a → a ≡ Err (refusal_of n p)
   pub rewrite : (order : ℕ) (out out' : List ℕ) (a : Result ℕ Refusal) → Rewrites s order out out' a → a ≡ Err (refusal_of n p)
   pub room : (a : Result ℕ Refusal) → RoomAnswer s a → a ≡ Err (refusal_of n p)
-  pub header : (a : Result Header Refusal) → HeaderAnswer s a → a ≡ Err (refusal_of n p)
+  pub header : (a : Result Asked.Header Refusal) → HeaderAnswer s a → a ≡ Err (refusal_of n p)
   pub facts : (i : ℕ) (a : Result Counts Refusal) → FactsAnswer s i a → a ≡ Err (refusal_of n p)
   pub channel : (i j : ℕ) (a : Result Descriptor Refusal) → ChannelAnswer s i j a → a ≡ Err (refusal_of n p)
   pub montage_count : (i : ℕ) (a : Result ℕ Refusal) → MontageCountAnswer s i a → a ≡ Err (refusal_of n p)
@@ -423,7 +424,7 @@ pub record PartIs (g : Reading) (i j k : ℕ) (file : Bor (List ℕ)) (p : Place
 
 -- each question about a file with this reading answers what the reading says
 pub record Tells (s : List ℕ) (g : Reading) : Type 0 where
-  pub header : (a : Result Header Refusal) → HeaderAnswer s a → meaning a ≡ value (header_read (R.order_of s) g)
+  pub header : (a : Result Asked.Header Refusal) → HeaderAnswer s a → meaning a ≡ value (header_read (R.order_of s) g)
   pub facts : (i : ℕ) (a : Result Counts Refusal) → FactsAnswer s i a → meaning a ≡ (recording_read g i >>= λ r. value (counts_in r))
   pub channel : (i j : ℕ) (a : Result Descriptor Refusal) → ChannelAnswer s i j a → Agree DescriptorTells (channel_read g i j) (meaning a)
   -- the bytes that a text names lie in the file, and are the reading's text
@@ -714,7 +715,7 @@ pub record Same (s : List ℕ) (g : Reading) (s' : List ℕ) : Type 0 where
   -- the same room for a rewrite
   pub room : (a b : Result ℕ Refusal) → RoomAnswer s a → RoomAnswer s' b → a ≡ b
   -- the same answer to each question; to those about the header and a track but for the order
-  pub header : (a b : Result Header Refusal) → HeaderAnswer s a → HeaderAnswer s' b → (h : Asked.Header) × (a ≡ Ok h) × (b ≡ Ok (in_other h))
+  pub header : (a b : Result Asked.Header Refusal) → HeaderAnswer s a → HeaderAnswer s' b → (h : Asked.Header) × (a ≡ Ok h) × (b ≡ Ok (in_other h))
   pub facts : (i : ℕ) (a b : Result Counts Refusal) → FactsAnswer s i a → FactsAnswer s' i b → a ≡ b
   pub channel : (i j : ℕ) (a b : Result Descriptor Refusal) → ChannelAnswer s i j a → ChannelAnswer s' i j b → a ≡ b
   pub montage_count : (i : ℕ) (a b : Result ℕ Refusal) → MontageCountAnswer s i a → MontageCountAnswer s' i b → a ≡ b

@@ -1,5 +1,7 @@
 -- One answer and one buffer meet the contract of `rewrite`; and what `rewrite` answers and writes of an accepted file, on which demands 2 and 3 (crate `demands`) rest.
 -- Assumes nothing.
+use Rattle.std.proofs.Common.{Result, Ok, Some}
+use Rattle.rules.specs.declared.Refusal.{Refusal}
 use mathlib.Core.Path.{◌≡◌, refl, sym, ap, ◌∙◌}
 use mathlib.Core.Bool.{Bool, true, false}
 use mathlib.Core.List.{List, []}
@@ -17,26 +19,24 @@ use Rattle.rules.specs.Turned.{turned}
 use Rattle.rules.proofs.Rewrite.{rewrite-canonical, rewrite-order, rewrite-turned}
 use Rattle.rules.proofs.Turn.{turn-judge}
 use Rattle.header.specs.Letters.{lettered}
-use Rattle.header.specs.declared.Lettered.TheVariants as Lettered
 use Rattle.bodies.specs.Orders.{same_order}
 use Rattle.makers.specs.Makers.{first_maker}
-use Rattle.permit.specs.declared.Written.{Written}
 use Rattle.permit.proofs.Settled.{writes-unique, writes_bytes}
 use Rattle.turn.specs.Turn.{Turns}
 use Rattle.turn.proofs.Demands.{turn-answers}
 use Rattle.rewrite.specs.Rewrite.{barrier, answer_of, rewritten_in, Rewrites}
 
-pub rewrite-unique : (s : List ℕ) (order : ℕ) (out out₁ out₂ : List ℕ) (a b : Written) → Rewrites s order out out₁ a → Rewrites s order out out₂ b → (a ≡ b) × (out₁ ≡ out₂)
+pub rewrite-unique : (s : List ℕ) (order : ℕ) (out out₁ out₂ : List ℕ) (a b : Result ℕ Refusal) → Rewrites s order out out₁ a → Rewrites s order out out₂ b → (a ≡ b) × (out₁ ≡ out₂)
 rewrite-unique s order out out₁ out₂ a b x y = writes-unique (answer_of s order (length out)) (rewritten_in (lettered order) s) out out₁ out₂ a b x y
 
 -- a file that is accepted, a letter that names an order, nothing in the way, and a buffer with room
-module _ (s : List ℕ) {v : File} {t : List Event} (h : judge s ≡ passed v [] t) (order : ℕ) (to : Order) (names : lettered order ≡ Lettered.Names to) (free : barrier (order_of s) to (first_maker (rows 0 t)) ≡ none) where
+module _ (s : List ℕ) {v : File} {t : List Event} (h : judge s ≡ passed v [] t) (order : ℕ) (to : Order) (names : lettered order ≡ Some to) (free : barrier (order_of s) to (first_maker (rows 0 t)) ≡ none) where
   abbrev need : ℕ
   need = length (rewritten to s)
 
-  module _ (out out' : List ℕ) (a : Written) (room : need ≤ length out) (x : Rewrites s order out out' a) where
+  module _ (out out' : List ℕ) (a : Result ℕ Refusal) (room : need ≤ length out) (x : Rewrites s order out out' a) where
     -- the answer is the canonical file's length, what was written is the canonical file, and the bytes beyond it stand
-    pub rewrite-answers : (a ≡ Written.Bytes need) × (take need out' ≡ rewritten to s) × (drop need out' ≡ drop need out)
+    pub rewrite-answers : (a ≡ Ok need) × (take need out' ≡ rewritten to s) × (drop need out' ≡ drop need out)
     rewrite-answers = writes_bytes need (rewritten to s) out out' a refl (rw (h, names, free, le-leb need (length out) room) at x)
 
     -- what was written is accepted, has the file's reading and is the canonical file of it, in the order asked for
@@ -53,10 +53,10 @@ clear o to {m} h = go (same_order o to)
 
 -- a file without makers' records and what `turn` wrote of it, rewritten in one order, give one answer and the same bytes
 pub rewrite-both : (s : List ℕ) → Bytes s → {v : File} {t : List Event} (h : judge s ≡ passed v [] t) (free : first_maker (rows 0 t) ≡ none) →
-    (out out' : List ℕ) (a : Written) → length s ≤ length out → Turns s out out' a →
-    (order : ℕ) (to : Order) → lettered order ≡ Lettered.Names to →
-    (out₁ out₁' : List ℕ) (a₁ : Written) → length (rewritten to s) ≤ length out₁ → Rewrites s order out₁ out₁' a₁ →
-    (out₂ out₂' : List ℕ) (a₂ : Written) → length (rewritten to s) ≤ length out₂ → Rewrites (take (length s) out') order out₂ out₂' a₂ →
+    (out out' : List ℕ) (a : Result ℕ Refusal) → length s ≤ length out → Turns s out out' a →
+    (order : ℕ) (to : Order) → lettered order ≡ Some to →
+    (out₁ out₁' : List ℕ) (a₁ : Result ℕ Refusal) → length (rewritten to s) ≤ length out₁ → Rewrites s order out₁ out₁' a₁ →
+    (out₂ out₂' : List ℕ) (a₂ : Result ℕ Refusal) → length (rewritten to s) ≤ length out₂ → Rewrites (take (length s) out') order out₂ out₂' a₂ →
     (a₁ ≡ a₂) × (take (length (rewritten to s)) out₁' ≡ take (length (rewritten to s)) out₂')
 rewrite-both s b h free out out' a room x order to names out₁ out₁' a₁ l₁ x₁ out₂ out₂' a₂ l₂ x₂ =
     let e : take (length s) out' ≡ turned s = (turn-answers s h free b out out' a room x).1 in
@@ -64,4 +64,4 @@ rewrite-both s b h free out out' a room x order to names out₁ out₁' a₁ l�
     let n : length (rewritten to (turned s)) ≡ length (rewritten to s) = ap length k in
     let y = rewrite-answers s h order to names (clear (order_of s) to free) out₁ out₁' a₁ l₁ x₁ in
     let z = rewrite-answers (turned s) (turn-judge s b h) order to names (clear (order_of (turned s)) to free) out₂ out₂' a₂ (rw n l₂) (rw e at x₂) in
-    (y.0 ∙ sym (z.0 ∙ ap Written.Bytes n), y.1 ∙ sym (rw n at z.1 ∙ k))
+    (y.0 ∙ sym (z.0 ∙ ap Ok n), y.1 ∙ sym (rw n at z.1 ∙ k))

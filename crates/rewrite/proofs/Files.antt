@@ -1,5 +1,8 @@
 -- All recordings of a file: how much of their canonical form is counted, or written, when one more of them is passed.
 -- Assumes nothing.
+use Rattle.measures.specs.declared.Measure.{Measure}
+use Rattle.std.proofs.Common.{Some, None}
+use Rattle.std.specs.Prelude as Std
 use mathlib.Core.Path.{◌≡◌, sym, ap, ◌∙◌}
 use mathlib.Core.List.{List, [], ◌∷◌, ◌++◌, map, append_assoc, append-nil}
 use mathlib.Core.Option.{Option}
@@ -15,14 +18,12 @@ use Rattle.rules.specs.Rules as R
 use Rattle.rules.specs.declared.Label.{Label}
 use Rattle.rules.specs.Canonical as C
 use Rattle.rules.proofs.Canon.{recording-size}
-use Rattle.descriptions.specs.declared.Before.{Before}
 use Rattle.descriptions.specs.declared.Places.{Places}
 use Rattle.children.proofs.Again.{Next}
 use Rattle.bodies.specs.Copy.{Pastes}
 use Rattle.turn.proofs.Sent.{AfterHeader, after_more}
 use Rattle.measures.specs.Measures.{MeasureOf, MeasureBounds, Each, Given, length_in, behind_head}
 use Rattle.measures.specs.declared.Sized.{Sized}
-use Rattle.measures.specs.declared.Measured.{Measured}
 use Rattle.rewrite.specs.RecordingsAnew.{AcceptedAt, MeasuredAt, length_anew}
 
 -- the canonical events of recordings that the walk read, with the serials from i on
@@ -38,14 +39,14 @@ unfolding C.recording_events
 one_size label i r = rw append-nil (recording-size label i r)
 
 -- and as its measure says
-given-size : (label : Label) (a : Measured) (i : ℕ) (x : R.Placed) → Given a (λ f. MeasureOf label f x) → length_in a ≡ size (events_one label i x)
-given-size label (Measured.On f) i x g = ap (λ (z : Sized). z.length) g.whole ∙ sym (one_size label i x.recording)
-given-size label Measured.Nothing i x g = absurd g
+given-size : (label : Label) (a : Std.Option Measure) (i : ℕ) (x : R.Placed) → Given a (λ f. MeasureOf label f x) → length_in a ≡ size (events_one label i x)
+given-size label (Some f) i x g = ap (λ (z : Sized). z.length) g.whole ∙ sym (one_size label i x.recording)
+given-size label None i x g = absurd g
 
 -- no measure asks for more
-pub length_most : (n : ℕ) (a : Measured) → Each a (MeasureBounds n) → length_in a < 549755813888
-length_most n (Measured.On f) b = b.most
-length_most n Measured.Nothing b = omega arith
+pub length_most : (n : ℕ) (a : Std.Option Measure) → Each a (MeasureBounds n) → length_in a < 549755813888
+length_most n (Some f) b = b.most
+length_most n None b = omega arith
 
 -- one more behind those that are passed
 events-last : (label : Label) (i : ℕ) (ps : List R.Placed) (x : R.Placed) → events_of label i (ps ++ (x ∷ [])) ≡ events_of label i ps ++ events_one label (i + length ps) x
@@ -56,15 +57,15 @@ events-last label i (p ∷ ps) x =
     rw (events-last label (suc i) ps x, n) (sym (append_assoc (C.record_of (C.recording_head label i p.recording) (behind_head label p.recording)) (events_of label (suc i) ps) (events_one label (i + suc (length ps)) x)))
 
 -- what the code finds again is accepted there
-accepted : {o : Order} {label : Label} {s : List ℕ} {p i : ℕ} {before : Before} {held : Option R.Held} {q : Places} {x : R.Placed} → Next o label s p i before held q x → AcceptedAt o label s p (i + 1) q held x
+accepted : {o : Order} {label : Label} {s : List ℕ} {p i : ℕ} {before : Std.Option Places} {held : Option R.Held} {q : Places} {x : R.Placed} → Next o label s p i before held q x → AcceptedAt o label s p (i + 1) q held x
 accepted n = record { went = n.is; channels = n.stands; frames = ap (λ (j : Places). j.frames) n.same }
 
-module _ {o : Order} {label : Label} {s : List ℕ} {p i : ℕ} {before : Before} {held : Option R.Held} {q : Places} {x : R.Placed} (done : List R.Placed) (many : length done ≡ i) (n : Next o label s p i before held q x) where
+module _ {o : Order} {label : Label} {s : List ℕ} {p i : ℕ} {before : Std.Option Places} {held : Option R.Held} {q : Places} {x : R.Placed} (done : List R.Placed) (many : length done ≡ i) (n : Next o label s p i before held q x) where
   events-more : events_of label 1 (done ++ (x ∷ [])) ≡ events_of label 1 done ++ events_one label (i + 1) x
   events-more = let m : 1 + length done ≡ i + 1 = omega arith in rw m at (events-last label 1 done x)
 
   -- the file header and the recordings that are passed are counted
-  pub counted_next : {sum : ℕ} (m : ℕ) (a : Measured) → MeasuredAt o label s p q a → m ≡ length_in a → sum ≡ length_anew label done → sum + m ≡ length_anew label (done ++ (x ∷ []))
+  pub counted_next : {sum : ℕ} (m : ℕ) (a : Std.Option Measure) → MeasuredAt o label s p q a → m ≡ length_in a → sum ≡ length_anew label done → sum + m ≡ length_anew label (done ++ (x ∷ []))
   counted_next m a g e h =
       let z : length_in a ≡ size (events_one label (i + 1) x) = given-size label a (i + 1) x (g.told held (i + 1) x (accepted n)) in
       omega (arith, h, e, z, ap size events-more, size-append (events_of label 1 done) (events_one label (i + 1) x))

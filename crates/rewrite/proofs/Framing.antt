@@ -256,10 +256,6 @@ module _ (w : Way) (file : List ℕ) (cs : Channels) (t filled size count : ℕ)
       }
 
   module _ {n : ℕ} {d : List ℕ} {from k i : ℕ} (q : Framing n d from k i) where
-    -- both have room for the next frame
-    pub framing-room : i < count → (from + size ≤ length s) × (k + filled ≤ length d)
-    framing-room f = ((room-more from size count i (length s) f q.source).0, rw q.long (room-more k filled count i n f q.target).0)
-
     -- m and m' are the lengths of the parts that are lent
     pub framing-more : (m m' : ℕ) (ys : List ℕ) → i < count → filled ≤ size → m ≡ filled → m' ≡ filled → length (put k m' d ys) ≡ length d →
         FrameAnew w file (take m (drop from s)) ys cs t (i + 1) →

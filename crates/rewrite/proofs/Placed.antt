@@ -1,19 +1,19 @@
 -- A recording that is written anew: its canonical form is its head and what stands behind it, as long as its measure says, and it stands where the code wrote the two.
 -- Assumes nothing.
+use Rattle.std.proofs.Common.{Some}
 use mathlib.Core.Path.{◌≡◌, sym, ap, ◌∙◌}
 use mathlib.Core.Bool.{false}
 use mathlib.Core.List.{List, [], ◌∷◌, ◌++◌, append-nil}
 use mathlib.Core.Option.{Option}
-use Prim.Native.Nat.{ℕ, ◌+◌, ◌-◌, ◌≤◌}
+use Prim.Native.Nat.{ℕ, ◌+◌, ◌≤◌}
 use native.Mathlib.Omega.{arith}
-use lib.ListN.{length, take, drop, length-append}
+use lib.ListN.{length, length-append}
 use Rattle.words.specs.declared.Order.{Order}
 use Rattle.words.specs.Runs.{pasted}
 use Rattle.words.proofs.Fronts.{put}
 use Rattle.words.proofs.Runs.{part-pasted, pasted-pasted}
 use Rattle.walk.specs.Walk.{Event, render, size}
 use Rattle.walk.proofs.Laws.{length-render}
-use Rattle.walk.proofs.Seen.{body-length}
 use Rattle.rules.specs.Rules as R
 use Rattle.rules.specs.declared.Label.{Label}
 use Rattle.rules.specs.Canonical as C
@@ -27,7 +27,6 @@ use Rattle.bodies.specs.declared.Way.{Way}
 use Rattle.measures.specs.Measures.{sized_for, behind_head}
 use Rattle.measures.specs.declared.Sized.{Sized}
 use Rattle.measures.specs.declared.Measure.{Measure}
-use Rattle.measures.specs.declared.Measured.TheVariants as Measured
 use Rattle.rewrite.specs.RecordingsAnew.{AcceptedAt, body_in, MeasuredAt, BodyAnew}
 use Rattle.rewrite.proofs.Framing.{render-record}
 
@@ -75,13 +74,9 @@ module _ (o : Order) (label : Label) (i : ℕ) (r : R.Recording) where
     recording-placed out ys zs k n m f g l p q =
         rw in_two (record-placed o _ _ out ys zs k n m w.length f g l (omega (arith, behind-length o label r, ap (λ (x : Sized). x.length) e)) (p ∙ ap (λ (x : Sized). render o (C.numerals (record { size = x.size; code = 10; serial = i; multiplier = x.multiplier }))) e) q)
 
--- the room behind the head of a record of n bytes at byte k
-pub room-behind : (d : List ℕ) (k n : ℕ) → 16 ≤ n → k + n ≤ length d → 16 + length (take (k + n - (k + 16)) (drop (k + 16) d)) ≡ n
-room-behind d k n f g = body-length k (k + n) d (omega arith) g ∙ omega arith
-
 -- the recording from byte p of the file on, of the measure f: the code wrote its head, and its body as a part of the file
 module _ (w : Way) (file : List ℕ) (p i : ℕ) (q : Places) (f : Measure) where
-  pub recording-written : (out ys zs : List ℕ) (k n m : ℕ) → n ≡ 16 → 16 + m ≡ f.whole.length → k ≤ length out → MeasuredAt w.from w.label file p q (Measured.On f) →
+  pub recording-written : (out ys zs : List ℕ) (k n m : ℕ) → n ≡ 16 → 16 + m ≡ f.whole.length → k ≤ length out → MeasuredAt w.from w.label file p q (Some f) →
       ys ≡ render w.to (C.numerals (record { size = f.whole.size; code = 10; serial = i; multiplier = f.whole.multiplier })) →
       BodyAnew w file (body_in file p q) zs (subs_at q.channels q.count) f (p + 16) →
       w.keep ≡ false → (held : Option R.Held) (x : R.Placed) → AcceptedAt w.from w.label file p i q held x →

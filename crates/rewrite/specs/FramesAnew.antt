@@ -1,5 +1,6 @@
 -- A 140 and its frames, written anew: what the code asks for, and what it then writes.
 -- Assumes nothing.
+use Rattle.std.specs.Prelude as Std
 use Rattle.std.specs.Prelude.{◌≡◌, false, List, ℕ, ◌+◌, ◌*◌, ◌≤◌, ◌<◌, length}
 use Rattle.std.proofs.Math.Option.{Option}
 use Rattle.walk.specs.Walk.{Event, render}
@@ -10,12 +11,11 @@ use Rattle.rules.specs.declared.Channels.{Channels}
 use Rattle.records.specs.Says.{ChannelsIn, ChannelsStand}
 use Rattle.bodies.specs.Copy.{widths_in, Pastes}
 use Rattle.bodies.specs.declared.Way.{Way}
-use Rattle.bodies.specs.declared.Widths.{Widths}
 use Rattle.measures.specs.Measures.{MeasureOf, MeasureIn, MeasureBounds, FramesSay, FrameIn}
 use Rattle.measures.specs.declared.Measure.{Measure}
 
 -- s is a frame up to its padding, d has as much room, and the samples' widths are those of the subs at cs
-pub record FrameFits (w : Way) (file s d : List ℕ) (cs : Channels) (widths : Widths) (t : ℕ) : Type 0 where
+pub record FrameFits (w : Way) (file s d : List ℕ) (cs : Channels) (widths : Std.Option ℕ) (t : ℕ) : Type 0 where
   pub channels : cs.subs + 256 * cs.count ≤ length file
   pub seconds : t ≤ 3600
   pub least : 24 ≤ length s

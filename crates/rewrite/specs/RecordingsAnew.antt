@@ -1,5 +1,6 @@
 -- A recording and a file, measured and written anew: what the code asks for, and what it then answers and writes.
 -- Assumes nothing.
+use Rattle.std.specs.Prelude as Std
 use Rattle.std.specs.Prelude.{◌≡◌, false, List, [], ◌∷◌, ◌++◌, map, ℕ, ◌+◌, ◌-◌, ◌≤◌, ◌<◌, length, take, drop}
 use Rattle.std.proofs.Math.Option.{Option}
 use Rattle.words.specs.Runs.{pasted}
@@ -23,7 +24,6 @@ use Rattle.bodies.specs.declared.Way.{Way}
 use Rattle.transcripts.specs.Transcript.{Transcribed}
 use Rattle.measures.specs.Measures.{MeasureOf, MeasureIn, MeasureBounds, Each, Given, behind_head}
 use Rattle.measures.specs.declared.Measure.{Measure}
-use Rattle.measures.specs.declared.Measured.{Measured}
 use Rattle.rewrite.specs.FramesAnew.{BodyMeasured, SignalsFit, SignalsAnew}
 
 -- a recording from byte p on, with these places, stands in a file of n bytes
@@ -44,7 +44,7 @@ abbrev pub body_in : List ℕ → ℕ → Places → List ℕ
 body_in file p q = take (q.end - (p + 16)) (drop (p + 16) file)
 
 -- what `measure_at` answers of it
-pub record MeasuredAt (o : Order) (label : Label) (file : List ℕ) (p : ℕ) (q : Places) (a : Measured) : Type 0 where
+pub record MeasuredAt (o : Order) (label : Label) (file : List ℕ) (p : ℕ) (q : Places) (a : Std.Option Measure) : Type 0 where
   -- whatever the bytes are
   pub bounds : Each a (MeasureBounds (q.end - (p + 16)))
   pub reads : Each a (MeasureIn o (p + 16) (body_in file p q))

@@ -1,7 +1,7 @@
 // Record 140 and its frames in canonical form.
 ghost use Rattle.rewrite.specs.FramesAnew.{FrameFits, FrameAnew, FramesRoom, FramesAnew, SignalsFit, SignalsAnew};
 
-use bodies::{Way, Widths, frame_body, widths_of};
+use bodies::{Way, frame_body, widths_of};
 use bulk::clear_run;
 use measures::Measure;
 use records::writing::put_head;
@@ -9,13 +9,21 @@ use rules::{Channels, Frame, Frames, Head};
 use words::put;
 
 // A record 145 with the serial i: the frame s up to its padding, under a head of its own.
-fn frame(w: Way, file: &[u8], cs: Channels, widths: Widths, t: u32, i: u32, s: &[u8], d: &mut [u8])
+fn frame(
+    w: Way,
+    file: &[u8],
+    cs: Channels,
+    widths: Option<usize>,
+    t: u32,
+    i: u32,
+    s: &[u8],
+    d: &mut [u8],
+)
     requires { FrameFits w file.now s.now d.old cs widths t }
     ensures { FrameAnew w file.now s.now d.new cs t i }
 {
-    let to = w.to;
     put_head(
-        to,
+        w.to,
         s.len() as u32,
         Frame::CODE,
         i,
@@ -48,6 +56,7 @@ fn frames_body(
     requires { FramesRoom file.now s.now d.old cs t filled size count }
     ensures { FramesAnew w file.now s.now d.old d.new cs t filled size count }
 {
+<<<<<<< HEAD
     let o = w.from;
     let widths = widths_of(o, file, cs);
     let to = w.to;
@@ -58,11 +67,24 @@ fn frames_body(
         &mut d[Frames::BODY_FRAME_LENGTH..Frames::BODY_COUNT],
     );
     put::<4>(to, count, &mut d[Frames::BODY_COUNT..Frames::BODY_RESERVE]);
+=======
+    let widths = widths_of(w.from, file, cs);
+    put::<4>(w.to, t, &mut d[..Frames::BODY_FRAME_LENGTH]);
+    put::<4>(
+        w.to,
+        filled as u32,
+        &mut d[Frames::BODY_FRAME_LENGTH..Frames::BODY_COUNT],
+    );
+    put::<4>(
+        w.to,
+        count,
+        &mut d[Frames::BODY_COUNT..Frames::BODY_RESERVE],
+    );
+>>>>>>> dd5d1d90d2a15489094595a926a235f7fceac850
     clear_run(&mut d[Frames::BODY_RESERVE..Frames::BODY_FIRST]);
     let mut from = Frames::BODY_FIRST;
     let mut k = Frames::BODY_FIRST;
-    let mut i: u32 = 0;
-    while i < count {
+    for i in 0..count {
         let end = k + filled;
         frame(
             w,
@@ -76,7 +98,6 @@ fn frames_body(
         );
         from += size;
         k = end;
-        i += 1;
     }
     clear_run(&mut d[k..]);
 }
@@ -94,17 +115,15 @@ pub fn frames(
     requires { SignalsFit file.now s.now out.old cs f k }
     ensures { SignalsAnew w file.now s.now cs f out.old out.new k result }
 {
-    let to = w.to;
     let signals = f.signals;
     if out.len() - k < signals.length {
         return k;
     }
     let from = f.at + Head::LENGTH;
-    let stop = f.end;
     let body = k + Head::LENGTH;
     let end = k + signals.length;
     put_head(
-        to,
+        w.to,
         signals.size,
         Frames::CODE,
         0,
@@ -119,7 +138,7 @@ pub fn frames(
         f.filled,
         f.size,
         f.count,
-        &s[from..stop],
+        &s[from..f.end],
         &mut out[body..end],
     );
     end

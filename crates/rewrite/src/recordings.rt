@@ -12,10 +12,9 @@ ghost use Rattle.rewrite.specs.RecordingsAnew.{DigitsFit, HeaderFits, Counts, le
 use bodies::Way;
 use bodies::runs::letter;
 use bulk::{clear_run, copy_run};
-use children::Direct;
-use descriptions::{Before, Places};
-use judge::recording::{Recorded, recording_again};
-use measures::{Measure, Measured, measure_of};
+use descriptions::Places;
+use judge::recording::recording_again;
+use measures::{Measure, measure_of};
 use records::writing::put_head;
 use rules::{
     Channels, FileHeader, Form, Frames, Head, Heading, Label, Recording, Spelling, Version,
@@ -23,20 +22,14 @@ use rules::{
 use words::Order;
 
 // The measure of the recording from byte p on, which has these places.
-fn measure_at(o: Order, label: Label, file: &[u8], p: usize, q: Places) -> Measured
+fn measure_at(o: Order, label: Label, file: &[u8], p: usize, q: Places) -> Option<Measure>
     requires { StandsIn (length file.now) p q }
     ensures { MeasuredAt o label file.now p q result }
 {
     let base = p + Head::LENGTH;
     let end = q.end;
-    if end < base {
-        return Measured::Nothing;
-    }
-    if q.frames < base {
-        return Measured::Nothing;
-    }
-    if end < q.frames {
-        return Measured::Nothing;
+    if end < base || q.frames < base || end < q.frames {
+        return None;
     }
     let cs = Channels {
         subs: q.channels + Channels::SUBS,
@@ -46,12 +39,12 @@ fn measure_at(o: Order, label: Label, file: &[u8], p: usize, q: Places) -> Measu
 }
 
 // The length that a measure asks for.
-fn measured_length(a: Measured) -> usize
+fn measured_length(a: Option<Measure>) -> usize
     ensures { result ≡ length_in a }
 {
     match a {
-        Measured::On(f) => f.whole.length,
-        Measured::Nothing => 0,
+        Some(f) => f.whole.length,
+        None => 0,
     }
 }
 
@@ -109,16 +102,12 @@ fn header(to: Order, heading: Heading, count: u32, d: &mut [u8])
     requires { HeaderFits d.old heading count }
     ensures { d.new ≡ render to (C.header_events (heading_of heading) count) }
 {
-    let script = heading.script;
-    let spelling = heading.spelling;
     let label = heading.label;
-    let version = label.version;
-    let form = label.form;
-    name(spelling, &mut d[..FileHeader::VERSION]);
-    version_digits(version, &mut d[FileHeader::VERSION..FileHeader::FORM]);
-    form_digits(form, &mut d[FileHeader::FORM..FileHeader::ORDER]);
+    name(heading.spelling, &mut d[..FileHeader::VERSION]);
+    version_digits(label.version, &mut d[FileHeader::VERSION..FileHeader::FORM]);
+    form_digits(label.form, &mut d[FileHeader::FORM..FileHeader::ORDER]);
     d[FileHeader::ORDER] = letter(to);
-    d[FileHeader::SCRIPT] = script as u8;
+    d[FileHeader::SCRIPT] = heading.script as u8;
     digits(count, &mut d[FileHeader::COUNT..FileHeader::SPACES]);
     copy_run(b"          ", &mut d[FileHeader::SPACES..]);
 }
@@ -149,18 +138,13 @@ fn body(w: Way, file: &[u8], cs: Channels, f: Measure, s: &[u8], base: usize, d:
     requires { BodyFits file.now s.now d.old cs f base }
     ensures { BodyAnew w file.now s.now d.new cs f base }
 {
-    let o = w.from;
     let mut p: usize = 0;
     let mut k: usize = 0;
-    loop {
-        let there = children::record_at(o, s, base, p);
-        let Direct::Record(h, end) = there else {
-            clear_run(&mut d[k..]);
-            return;
-        };
+    while let Some((h, end)) = children::record_at(w.from, s, base, p) {
         k = child(w, file, cs, f, s, h, end, d, k);
         p = end;
     }
+    clear_run(&mut d[k..]);
 }
 
 // The recording from byte p on, with the serial i, which has these places: where the next bytes go.
@@ -168,11 +152,7 @@ fn recording(w: Way, file: &[u8], p: usize, i: u32, q: Places, out: &mut [u8], k
     requires { RecordingFits file.now p q out.old k }
     ensures { RecordingAnew w file.now p i q out.old out.new k result }
 {
-    let o = w.from;
-    let to = w.to;
-    let label = w.label;
-    let measured = measure_at(o, label, file, p, q);
-    let Measured::On(f) = measured else {
+    let Some(f) = measure_at(w.from, w.label, file, p, q) else {
         return k;
     };
     let whole = f.whole;
@@ -184,18 +164,25 @@ fn recording(w: Way, file: &[u8], p: usize, i: u32, q: Places, out: &mut [u8], k
         count: q.count,
     };
     let base = p + Head::LENGTH;
-    let last = q.end;
     let from = k + Head::LENGTH;
     let end = k + whole.length;
     put_head(
-        to,
+        w.to,
         whole.size,
         Recording::CODE,
         i,
         whole.multiplier,
         &mut out[k..from],
     );
-    body(w, file, cs, f, &file[base..last], base, &mut out[from..end]);
+    body(
+        w,
+        file,
+        cs,
+        f,
+        &file[base..q.end],
+        base,
+        &mut out[from..end],
+    );
     end
 }
 
@@ -206,17 +193,14 @@ pub fn file_length(o: Order, label: Label, file: &[u8], count: u32) -> usize
 {
     let mut p = FileHeader::LENGTH;
     let mut sum = FileHeader::LENGTH;
-    let mut before = Before::Nothing;
-    let mut i: u32 = 0;
-    while i < count {
-        let step = recording_again(o, label, file, p, before);
-        let Recorded::On(q) = step else {
+    let mut before = None;
+    for _i in 0..count {
+        let Ok(q) = recording_again(o, label, file, p, before) else {
             return sum;
         };
         sum += measured_length(measure_at(o, label, file, p, q));
         p = q.end;
-        before = Before::These(q);
-        i += 1;
+        before = Some(q);
     }
     sum
 }
@@ -236,16 +220,13 @@ pub fn file_anew(o: Order, into: Order, heading: Heading, file: &[u8], count: u3
     let mut p = FileHeader::LENGTH;
     let mut k = FileHeader::LENGTH;
     header(into, heading, count, &mut out[..k]);
-    let mut before = Before::Nothing;
-    let mut i: u32 = 0;
-    while i < count {
-        let step = recording_again(o, label, file, p, before);
-        let Recorded::On(q) = step else {
+    let mut before = None;
+    for i in 0..count {
+        let Ok(q) = recording_again(o, label, file, p, before) else {
             return;
         };
         k = recording(w, file, p, i + 1, q, out, k);
         p = q.end;
-        before = Before::These(q);
-        i += 1;
+        before = Some(q);
     }
 }

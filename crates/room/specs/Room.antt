@@ -1,12 +1,13 @@
 -- How much room to reserve for a rewrite, before its length is known: what `room` answers, and when the file's own length is enough.
 -- Assumes nothing.
+use Rattle.std.specs.Prelude.{Result}
+use Rattle.rules.specs.declared.Refusal.{Refusal}
 use Rattle.std.specs.Prelude.{◌≡◌, List, [], ◌∷◌, ℕ, ◌+◌, ◌*◌, ◌≤◌, length}
 use Rattle.walk.specs.Walk.{Outcome, refused, passed}
 use Rattle.rules.specs.Rules as R
 use Rattle.rules.specs.Canonical as C
 use Rattle.rules.specs.declared.Label.{Label}
 use Rattle.permit.specs.Permit.{Answer, bytes, refusal, meaning}
-use Rattle.permit.specs.declared.Written.{Written}
 
 -- bytes for each recording, beyond the file's length
 abbrev pub reserve : ℕ
@@ -21,7 +22,7 @@ abbrev pub room_of : List ℕ → Answer
 room_of s = room_in (R.judge s) (length s)
 
 -- what `room` answers
-abbrev pub RoomAnswer : List ℕ → Written → Type 0
+abbrev pub RoomAnswer : List ℕ → Result ℕ Refusal → Type 0
 RoomAnswer s a = meaning a ≡ room_of s
 
 -- how long the canonical form of a recording is, in a file with this label

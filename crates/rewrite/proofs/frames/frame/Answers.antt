@@ -1,16 +1,8 @@
 -- `rewrite::frames::frame` meets its contract: the head, and behind it what fills the frame.
 -- Assumes nothing.
-use mathlib.Core.Path.{sym}
 use native.Mathlib.Omega.{arith}
-use lib.Seq.{length-take-le}
 use Rattle.rewrite.proofs.Framing.{frame-written}
 use Rattle.rewrite.proofs.frames.frame.Goals as goal
-
-pub slice_bounds-put_head-end-2 : goal.slice_bounds-put_head-end-2
-slice_bounds-put_head-end-2 c = sym (length-take-le 16 c.args.d.now (omega arith))
-
-pub put_head-requires : goal.put_head-requires
-put_head-requires c = length-take-le 16 c.args.d.now (omega arith)
 
 pub returns : goal.returns
 returns c =

@@ -1,12 +1,8 @@
 -- `rewrite::recordings::digits` meets its contract: one digit or two, and spaces.
 -- Assumes nothing.
 use native.Mathlib.Omega.{arith}
-use lib.ListN.{length-set}
 use Rattle.rules.proofs.Canon.{one-digit, two_digits}
 use Rattle.rewrite.proofs.recordings.digits.Goals as goal
-
-pub bounds-d-1 : goal.bounds-d-1
-bounds-d-1 c = simp length-set (omega arith)
 
 pub returns-then-count-lt10 : goal.returns-then-count-lt10
 returns-then-count-lt10 c = rw (c.copy_run.ensures, one-digit c.args.count (omega arith))

@@ -1,11 +1,11 @@
 -- `rewrite::recordings::file_length` meets its contract. The loop's invariant: the sum is what the header and the recordings that are passed take.
--- The measure is how many recordings are left. Assumes nothing.
+-- Assumes nothing.
 use mathlib.Core.Path.{refl}
 use Prim.Native.Nat.{◌+◌, ◌-◌}
 use native.Mathlib.Omega.{arith}
 use Rattle.walk.specs.Walk.{size}
 use Rattle.rules.specs.Canonical as C
-use Rattle.children.proofs.Again.{along-start, along-stop, along-fits, along-next, along-end}
+use Rattle.children.proofs.Again.{along-start, along-stop, along-next, along-end}
 use Rattle.rewrite.proofs.Files.{length_most, counted_next}
 use Rattle.rewrite.proofs.recordings.file_length.Goals as goal
 
@@ -15,27 +15,16 @@ loop-i-init c = record { most = omega arith; along = along-start (omega arith) r
 
 pub returns-in_default : goal.returns-in_default
 returns-in_default c =
-    λ ps e g. along-stop c.loop-i.invariant.along c.loop-i-test.true _ c.recording_again-step.ensures c.in_default.is g
-
-pub measure_at-requires : goal.measure_at-requires
-measure_at-requires c =
-    let x = along-fits c.loop-i.invariant.along c.loop-i-test.true _ c.recording_again-step.ensures c.in-On.is in
-    record { start = x.start; end = x.end; short = c.requires.file.short; room = x.channels }
-
-pub overflow_add-sum : goal.overflow_add-sum
-overflow_add-sum c =
-    let l = c.loop-i in
-    let a = c.measure_at in
-    omega (arith, l.invariant.most, c.loop-i-test.true, c.requires.few, c.measured_length-sum.ensures, length_most (c.in-On.q.end - (l.p + 16)) a.result a.ensures.bounds)
+    λ ps e g. along-stop c.loop-i.invariant.along c.loop-i-test.true _ c.recording_again.ensures c.in_default.is g
 
 pub loop-i-preserved : goal.loop-i-preserved
 loop-i-preserved c =
     let l = c.loop-i in
-    let r = c.recording_again-step in
+    let r = c.recording_again in
     let a = c.measure_at in
     record {
-      most = omega (arith, l.invariant.most, c.measured_length-sum.ensures, length_most (c.in-On.q.end - (l.p + 16)) a.result a.ensures.bounds);
-      along = along-next l.invariant.along c.loop-i-test.true _ r.ensures c.in-On.is (λ held done _ x many n h. counted_next done many n _ a.result a.ensures c.measured_length-sum.ensures h);
+      most = omega (arith, l.invariant.most, c.measured_length-sum.ensures, length_most (c.in-Ok.q.end - (l.p + 16)) a.result a.ensures.bounds);
+      along = along-next l.invariant.along c.loop-i-test.true _ r.ensures c.in-Ok.is (λ held done _ x many n h. counted_next done many n _ a.result a.ensures c.measured_length-sum.ensures h);
     }
 
 pub returns : goal.returns

@@ -25,19 +25,12 @@ inside o label s p q stands b held i x y = within-at b stands.end (within o labe
 pub returns-then-end-base : goal.returns-then-end-base
 returns-then-end-base c =
     let a = c.args in
-    record { bounds = tt; reads = tt; told = λ held i x y. absurd (omega (arith, c.if-end-base.true, (within a.o a.label a.file.now a.p a.q.end held i y.went).starts)) }
-
-pub returns-then-q-base : goal.returns-then-q-base
-returns-then-q-base c =
-    let a = c.args in
     let b = bytes a.file.now (λ i. (c.type_inv.file i).fits) in
-    record { bounds = tt; reads = tt; told = λ held i x v. absurd (omega (arith, c.if-q-base.true, inside a.o a.label a.file.now a.p a.q c.requires b held i x v)) }
-
-pub returns-then-end-q : goal.returns-then-end-q
-returns-then-end-q c =
-    let a = c.args in
-    let b = bytes a.file.now (λ i. (c.type_inv.file i).fits) in
-    record { bounds = tt; reads = tt; told = λ held i x v. absurd (omega (arith, c.if-end-q.true, inside a.o a.label a.file.now a.p a.q c.requires b held i x v)) }
+    record {
+      bounds = tt;
+      reads = tt;
+      told = λ held i x v. absurd (omega (arith, c.then-end-base.either, inside a.o a.label a.file.now a.p a.q c.requires b held i x v));
+    }
 
 pub returns : goal.returns
 returns c =
