@@ -56,18 +56,6 @@ fn frames_body(
     requires { FramesRoom file.now s.now d.old cs t filled size count }
     ensures { FramesAnew w file.now s.now d.old d.new cs t filled size count }
 {
-<<<<<<< HEAD
-    let o = w.from;
-    let widths = widths_of(o, file, cs);
-    let to = w.to;
-    put::<4>(to, t, &mut d[..Frames::BODY_FRAME_LENGTH]);
-    put::<4>(
-        to,
-        filled as u32,
-        &mut d[Frames::BODY_FRAME_LENGTH..Frames::BODY_COUNT],
-    );
-    put::<4>(to, count, &mut d[Frames::BODY_COUNT..Frames::BODY_RESERVE]);
-=======
     let widths = widths_of(w.from, file, cs);
     put::<4>(w.to, t, &mut d[..Frames::BODY_FRAME_LENGTH]);
     put::<4>(
@@ -80,7 +68,6 @@ fn frames_body(
         count,
         &mut d[Frames::BODY_COUNT..Frames::BODY_RESERVE],
     );
->>>>>>> dd5d1d90d2a15489094595a926a235f7fceac850
     clear_run(&mut d[Frames::BODY_RESERVE..Frames::BODY_FIRST]);
     let mut from = Frames::BODY_FIRST;
     let mut k = Frames::BODY_FIRST;

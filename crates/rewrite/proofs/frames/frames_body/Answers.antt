@@ -5,15 +5,6 @@ use native.Mathlib.Omega.{arith}
 use Rattle.rewrite.proofs.Framing.{framing-start, framing-more, framing-end}
 use Rattle.rewrite.proofs.frames.frames_body.Goals as goal
 
-<<<<<<< HEAD
-pub slice_bounds-put-end-2 : goal.slice_bounds-put-end-2
-slice_bounds-put-end-2 c = sym (length-take-le 4 c.args.d.now (omega arith))
-
-pub put-requires-clause-room : goal.put-requires-clause-room
-put-requires-clause-room c = length-take-le 4 c.args.d.now (omega arith)
-
-=======
->>>>>>> dd5d1d90d2a15489094595a926a235f7fceac850
 pub loop-i-init : goal.loop-i-init
 loop-i-init c =
     let a = c.args in
