@@ -3,13 +3,18 @@
 use mathlib.Core.Path.{◌≡◌, refl, sym, ap, ◌∙◌}
 use mathlib.Core.Bool.{Bool, true, false}
 use mathlib.Core.List.{List, [], ◌∷◌}
-use Prim.Native.Nat.{ℕ, zero, suc, ◌+◌, ◌-◌, ◌*◌, ◌≤◌, ◌<◌}
+use Prim.Native.Nat.{ℕ, zero, suc, ◌+◌, ◌-◌, ◌*◌, ◌/◌, ◌%◌, ◌≤◌, ◌<◌}
 use native.Mathlib.Nat.{le_refl}
 use native.Mathlib.Omega.{arith}
 use borrow.Author.Tests.{ltb-true, ltb-false}
 use lib.Dec.{ltb}
 use lib.ListN.{length, take, drop, get_or, length-drop}
-use lib.Seq.{length-take-le}
+use lib.Seq.{drop-drop, length-take-le}
+use Rattle.std.specs.Simd.{first_chunks}
+use Rattle.std.specs.List.{AllWithin, HoldsAt}
+use Rattle.std.specs.Option.{MatchOption, unwrap_or}
+use Rattle.std.specs.Prelude as Std
+use Rattle.std.specs.Prelude.{Some, None}
 use Rattle.words.specs.Numbers.{Bytes, word, number_at}
 use Rattle.words.specs.Joins.{join}
 use Rattle.words.specs.declared.Order.{Order}
@@ -18,7 +23,7 @@ use Rattle.words.proofs.Joins.{number-1, number_step}
 use Rattle.words.proofs.Words.{bytes_take, bytes_drop}
 use Rattle.walk.proofs.Seen.{part-number}
 use Rattle.bulk.proofs.Blocks.{written_out}
-use Rattle.index.specs.Listing.{pair_of, Same}
+use Rattle.index.specs.Listing.{pair_of, samples_of, Same}
 
 -- a byte of a list of bytes
 pub byte_small : (s : List ℕ) → Bytes s → (i : ℕ) → get_or s i 0 < 256
@@ -93,12 +98,12 @@ eight-same s b h p k e₁ e₂ q l = go (ltb q 4) refl
 
 -- Samples that are all one code
 
-module _ {o : Order} {s : List ℕ} {n p code : ℕ} where
-  pub same_none : p ≤ n → Same o s n p code p
+module _ {o : Order} {s : List ℕ} {p code : ℕ} where
+  pub same_none : p ≤ samples_of s → Same o s p code p
   same_none l = record { on = le_refl p; inside = l; all = λ q h k. absurd (omega arith) }
 
   -- some more
-  pub same_more : {r : ℕ} (m : ℕ) → r + m ≤ n → Same o s n p code r → ((q : ℕ) → q < m → number_at o 2 s (2 * r + 2 * q) ≡ code) → Same o s n p code (r + m)
+  pub same_more : {r : ℕ} (m : ℕ) → r + m ≤ samples_of s → Same o s p code r → ((q : ℕ) → q < m → number_at o 2 s (2 * r + 2 * q) ≡ code) → Same o s p code (r + m)
   same_more {r} m l t h = record {
     on = omega (arith, t.on);
     inside = l;
@@ -109,6 +114,42 @@ module _ {o : Order} {s : List ℕ} {n p code : ℕ} where
       go q u v true e = t.all q u (ltb-true q r e)
       go q u v false e = let j = ltb-false q r e in ap (number_at o 2 s) (omega arith) ∙ h (q - r) (omega arith)
 
+-- where eights of samples are cut from those from p on, each is where it stands
+cut-at : (n k : ℕ) (t : List ℕ) → k < n → get_or (first_chunks 16 n t) k [] ≡ take 16 (drop (16 * k) t)
+cut-at zero k t h = absurd (omega arith)
+cut-at (suc n) zero t h = refl
+cut-at (suc n) (suc k) t h =
+    let e : 16 + 16 * k ≡ 16 * suc k = omega arith in
+    cut-at n k (drop 16 t) (omega arith) ∙ rw (drop-drop, e)
+
+-- all eight samples of a part are the pair
+abbrev pub AllPair : ℕ → List ℕ → Type 0
+AllPair pair t = (q : ℕ) → q < 8 → number_at Little 2 t (2 * q) ≡ pair
+
+-- eights of the samples from p on, up to the first that is not all the pair
+module _ {s t : List ℕ} {p n pair : ℕ} {eights : List (List ℕ)} (rest : t ≡ drop (2 * p) s) (inside : p ≤ samples_of s) (room : 16 * n ≤ length t) (cut : eights ≡ first_chunks 16 n t) where
+  up_to : (m : ℕ) → m ≤ n → AllWithin (AllPair pair) eights 0 m → Same Little s p pair (p + 8 * m)
+  up_to m l h = record { on = omega arith; inside = omega (arith, long); all = one }
+    where
+      long : length t ≡ length s - 2 * p
+      long = ap length rest ∙ rw length-drop refl
+
+      one : (q : ℕ) → p ≤ q → q < p + 8 * m → number_at Little 2 s (2 * q) ≡ pair
+      one q u v =
+          let k : ℕ = (q - p) / 8 in
+          let j : ℕ = (q - p) % 8 in
+          let is : get_or eights k [] ≡ take 16 (drop (2 * p + 16 * k) s) =
+          ap (λ (l : List (List ℕ)). get_or l k []) cut ∙ cut-at n k t (omega arith) ∙ rw (rest, drop-drop) in
+          let at : 2 * p + 16 * k + 2 * j ≡ 2 * q = omega arith in
+          let here : number_at Little 2 (take 16 (drop (2 * p + 16 * k) s)) (2 * j) ≡ pair = rw is at (h k [] (omega arith) (omega arith) j (omega arith)) in
+          ap (number_at Little 2 s) (sym at) ∙ sym (part-number Little s (2 * p + 16 * k) 16 2 (2 * j) (omega arith)) ∙ here
+
+  pub eights-same : (Yes : List ℕ → Type 0) (r : Std.Option ℕ) → length eights ≡ n →
+      MatchOption r (AllWithin (AllPair pair) eights 0 (length eights)) (λ i. (i < length eights) × HoldsAt Yes eights i × AllWithin (AllPair pair) eights 0 i) →
+      Same Little s p pair (p + 8 * unwrap_or r (length eights))
+  eights-same Yes None l h = up_to (length eights) (omega arith) h
+  eights-same Yes (Some i) l h = up_to i (omega (arith, h.0)) h.2
+
 -- pairs are codes
-pub same_code : {o : Order} {s : List ℕ} {n p code r : ℕ} → Bytes s → length s ≡ 2 * n → code < 65536 → Same Little s n p (pair_of o code) r → Same o s n p code r
-same_code {o} {s} {n} {code = code} b long small t = record { on = t.on; inside = t.inside; all = λ q u v. pair_code s b (2 * q) code (omega (arith, t.inside)) small o (t.all q u v) }
+pub same_code : {o : Order} {s : List ℕ} {p code r : ℕ} → Bytes s → length s ≡ 2 * samples_of s → code < 65536 → Same Little s p (pair_of o code) r → Same o s p code r
+same_code {o} {s} {code = code} b long small t = record { on = t.on; inside = t.inside; all = λ q u v. pair_code s b (2 * q) code (omega (arith, t.inside)) small o (t.all q u v) }

@@ -14,6 +14,7 @@ use Rattle.samples.specs.declared.Cut.{Cut}
 use Rattle.samples.specs.declared.Place.{Place}
 use Rattle.samples.proofs.Placing.{all_of, part-inside, bytes-many}
 use Rattle.index.specs.Events.{of_events}
+use Rattle.index.specs.Listing.{samples_of}
 use Rattle.index.proofs.Framing.{the_one, its-sub, its-end, its-frame, far-enough, its-bytes, channel-quiet, channel-empty, channel-listed}
 use Rattle.index.proofs.Standing.{events-kept, events-width, before-there}
 use Rattle.index.proofs.channel_entries.Goals as goal
@@ -64,6 +65,9 @@ part-long e part h =
     let s = e.args.file.now in
     let l : part_in (length s) (place e) ≡ all_of (place e) = part-inside (length s) (place e) (omega (arith, its-end e.requires, ends (goal.at.After-sample_entries-arg-1 e).After-width-wide)) in
     ap length h ∙ (bytes-many s (place e) ∙ (ap (λ (p : Cut). p.length) l ∙ twice e))
+
+part-samples : (e : After-sample_entries-arg-1) (part : List ℕ) → part ≡ bytes_of e.args.file.now (place e) → samples_of part ≡ e.samples_in-n.result
+part-samples e part h = omega (arith, part-long e part h)
 
 pub overflow_add-p : goal.overflow_add-p
 overflow_add-p c = record { fits = omega (arith, sub-inside c, c.well_formed) }
@@ -123,9 +127,9 @@ code_before-before-requires c =
 pub sample_entries-next-requires : goal.sample_entries-next-requires
 sample_entries-next-requires c =
     record {
-      long = part-long c _ c.part.ensures.bytes;
+      long = omega (arith, part-long c _ c.part.ensures.bytes);
       small = omega (arith, c.code_before-before.ensures.1);
-      ahead = record { room = omega (arith, c.requires.room (y (goal.at.sample_entries-next-requires c).After-width-wide) (the_one c.requires).1, many (goal.at.sample_entries-next-requires c).After-width-wide); short = omega (arith, its-bytes c.requires (events (goal.at.sample_entries-next-requires c).Else-not-events_at), many (goal.at.sample_entries-next-requires c).After-width-wide, c.well_formed) };
+      ahead = record { room = omega (arith, c.requires.room (y (goal.at.sample_entries-next-requires c).After-width-wide) (the_one c.requires).1, many (goal.at.sample_entries-next-requires c).After-width-wide, part-samples c _ c.part.ensures.bytes); short = omega (arith, part-samples c _ c.part.ensures.bytes, its-bytes c.requires (events (goal.at.sample_entries-next-requires c).Else-not-events_at), many (goal.at.sample_entries-next-requires c).After-width-wide, c.well_formed) };
     }
 
 pub returns : goal.returns
@@ -135,4 +139,4 @@ returns c =
     let some : 1 ≤ n = omega (arith, c.if-n-eq0.false) in
     channel-listed a _ (ends (goal.at.returns c).After-width-wide) n c.width-wide.result c.code_before-before.result _ _ (events (goal.at.returns c).Else-not-events_at) (many (goal.at.returns c).After-width-wide) (wide (goal.at.returns c).After-width-wide)
     (c.code_before-before.ensures.0 ∙ before-there c.args.spot.frame (its-frame a) a.stands c.args.c (y (goal.at.returns c).After-width-wide) (the_one a).1 (events-width (y (goal.at.returns c).After-width-wide) (events (goal.at.returns c).Else-not-events_at)) n c.args.at (sym (many (goal.at.returns c).After-width-wide)) some a.place)
-    c.part.ensures.bytes c.sample_entries-next.ensures
+    c.part.ensures.bytes (rw (part-samples (goal.at.returns c).After-sample_entries-arg-1 _ c.part.ensures.bytes) at c.sample_entries-next.ensures)

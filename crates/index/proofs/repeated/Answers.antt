@@ -5,18 +5,19 @@ use mathlib.Core.Path.{sym, ap, ◌∙◌}
 use native.Mathlib.Omega.{arith}
 use Rattle.words.specs.Numbers.{number_at}
 use Rattle.words.proofs.Words.{bytes}
-use Rattle.index.proofs.Pairs.{pair_small, same_more, same_code}
+use Rattle.index.specs.Listing.{samples_of}
+use Rattle.index.proofs.Pairs.{same_more, same_code}
 use Rattle.index.proofs.repeated.Goals as goal
 
 pub pair_of-requires : goal.pair_of-requires
 pair_of-requires c = c.requires.small
 
-pub same_eights-start-requires : goal.same_eights-start-requires
-same_eights-start-requires c = record { long = c.requires.long; inside = c.requires.inside; small = rw c.pair_of.ensures (pair_small c.args.o c.args.code c.requires.small) }
+pub same_eights-i-requires : goal.same_eights-i-requires
+same_eights-i-requires c = c.requires.inside
 
 pub loop-i-init : goal.loop-i-init
 loop-i-init c =
-    same_code (bytes c.args.s.now (λ i. omega (arith, c.type_inv.s i))) c.requires.long c.requires.small (rw c.pair_of.ensures at c.same_eights-start.ensures)
+    same_code (bytes c.args.s.now (λ i. omega (arith, c.type_inv.s i))) c.requires.long c.requires.small (rw c.pair_of.ensures at c.same_eights-i.ensures)
 
 pub overflow_mul-i : goal.overflow_mul-i
 overflow_mul-i c = record { fits = omega (arith, c.requires.long, c.well_formed, c.loop-i-test.true) }
@@ -36,5 +37,5 @@ loop-i-preserved c =
 
 pub returns : goal.returns
 returns c =
-    let n : c.loop-i.i ≡ c.args.n = omega (arith, c.loop-i.invariant.inside) in
+    let n : c.loop-i.i ≡ samples_of c.args.s.now = omega (arith, c.loop-i.invariant.inside) in
     record { same = rw n at c.loop-i.invariant; other = λ l e. absurd (omega arith) }
