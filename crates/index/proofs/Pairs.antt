@@ -4,7 +4,6 @@ use mathlib.Core.Path.{◌≡◌, refl, sym, ap, ◌∙◌}
 use mathlib.Core.Bool.{Bool, true, false}
 use mathlib.Core.List.{List, [], ◌∷◌}
 use Prim.Native.Nat.{ℕ, zero, suc, ◌+◌, ◌-◌, ◌*◌, ◌/◌, ◌%◌, ◌≤◌, ◌<◌}
-use native.Mathlib.Nat.{le_refl}
 use native.Mathlib.Omega.{arith}
 use borrow.Author.Tests.{ltb-true, ltb-false}
 use lib.Dec.{ltb}
@@ -23,7 +22,7 @@ use Rattle.words.proofs.Joins.{number-1, number_step}
 use Rattle.words.proofs.Words.{bytes_take, bytes_drop}
 use Rattle.walk.proofs.Seen.{part-number}
 use Rattle.bulk.proofs.Blocks.{written_out}
-use Rattle.index.specs.Listing.{pair_of, samples_of, Same}
+use Rattle.index.specs.Listing.{pair_of, samples_of, EightOf, Same}
 
 -- a byte of a list of bytes
 pub byte_small : (s : List ℕ) → Bytes s → (i : ℕ) → get_or s i 0 < 256
@@ -44,11 +43,6 @@ module _ (s : List ℕ) (b : Bytes s) (at code : ℕ) (h : at + 2 ≤ length s) 
       let x = byte_small s b at in
       let y = byte_small s b (at + 1) in
       rw (two Big s at h) (omega (arith, x, y, rw (two Little s at h) at e))
-
-pub pair_small : (o : Order) (code : ℕ) → code < 65536 → pair_of o code < 65536
-unfolding pair_of
-pair_small Little code h = h
-pair_small Big code h = omega arith
 
 -- a pair in front, and what is behind it
 step : (x y p z : ℕ) → x < 65536 → p < 65536 → x + 65536 * y ≡ p + 65536 * z → (x ≡ p) × (y ≡ z)
@@ -99,20 +93,17 @@ eight-same s b h p k e₁ e₂ q l = go (ltb q 4) refl
 -- Samples that are all one code
 
 module _ {o : Order} {s : List ℕ} {p code : ℕ} where
-  pub same_none : p ≤ samples_of s → Same o s p code p
-  same_none l = record { on = le_refl p; inside = l; all = λ q h k. absurd (omega arith) }
-
-  -- some more
-  pub same_more : {r : ℕ} (m : ℕ) → r + m ≤ samples_of s → Same o s p code r → ((q : ℕ) → q < m → number_at o 2 s (2 * r + 2 * q) ≡ code) → Same o s p code (r + m)
-  same_more {r} m l t h = record {
+  -- one more
+  pub same_more : {r : ℕ} → r < samples_of s → Same o s p code r → number_at o 2 s (2 * r) ≡ code → Same o s p code (r + 1)
+  same_more {r} l t h = record {
     on = omega (arith, t.on);
-    inside = l;
+    inside = omega arith;
     all = λ q u v. go q u v (ltb q r) refl;
   }
     where
-      go : (q : ℕ) → p ≤ q → q < r + m → (x : Bool) → ltb q r ≡ x → number_at o 2 s (2 * q) ≡ code
+      go : (q : ℕ) → p ≤ q → q < r + 1 → (x : Bool) → ltb q r ≡ x → number_at o 2 s (2 * q) ≡ code
       go q u v true e = t.all q u (ltb-true q r e)
-      go q u v false e = let j = ltb-false q r e in ap (number_at o 2 s) (omega arith) ∙ h (q - r) (omega arith)
+      go q u v false e = let is : q ≡ r = omega (arith, ltb-false q r e) in rw is h
 
 -- where eights of samples are cut from those from p on, each is where it stands
 cut-at : (n k : ℕ) (t : List ℕ) → k < n → get_or (first_chunks 16 n t) k [] ≡ take 16 (drop (16 * k) t)
@@ -122,13 +113,9 @@ cut-at (suc n) (suc k) t h =
     let e : 16 + 16 * k ≡ 16 * suc k = omega arith in
     cut-at n k (drop 16 t) (omega arith) ∙ rw (drop-drop, e)
 
--- all eight samples of a part are the pair
-abbrev pub AllPair : ℕ → List ℕ → Type 0
-AllPair pair t = (q : ℕ) → q < 8 → number_at Little 2 t (2 * q) ≡ pair
-
 -- eights of the samples from p on, up to the first that is not all the pair
 module _ {s t : List ℕ} {p n pair : ℕ} {eights : List (List ℕ)} (rest : t ≡ drop (2 * p) s) (inside : p ≤ samples_of s) (room : 16 * n ≤ length t) (cut : eights ≡ first_chunks 16 n t) where
-  up_to : (m : ℕ) → m ≤ n → AllWithin (AllPair pair) eights 0 m → Same Little s p pair (p + 8 * m)
+  up_to : (m : ℕ) → m ≤ n → AllWithin (EightOf pair) eights 0 m → Same Little s p pair (p + 8 * m)
   up_to m l h = record { on = omega arith; inside = omega (arith, long); all = one }
     where
       long : length t ≡ length s - 2 * p
@@ -145,7 +132,7 @@ module _ {s t : List ℕ} {p n pair : ℕ} {eights : List (List ℕ)} (rest : t 
           ap (number_at Little 2 s) (sym at) ∙ sym (part-number Little s (2 * p + 16 * k) 16 2 (2 * j) (omega arith)) ∙ here
 
   pub eights-same : (Yes : List ℕ → Type 0) (r : Std.Option ℕ) → length eights ≡ n →
-      MatchOption r (AllWithin (AllPair pair) eights 0 (length eights)) (λ i. (i < length eights) × HoldsAt Yes eights i × AllWithin (AllPair pair) eights 0 i) →
+      MatchOption r (AllWithin (EightOf pair) eights 0 (length eights)) (λ i. (i < length eights) × HoldsAt Yes eights i × AllWithin (EightOf pair) eights 0 i) →
       Same Little s p pair (p + 8 * unwrap_or r (length eights))
   eights-same Yes None l h = up_to (length eights) (omega arith) h
   eights-same Yes (Some i) l h = up_to i (omega (arith, h.0)) h.2

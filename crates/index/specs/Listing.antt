@@ -47,9 +47,12 @@ unfoldable pub pair_of : Order → ℕ → ℕ
 pair_of Little code = code
 pair_of Big code = code % 256 * 256 + code / 256
 
--- what is said where eight samples are all this pair
+-- eight samples that are all this pair, and what is said where they are
+abbrev pub EightOf : ℕ → List ℕ → Type 0
+EightOf pair s = (q : ℕ) → q < 8 → number_at Little 2 s (2 * q) ≡ pair
+
 abbrev pub SamePairs : List ℕ → ℕ → Bool → Type 0
-SamePairs s pair r = r ≡ true → (q : ℕ) → q < 8 → number_at Little 2 s (2 * q) ≡ pair
+SamePairs s pair r = r ≡ true → EightOf pair s
 
 -- how many samples of two bytes
 abbrev pub samples_of : List ℕ → ℕ

@@ -1,8 +1,7 @@
 -- `index::behind_events` meets its contract: none of the channels that are passed is of events.
 -- Assumes nothing.
 use Prim.Native.Nat.{◌+◌, ◌-◌}
-use mathlib.Core.Path.{◌≡◌}
-use mathlib.Core.Path.{sym, ◌∙◌}
+use mathlib.Core.Path.{◌≡◌, sym, ◌∙◌}
 use native.Mathlib.Omega.{arith}
 use Rattle.index.proofs.Quiet.{quiet_none, quiet-before}
 use Rattle.index.proofs.behind_events.Goals as goal

@@ -1,7 +1,6 @@
 -- `index::first_events` meets its contract: none of the channels that are passed is of events.
 -- Assumes nothing.
-use mathlib.Core.Path.{◌≡◌}
-use mathlib.Core.Path.{sym, ◌∙◌}
+use mathlib.Core.Path.{◌≡◌, sym, ◌∙◌}
 use native.Mathlib.Omega.{arith}
 use Rattle.index.proofs.Quiet.{quiet_none, quiet-behind}
 use Rattle.index.proofs.first_events.Goals as goal

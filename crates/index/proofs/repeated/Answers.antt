@@ -1,9 +1,7 @@
 -- `index::repeated` meets its contract: eights of samples, and then one at a time.
 -- Assumes nothing.
-use mathlib.Core.Path.{◌≡◌}
-use mathlib.Core.Path.{sym, ap, ◌∙◌}
+use mathlib.Core.Path.{◌≡◌, sym, ◌∙◌}
 use native.Mathlib.Omega.{arith}
-use Rattle.words.specs.Numbers.{number_at}
 use Rattle.words.proofs.Words.{bytes}
 use Rattle.index.specs.Listing.{samples_of}
 use Rattle.index.proofs.Pairs.{same_more, same_code}
@@ -29,11 +27,7 @@ pub returns-then-number2-code : goal.returns-then-number2-code
 returns-then-number2-code c = record { same = c.loop-i.invariant; other = λ l e. c.if-number2-code.true (c.number2.ensures.0 ∙ e) }
 
 pub loop-i-preserved : goal.loop-i-preserved
-loop-i-preserved c =
-    let l = c.loop-i in
-    let a = c.args in
-    same_more 1 (omega (arith, c.loop-i-test.true)) l.invariant
-    (λ q h. ap (number_at a.o 2 a.s.now) (omega arith) ∙ sym c.number2.ensures.0 ∙ c.if-number2-code.false)
+loop-i-preserved c = same_more (omega (arith, c.loop-i-test.true)) c.loop-i.invariant (sym c.number2.ensures.0 ∙ c.if-number2-code.false)
 
 pub returns : goal.returns
 returns c =
