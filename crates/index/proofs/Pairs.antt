@@ -58,21 +58,27 @@ four x₀ x₁ x₂ x₃ p h₀ h₁ h₂ k e =
     (a.0, b.0, c.0, c.1)
 
 -- of eight bytes, as pairs
-pairs : (s : List ℕ) → length s ≡ 8 → word s ≡ get_or s 0 0 + get_or s 1 0 * 256 + 65536 * (get_or s 2 0 + get_or s 3 0 * 256 + 65536 * (get_or s 4 0 + get_or s 5 0 * 256 + 65536 * (get_or s 6 0 + get_or s 7 0 * 256)))
+pairs : (s : List ℕ) → length s ≡ 8 →
+    word s ≡ get_or s 0 0 + get_or s 1 0 * 256 + 65536 *
+    (get_or s 2 0 + get_or s 3 0 * 256 + 65536 * (get_or s 4 0 + get_or s 5 0 * 256 + 65536 * (get_or s 6 0 + get_or s 7 0 * 256)))
 unfolding word
 pairs s h =
-    written_out 8 s (λ (t : List ℕ). word t ≡ get_or t 0 0 + get_or t 1 0 * 256 + 65536 * (get_or t 2 0 + get_or t 3 0 * 256 + 65536 * (get_or t 4 0 + get_or t 5 0 * 256 + 65536 * (get_or t 6 0 + get_or t 7 0 * 256)))) h (omega arith)
+    written_out 8 s (λ (t : List ℕ). word t ≡ get_or t 0 0 + get_or t 1 0 * 256 + 65536 *
+    (get_or t 2 0 + get_or t 3 0 * 256 + 65536 * (get_or t 4 0 + get_or t 5 0 * 256 + 65536 * (get_or t 6 0 + get_or t 7 0 * 256)))) h (omega arith)
 
 -- where their word is the pair four times, each of them is the pair
 pub four_same : (s : List ℕ) → Bytes s → length s ≡ 8 → (p : ℕ) → p < 65536 → word s ≡ p * 281479271743489 → (q : ℕ) → q < 4 → number_at Little 2 s (2 * q) ≡ p
 four_same s b h p k e q l =
-    let z = four (get_or s 0 0 + get_or s 1 0 * 256) (get_or s 2 0 + get_or s 3 0 * 256) (get_or s 4 0 + get_or s 5 0 * 256) (get_or s 6 0 + get_or s 7 0 * 256) p (pair 0) (pair 2) (pair 4) k (sym (pairs s h) ∙ e ∙ omega arith) in
+    let z = four (get_or s 0 0 + get_or s 1 0 * 256) (get_or s 2 0 + get_or s 3 0 * 256) (get_or s 4 0 + get_or s 5 0 * 256)
+    (get_or s 6 0 + get_or s 7 0 * 256) p (pair 0) (pair 2) (pair 4) k (sym (pairs s h) ∙ e ∙ omega arith) in
     go q l z
   where
     pair : (i : ℕ) → get_or s i 0 + get_or s (i + 1) 0 * 256 < 65536
     pair i = let x = byte_small s b i in let y = byte_small s b (i + 1) in omega arith
 
-    go : (q : ℕ) → q < 4 → (get_or s 0 0 + get_or s 1 0 * 256 ≡ p) × (get_or s 2 0 + get_or s 3 0 * 256 ≡ p) × (get_or s 4 0 + get_or s 5 0 * 256 ≡ p) × (get_or s 6 0 + get_or s 7 0 * 256 ≡ p) → number_at Little 2 s (2 * q) ≡ p
+    go : (q : ℕ) → q < 4 →
+        (get_or s 0 0 + get_or s 1 0 * 256 ≡ p) × (get_or s 2 0 + get_or s 3 0 * 256 ≡ p) × (get_or s 4 0 + get_or s 5 0 * 256 ≡ p) ×
+        (get_or s 6 0 + get_or s 7 0 * 256 ≡ p) → number_at Little 2 s (2 * q) ≡ p
     go zero l z = two Little s 0 (omega arith) ∙ z.0
     go (suc zero) l z = two Little s 2 (omega arith) ∙ z.1
     go (suc (suc zero)) l z = two Little s 4 (omega arith) ∙ z.2
@@ -80,11 +86,13 @@ four_same s b h p k e q l =
     go (suc (suc (suc (suc q)))) l z = absurd (omega arith)
 
 -- of eight samples, where both words are the pair four times
-pub eight-same : (s : List ℕ) → Bytes s → length s ≡ 16 → (p : ℕ) → p < 65536 → word (take 8 (drop 0 s)) ≡ p * 281479271743489 → word (take 8 (drop 8 s)) ≡ p * 281479271743489 → (q : ℕ) → q < 8 → number_at Little 2 s (2 * q) ≡ p
+pub eight-same : (s : List ℕ) → Bytes s → length s ≡ 16 → (p : ℕ) → p < 65536 → word (take 8 (drop 0 s)) ≡ p * 281479271743489 →
+    word (take 8 (drop 8 s)) ≡ p * 281479271743489 → (q : ℕ) → q < 8 → number_at Little 2 s (2 * q) ≡ p
 eight-same s b h p k e₁ e₂ q l = go (ltb q 4) refl
   where
     half : (a r : ℕ) → a + 8 ≤ 16 → word (take 8 (drop a s)) ≡ p * 281479271743489 → r < 4 → number_at Little 2 s (a + 2 * r) ≡ p
-    half a r i e m = sym (part-number Little s a 8 2 (2 * r) (omega arith)) ∙ four_same (take 8 (drop a s)) (bytes_take 8 (drop a s) (bytes_drop a s b)) (length-take-le 8 (drop a s) (rw length-drop (omega arith))) p k e r m
+    half a r i e m = sym (part-number Little s a 8 2 (2 * r) (omega arith)) ∙
+        four_same (take 8 (drop a s)) (bytes_take 8 (drop a s) (bytes_drop a s b)) (length-take-le 8 (drop a s) (rw length-drop (omega arith))) p k e r m
 
     go : (x : Bool) → ltb q 4 ≡ x → number_at Little 2 s (2 * q) ≡ p
     go true t = ap (number_at Little 2 s) (omega arith) ∙ half 0 q (omega arith) e₁ (ltb-true q 4 t)
@@ -114,7 +122,8 @@ cut-at (suc n) (suc k) t h =
     cut-at n k (drop 16 t) (omega arith) ∙ rw (drop-drop, e)
 
 -- eights of the samples from p on, up to the first that is not all the pair
-module _ {s t : List ℕ} {p n pair : ℕ} {eights : List (List ℕ)} (rest : t ≡ drop (2 * p) s) (inside : p ≤ samples_of s) (room : 16 * n ≤ length t) (cut : eights ≡ first_chunks 16 n t) where
+module _ {s t : List ℕ} {p n pair : ℕ} {eights : List (List ℕ)} (rest : t ≡ drop (2 * p) s) (inside : p ≤ samples_of s) (room : 16 * n ≤ length t)
+    (cut : eights ≡ first_chunks 16 n t) where
   up_to : (m : ℕ) → m ≤ n → AllWithin (EightOf pair) eights 0 m → Same Little s p pair (p + 8 * m)
   up_to m l h = record { on = omega arith; inside = omega (arith, long); all = one }
     where
@@ -132,11 +141,14 @@ module _ {s t : List ℕ} {p n pair : ℕ} {eights : List (List ℕ)} (rest : t 
           ap (number_at Little 2 s) (sym at) ∙ sym (part-number Little s (2 * p + 16 * k) 16 2 (2 * j) (omega arith)) ∙ here
 
   pub eights-same : (Yes : List ℕ → Type 0) (r : Std.Option ℕ) → length eights ≡ n →
-      MatchOption r (AllWithin (EightOf pair) eights 0 (length eights)) (λ i. (i < length eights) × HoldsAt Yes eights i × AllWithin (EightOf pair) eights 0 i) →
+      MatchOption r (AllWithin (EightOf pair) eights 0 (length eights))
+      (λ i. (i < length eights) × HoldsAt Yes eights i × AllWithin (EightOf pair) eights 0 i) →
       Same Little s p pair (p + 8 * unwrap_or r (length eights))
   eights-same Yes None l h = up_to (length eights) (omega arith) h
   eights-same Yes (Some i) l h = up_to i (omega (arith, h.0)) h.2
 
 -- pairs are codes
-pub same_code : {o : Order} {s : List ℕ} {p code r : ℕ} → Bytes s → length s ≡ 2 * samples_of s → code < 65536 → Same Little s p (pair_of o code) r → Same o s p code r
-same_code {o} {s} {code = code} b long small t = record { on = t.on; inside = t.inside; all = λ q u v. pair_code s b (2 * q) code (omega (arith, t.inside)) small o (t.all q u v) }
+pub same_code : {o : Order} {s : List ℕ} {p code r : ℕ} → Bytes s → length s ≡ 2 * samples_of s → code < 65536 → Same Little s p (pair_of o code) r →
+    Same o s p code r
+same_code {o} {s} {code = code} b long small t =
+    record { on = t.on; inside = t.inside; all = λ q u v. pair_code s b (2 * q) code (omega (arith, t.inside)) small o (t.all q u v) }

@@ -15,7 +15,8 @@ module _ (o : Order) (s : List ℕ) (subs : ℕ) where
   quiet_none a c l h = absurd (omega arith)
 
   -- all but one, and that one
-  but-one : (a b d : ℕ) → ((c : ℕ) → a ≤ c → c < b → (c ≡ d → ⊥) → events_at o s (subs + 256 * c) ≡ false) → events_at o s (subs + 256 * d) ≡ false → Quiet o s subs a b
+  but-one : (a b d : ℕ) → ((c : ℕ) → a ≤ c → c < b → (c ≡ d → ⊥) → events_at o s (subs + 256 * c) ≡ false) → events_at o s (subs + 256 * d) ≡ false →
+      Quiet o s subs a b
   but-one a b d q e c l h = go (eqb c d) refl
     where
       go : (x : Bool) → eqb c d ≡ x → events_at o s (subs + 256 * c) ≡ false

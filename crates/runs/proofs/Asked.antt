@@ -26,7 +26,8 @@ use Rattle.runs.specs.Found.{RunInside, FoundIn}
 use Rattle.runs.specs.Runs.{serves, run_within, place_from, run_at, run_of, answer_of}
 use Rattle.runs.specs.declared.Sibling.{Sibling}
 
-pub run-refused : (b : Sibling) (s : List ℕ) (i j k first n space : ℕ) {m p : ℕ} → samples_of s i j k ≡ refusal m p → answer_of b s i j k first n space ≡ refusal m p
+pub run-refused : (b : Sibling) (s : List ℕ) (i j k first n space : ℕ) {m p : ℕ} → samples_of s i j k ≡ refusal m p →
+    answer_of b s i j k first n space ≡ refusal m p
 run-refused b s i j k first n space h = rw h
 
 module _ {s : List ℕ} {i j k : ℕ} {o : Order} {q : Places} {run : Run} {x : Samples} (h : RunIn s i j k o q run x) where
@@ -49,7 +50,8 @@ module _ {s : List ℕ} {i j k : ℕ} {o : Order} {q : Places} {run : Run} {x : 
         pub run-within : leb (first + n) run.place.count ≡ true → RunInside (length s) first n run.place
         run-within l = record { file = h.inside; inside = leb-true (first + n) run.place.count l }
 
-        pub run-found : leb (first + n) run.place.count ≡ true → n ≤ space → (p : Place) → p ≡ place_from first n run.place → FoundIn b s i j k first n space o run.format p
+        pub run-found : leb (first + n) run.place.count ≡ true → n ≤ space → (p : Place) → p ≡ place_from first n run.place →
+            FoundIn b s i j k first n space o run.format p
         run-found l r p q = record {
           order = h.order;
           all = run.place;
@@ -68,7 +70,8 @@ same_if : {A : Type 0} (c : Bool) (x y z : A) → (c ≡ true → x ≡ y) → p
 same_if true x y z h = h refl
 same_if false x y z h = refl
 
-pub as_before : (s : List ℕ) → Bytes s → (b : Sibling) (i j k first n : ℕ) → run_of b s i j k first n ≡ (samples_of s i j k >>= λ x. run_within b first n x.format x.values)
+pub as_before : (s : List ℕ) → Bytes s → (b : Sibling) (i j k first n : ℕ) →
+    run_of b s i j k first n ≡ (samples_of s i j k >>= λ x. run_within b first n x.format x.values)
 as_before s y b i j k first n = go (samples_of s i j k) refl
   where
     shown : (x : Samples) → SamplesIn s x → run_at b s first n x.format (place_in x) ≡ run_within b first n x.format x.values

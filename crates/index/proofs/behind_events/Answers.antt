@@ -21,7 +21,11 @@ returns-then-events_at c = let n : c.loop-c.c - 1 + 1 ≡ c.loop-c.c = omega (ar
 pub loop-c-preserved : goal.loop-c-preserved
 loop-c-preserved c =
     let l = c.loop-c in
-    record { inside = omega (arith, l.invariant.inside); quiet = quiet-before _ _ _ l.c c.args.m l.invariant.quiet (sym c.events_at.ensures ∙ c.if-events_at.false) }
+    record {
+      inside = omega (arith, l.invariant.inside);
+      quiet =
+          quiet-before _ _ _ l.c c.args.m l.invariant.quiet (sym c.events_at.ensures ∙ c.if-events_at.false);
+    }
 
 pub returns : goal.returns
 returns c = let n : c.loop-c.c ≡ 0 = omega arith in rw n at c.loop-c.invariant

@@ -35,7 +35,9 @@ wide : (w : After-width-wide) → w.width-wide.result ≡ R.width (y w).format
 wide w = w.width-wide.ensures.0 ∙ ap R.width (w.number4-format.ensures.0 ∙ sym (its-sub w.requires).format)
 
 ends : (w : After-width-wide) → w.args.at + w.width-wide.result * w.samples_in-n.result ≡ w.args.at + R.samples_in w.args.q.seconds (y w) * R.width (y w).format
-ends w = ap (λ (n : ℕ). w.args.at + n) (mul_comm w.width-wide.result w.samples_in-n.result ∙ ap (λ (m : ℕ). m * w.width-wide.result) (many w) ∙ ap (λ (m : ℕ). R.samples_in w.args.q.seconds (y w) * m) (wide w))
+ends w = ap (λ (n : ℕ). w.args.at + n)
+    (mul_comm w.width-wide.result w.samples_in-n.result ∙ ap (λ (m : ℕ). m * w.width-wide.result) (many w) ∙
+    ap (λ (m : ℕ). R.samples_in w.args.q.seconds (y w) * m) (wide w))
 
 -- the subs have room in the file, that of the channel among them
 room : (b : After-struct_known-1) → ChannelsIn (length b.args.file.now) (subs_at b.args.q.channels b.args.q.count)
@@ -53,7 +55,9 @@ twice : (e : After-sample_entries-arg-1) →
     let w = e in
     w.width-wide.result * w.samples_in-n.result ≡ 2 * w.samples_in-n.result
 twice e =
-    ap (λ (m : ℕ). m * e.samples_in-n.result) (wide (goal.at.After-sample_entries-arg-1 e).After-width-wide ∙ events-width (y (goal.at.After-sample_entries-arg-1 e).After-width-wide) (events (goal.at.After-sample_entries-arg-1 e).Else-not-events_at))
+    ap (λ (m : ℕ). m * e.samples_in-n.result)
+    (wide (goal.at.After-sample_entries-arg-1 e).After-width-wide ∙
+    events-width (y (goal.at.After-sample_entries-arg-1 e).After-width-wide) (events (goal.at.After-sample_entries-arg-1 e).Else-not-events_at))
 
 abbrev place : goal.After-sample_entries-arg-1 → Place
 place w = record { position = w.args.at; width = w.width-wide.result; count = w.samples_in-n.result }
@@ -63,7 +67,8 @@ part-long : (e : After-sample_entries-arg-1) (part : List ℕ) →
     part ≡ bytes_of w.args.file.now (place w) → length part ≡ 2 * w.samples_in-n.result
 part-long e part h =
     let s = e.args.file.now in
-    let l : part_in (length s) (place e) ≡ all_of (place e) = part-inside (length s) (place e) (omega (arith, its-end e.requires, ends (goal.at.After-sample_entries-arg-1 e).After-width-wide)) in
+    let l : part_in (length s) (place e) ≡ all_of (place e) =
+    part-inside (length s) (place e) (omega (arith, its-end e.requires, ends (goal.at.After-sample_entries-arg-1 e).After-width-wide)) in
     ap length h ∙ (bytes-many s (place e) ∙ (ap (λ (p : Cut). p.length) l ∙ twice e))
 
 part-samples : (e : After-sample_entries-arg-1) (part : List ℕ) → part ≡ bytes_of e.args.file.now (place e) → samples_of part ≡ e.samples_in-n.result
@@ -106,14 +111,17 @@ pub overflow_add-end : goal.overflow_add-end
 overflow_add-end c = record { fits = omega (arith, its-end c.requires, ends c, c.well_formed) }
 
 pub returns-then-n-eq0 : goal.returns-then-n-eq0
-returns-then-n-eq0 c = channel-empty c.requires _ (ends (goal.at.returns-then-n-eq0 c).After-width-wide) (sym (many (goal.at.returns-then-n-eq0 c).After-width-wide) ∙ c.if-n-eq0.true)
+returns-then-n-eq0 c =
+    channel-empty c.requires _ (ends (goal.at.returns-then-n-eq0 c).After-width-wide)
+    (sym (many (goal.at.returns-then-n-eq0 c).After-width-wide) ∙ c.if-n-eq0.true)
 
 pub events_at-requires : goal.events_at-requires
 events_at-requires c = sub-inside (goal.at.events_at-requires c).After-struct_known-1
 
 pub returns-then-not-events_at : goal.returns-then-not-events_at
 returns-then-not-events_at c =
-    channel-quiet c.requires _ (ends (goal.at.returns-then-not-events_at c).After-width-wide) (sym (events-kept _ _ _ _ (its-sub c.requires)) ∙ sym c.events_at.ensures ∙ c.if-not-events_at.true)
+    channel-quiet c.requires _ (ends (goal.at.returns-then-not-events_at c).After-width-wide)
+    (sym (events-kept _ _ _ _ (its-sub c.requires)) ∙ sym c.events_at.ensures ∙ c.if-not-events_at.true)
 
 pub code_before-before-requires : goal.code_before-before-requires
 code_before-before-requires c =
@@ -129,7 +137,23 @@ sample_entries-next-requires c =
     record {
       long = omega (arith, part-long c _ c.part.ensures.bytes);
       small = omega (arith, c.code_before-before.ensures.1);
-      ahead = record { room = omega (arith, c.requires.room (y (goal.at.sample_entries-next-requires c).After-width-wide) (the_one c.requires).1, many (goal.at.sample_entries-next-requires c).After-width-wide, part-samples c _ c.part.ensures.bytes); short = omega (arith, part-samples c _ c.part.ensures.bytes, its-bytes c.requires (events (goal.at.sample_entries-next-requires c).Else-not-events_at), many (goal.at.sample_entries-next-requires c).After-width-wide, c.well_formed) };
+      ahead = record {
+        room =
+            omega (
+              arith,
+              c.requires.room (y (goal.at.sample_entries-next-requires c).After-width-wide) (the_one c.requires).1,
+              many (goal.at.sample_entries-next-requires c).After-width-wide,
+              part-samples c _ c.part.ensures.bytes,
+            );
+        short =
+            omega (
+              arith,
+              part-samples c _ c.part.ensures.bytes,
+              its-bytes c.requires (events (goal.at.sample_entries-next-requires c).Else-not-events_at),
+              many (goal.at.sample_entries-next-requires c).After-width-wide,
+              c.well_formed,
+            );
+      };
     }
 
 pub returns : goal.returns
@@ -137,6 +161,10 @@ returns c =
     let a = c.requires in
     let n = c.samples_in-n.result in
     let some : 1 ≤ n = omega (arith, c.if-n-eq0.false) in
-    channel-listed a _ (ends (goal.at.returns c).After-width-wide) n c.width-wide.result c.code_before-before.result _ _ (events (goal.at.returns c).Else-not-events_at) (many (goal.at.returns c).After-width-wide) (wide (goal.at.returns c).After-width-wide)
-    (c.code_before-before.ensures.0 ∙ before-there c.args.spot.frame (its-frame a) a.stands c.args.c (y (goal.at.returns c).After-width-wide) (the_one a).1 (events-width (y (goal.at.returns c).After-width-wide) (events (goal.at.returns c).Else-not-events_at)) n c.args.at (sym (many (goal.at.returns c).After-width-wide)) some a.place)
+    channel-listed a _ (ends (goal.at.returns c).After-width-wide) n c.width-wide.result c.code_before-before.result _ _
+    (events (goal.at.returns c).Else-not-events_at) (many (goal.at.returns c).After-width-wide) (wide (goal.at.returns c).After-width-wide)
+    (c.code_before-before.ensures.0 ∙
+    before-there c.args.spot.frame (its-frame a) a.stands c.args.c (y (goal.at.returns c).After-width-wide) (the_one a).1
+    (events-width (y (goal.at.returns c).After-width-wide) (events (goal.at.returns c).Else-not-events_at)) n c.args.at
+    (sym (many (goal.at.returns c).After-width-wide)) some a.place)
     c.part.ensures.bytes (rw (part-samples (goal.at.returns c).After-sample_entries-arg-1 _ c.part.ensures.bytes) at c.sample_entries-next.ensures)

@@ -18,22 +18,31 @@ pub loop-i-init : goal.loop-i-init
 loop-i-init c = (filed-start (accepted-long _ _ c.requires.accepted) c.requires, refl)
 
 pub recording_again-requires : goal.recording_again-requires
-recording_again-requires c = record { inside = omega (arith, c.loop-i.invariant.0.inside, accepted-long _ _ c.requires.accepted); short = omega (arith, c.well_formed); held = c.loop-i.invariant.0.room }
+recording_again-requires c =
+    record {
+      inside = omega (arith, c.loop-i.invariant.0.inside, accepted-long _ _ c.requires.accepted);
+      short = omega (arith, c.well_formed);
+      held =
+          c.loop-i.invariant.0.room;
+    }
 
 pub shape_of-out-in_default : goal.shape_of-out-in_default
 shape_of-out-in_default c = c.loop-i.invariant.1
 
 pub returns-in_default : goal.returns-in_default
 returns-in_default c =
-    filed-stop c.loop-i.invariant.0 (file-bytes (goal.at.returns-in_default c).After-recording_again) c.loop-i-test.true _ c.recording_again.ensures c.in_default.is
+    filed-stop c.loop-i.invariant.0
+    (file-bytes (goal.at.returns-in_default c).After-recording_again) c.loop-i-test.true _ c.recording_again.ensures c.in_default.is
 
 pub recording_entries-k-requires : goal.recording_entries-k-requires
 recording_entries-k-requires c =
-    filed-ahead c.loop-i.invariant.0 (file-bytes (goal.at.recording_entries-k-requires c).After-recording_again) c.loop-i-test.true _ c.recording_again.ensures c.in-Ok.is
+    filed-ahead c.loop-i.invariant.0
+    (file-bytes (goal.at.recording_entries-k-requires c).After-recording_again) c.loop-i-test.true _ c.recording_again.ensures c.in-Ok.is
 
 pub loop-i-preserved : goal.loop-i-preserved
 loop-i-preserved c =
-    let m = filed-more c.loop-i.invariant.0 (file-bytes (goal.at.loop-i-preserved c).After-recording_again) c.loop-i-test.true _ c.recording_again.ensures c.in-Ok.is c.recording_entries-k.ensures in
+    let m = filed-more c.loop-i.invariant.0
+    (file-bytes (goal.at.loop-i-preserved c).After-recording_again) c.loop-i-test.true _ c.recording_again.ensures c.in-Ok.is c.recording_entries-k.ensures in
     (m, search rules)
 
 pub shape_of-out : goal.shape_of-out

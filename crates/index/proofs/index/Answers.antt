@@ -24,4 +24,5 @@ file_entries-requires c =
 
 pub returns : goal.returns
 returns c =
-    indexes-entries c.args.file.now _ (accepted c.in_ok-h.was c.judge.ensures) c.args.out.now _ _ c.file_entries-need.ensures _ _ c.if-out-need.false c.file_entries.ensures
+    indexes-entries c.args.file.now _
+    (accepted c.in_ok-h.was c.judge.ensures) c.args.out.now _ _ c.file_entries-need.ensures _ _ c.if-out-need.false c.file_entries.ensures

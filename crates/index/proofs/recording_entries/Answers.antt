@@ -20,7 +20,8 @@ pub first_events-first-requires : goal.first_events-first-requires
 first_events-first-requires c = record { inside = omega (arith, room c); short = omega (arith, c.well_formed) }
 
 pub behind_events-end-requires : goal.behind_events-end-requires
-behind_events-end-requires c = record { inside = omega (arith, room (goal.at.behind_events-end-requires c).After-struct_known-1); short = omega (arith, c.well_formed) }
+behind_events-end-requires c =
+    record { inside = omega (arith, room (goal.at.behind_events-end-requires c).After-struct_known-1); short = omega (arith, c.well_formed) }
 
 pub returns-then-end-first : goal.returns-then-end-first
 returns-then-end-first c =
@@ -28,7 +29,11 @@ returns-then-end-first c =
 
 pub sample_bytes-before-requires : goal.sample_bytes-before-requires
 sample_bytes-before-requires c = record {
-  channels = record { inside = omega (arith, room (goal.at.sample_bytes-before-requires c).After-struct_known-1, c.first_events-first.ensures.inside); few = omega (arith, room (goal.at.sample_bytes-before-requires c).After-struct_known-1, c.first_events-first.ensures.inside) };
+  channels = record {
+    inside = omega (arith, room (goal.at.sample_bytes-before-requires c).After-struct_known-1, c.first_events-first.ensures.inside);
+    few =
+        omega (arith, room (goal.at.sample_bytes-before-requires c).After-struct_known-1, c.first_events-first.ensures.inside);
+  };
   hour = c.requires.found.seconds;
 }
 
@@ -37,7 +42,8 @@ loop-j-init c = (framed-start c.requires, refl)
 
 pub frame_entries-next-requires : goal.frame_entries-next-requires
 frame_entries-next-requires c =
-    framed-ahead c.loop-j.invariant.0 _ (record { first = c.first_events-first.ensures; end = c.behind_events-end.ensures; before = c.sample_bytes-before.ensures }) c.loop-j-test.true
+    framed-ahead c.loop-j.invariant.0 _
+    (record { first = c.first_events-first.ensures; end = c.behind_events-end.ensures; before = c.sample_bytes-before.ensures }) c.loop-j-test.true
 
 pub loop-j-preserved : goal.loop-j-preserved
 loop-j-preserved c =

@@ -13,5 +13,7 @@ use Rattle.index.proofs.same_eights.Goals as goal
 pub returns : goal.returns
 returns c =
     rw c.unwrap_or.ensures
-    (eights-same (take_all _ _ (rw length-drop (omega arith))) c.requires (omega arith) c.as_chunks.ensures.front (λ x. Unit {0}) c.position-other.result c.as_chunks.ensures.front_len
-    (IsFirst-from_position _ _ _ (λ x. Unit {0}) (EightOf c.args.pair) c.position-other.ensures.ran (YieldsList-from_slice c.as_chunks.result.0.now c.iter.ensures.rest) (λ x q k. tt) (λ x q k. search (rules, tests))))
+    (eights-same (take_all _ _ (rw length-drop (omega arith))) c.requires (omega arith) c.as_chunks.ensures.front
+    (λ x. Unit {0}) c.position-other.result c.as_chunks.ensures.front_len
+    (IsFirst-from_position _ _ _ (λ x. Unit {0}) (EightOf c.args.pair) c.position-other.ensures.ran
+    (YieldsList-from_slice c.as_chunks.result.0.now c.iter.ensures.rest) (λ x q k. tt) (λ x q k. search (rules, tests))))

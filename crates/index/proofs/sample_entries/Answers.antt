@@ -30,7 +30,9 @@ loop-p-smaller c = omega (arith, c.repeated-p-in-loop-p.ensures.same.on, c.loop-
 pub loop-p-preserved : goal.loop-p-preserved
 loop-p-preserved c =
     let l = c.loop-p in
-    let m = sampled-more l.invariant.0 c.number2-code.result c.number2-code.ensures.0 c.loop-p-test.true c.number2-code.ensures.1 c.changed-next.ensures c.repeated-p-in-loop-p.result c.repeated-p-in-loop-p.ensures in
+    let n = c.number2-code in
+    let r = c.repeated-p-in-loop-p in
+    let m = sampled-more l.invariant.0 n.result n.ensures.0 c.loop-p-test.true n.ensures.1 c.changed-next.ensures r.result r.ensures in
     (m, search rules)
 
 pub shape_of-out : goal.shape_of-out

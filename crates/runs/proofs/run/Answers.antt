@@ -17,7 +17,8 @@ use Rattle.runs.proofs.run.Goals.{After-part}
 -- the run found
 known : (x : After-part) →
     let a = x.args in
-    RunFoundAs Sibling.Whole a.file.now a.recording a.frame a.channel a.first a.number (length a.out.now) (Ok (x.in_ok-order.order, x.in_ok-order.format, x.in_ok-order.place))
+    RunFoundAs Sibling.Whole a.file.now a.recording a.frame a.channel a.first a.number (length a.out.now)
+    (Ok (x.in_ok-order.order, x.in_ok-order.format, x.in_ok-order.place))
 known x = x.in_ok-order.ensures
 
 pub returns-in_err-order : goal.returns-in_err-order

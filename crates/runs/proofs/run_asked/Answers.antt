@@ -33,24 +33,29 @@ returns-in_err-order c =
 pub returns-then-not-format_served : goal.returns-then-not-format_served
 returns-then-not-format_served c =
     let a = c.args in
-    run-unserved (known (goal.at.returns-then-not-format_served c).After-format_served).1 a.b a.first a.number a.room (sym c.format_served.ensures ∙ c.if-not-format_served.true)
+    run-unserved (known (goal.at.returns-then-not-format_served c).After-format_served).1 a.b a.first a.number a.room
+    (sym c.format_served.ensures ∙ c.if-not-format_served.true)
 
 pub returns-then-not-fits : goal.returns-then-not-fits
 returns-then-not-fits c =
     let a = c.args in
-    run-outside (known (goal.at.returns-then-not-fits c).After-format_served).1 a.b a.first a.number a.room (served (goal.at.returns-then-not-fits c).After-fits) (sym c.fits.ensures ∙ c.if-not-fits.true)
+    run-outside (known (goal.at.returns-then-not-fits c).After-format_served).1 a.b a.first a.number a.room
+    (served (goal.at.returns-then-not-fits c).After-fits) (sym c.fits.ensures ∙ c.if-not-fits.true)
 
 pub returns-then-room-number : goal.returns-then-room-number
 returns-then-room-number c =
     let a = c.args in
-    run_short (known (goal.at.returns-then-room-number c).After-format_served).1 a.b a.first a.number a.room (served (goal.at.returns-then-room-number c).After-fits) (inside (goal.at.returns-then-room-number c).Else-not-fits) c.if-room-number.true
+    run_short (known (goal.at.returns-then-room-number c).After-format_served).1 a.b a.first a.number a.room
+    (served (goal.at.returns-then-room-number c).After-fits) (inside (goal.at.returns-then-room-number c).Else-not-fits) c.if-room-number.true
 
 pub place_from-from-requires : goal.place_from-from-requires
 place_from-from-requires c =
     let a = c.args in
-    run-within (known (goal.at.place_from-from-requires c).After-format_served).1 a.b a.first a.number a.room (served (goal.at.place_from-from-requires c).After-fits) (inside (goal.at.place_from-from-requires c).Else-not-fits)
+    run-within (known (goal.at.place_from-from-requires c).After-format_served).1 a.b a.first a.number a.room
+    (served (goal.at.place_from-from-requires c).After-fits) (inside (goal.at.place_from-from-requires c).Else-not-fits)
 
 pub returns : goal.returns
 returns c =
     let a = c.args in
-    run-found (known (goal.at.returns c).After-format_served).1 a.b a.first a.number a.room (served (goal.at.returns c).After-fits) (inside (goal.at.returns c).Else-not-fits) c.if-room-number.false _ c.place_from-from.ensures
+    run-found (known (goal.at.returns c).After-format_served).1 a.b a.first a.number a.room (served (goal.at.returns c).After-fits)
+    (inside (goal.at.returns c).Else-not-fits) c.if-room-number.false _ c.place_from-from.ensures
