@@ -293,7 +293,7 @@ fn recording_entries(
     next
 }
 
-// The entries of all recordings of an accepted file: how many numbers they take.
+// The entries of all recordings of an accepted file, of which none is refused again: how many numbers they take.
 fn file_entries(
     o: Order,
     label: Label,
@@ -325,12 +325,10 @@ pub fn index(file: &[u8], out: &mut [i64]) -> Result<usize, Refusal>
     ensures { Indexes file.now out.old out.new result }
 {
     let h = judge::judge(file)?;
-    let o = h.order;
-    let heading = h.heading;
-    let label = heading.label;
-    let need = file_entries(o, label, file, h.count, out, false);
+    let label = h.heading.label;
+    let need = file_entries(h.order, label, file, h.count, out, false);
     if out.len() < need {
         return Err(Refusal(Reason::Room, need));
     }
-    Ok(file_entries(o, label, file, h.count, out, true) / 5)
+    Ok(file_entries(h.order, label, file, h.count, out, true) / 5)
 }
