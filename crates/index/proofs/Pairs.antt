@@ -98,21 +98,6 @@ eight-same s b h p k e₁ e₂ q l = go (ltb q 4) refl
     go true t = ap (number_at Little 2 s) (omega arith) ∙ half 0 q (omega arith) e₁ (ltb-true q 4 t)
     go false t = let j = ltb-false q 4 t in ap (number_at Little 2 s) (omega arith) ∙ half 8 (q - 4) (omega arith) e₂ (omega arith)
 
--- Samples that are all one code
-
-module _ {o : Order} {s : List ℕ} {p code : ℕ} where
-  -- one more
-  pub same_more : {r : ℕ} → r < samples_of s → Same o s p code r → number_at o 2 s (2 * r) ≡ code → Same o s p code (r + 1)
-  same_more {r} l t h = record {
-    on = omega (arith, t.on);
-    inside = omega arith;
-    all = λ q u v. go q u v (ltb q r) refl;
-  }
-    where
-      go : (q : ℕ) → p ≤ q → q < r + 1 → (x : Bool) → ltb q r ≡ x → number_at o 2 s (2 * q) ≡ code
-      go q u v true e = t.all q u (ltb-true q r e)
-      go q u v false e = let is : q ≡ r = omega (arith, ltb-false q r e) in rw is h
-
 -- where eights of samples are cut from those from p on, each is where it stands
 cut-at : (n k : ℕ) (t : List ℕ) → k < n → get_or (first_chunks 16 n t) k [] ≡ take 16 (drop (16 * k) t)
 cut-at zero k t h = absurd (omega arith)

@@ -34,7 +34,7 @@ use Rattle.recordings.proofs.Reach.{Going, Met, ok_of, going_start, met, asked-f
 use Rattle.samples.proofs.Framing.{frame-of, frame-found-at}
 use Rattle.samples.proofs.Stretch.{kept-indexed, indexed-within}
 use Rattle.index.specs.Events.{of_events, each_of, channel_entries, frame_entries, recording_entries}
-use Rattle.index.specs.Index.{numbers, entries_of}
+use Rattle.index.specs.Index.{numbers}
 use Rattle.index.specs.Listing.{events_at, FirstEvents, BehindEvents, of_frame, of_recording, StretchOf, FrameAhead, RecordingAhead, FileAhead}
 use Rattle.index.specs.declared.Stretch.{Stretch}
 use Rattle.index.proofs.Channels.{some_one, each_more, frame_is, recording-none}
@@ -217,9 +217,3 @@ module _ {o : Order} {label : Label} {s : List ℕ} {count : ℕ} {w : Bool} {ou
               going = on-next;
               wrote = rw (e, each_more (recording_entries s) 0 i rs one, zero-add i) (wrote-join numbers 5 (λ _. refl) w out out₁ out₂ 0 k k₂ _ _ t.wrote y);
             }
-
-    pub filed-all : count ≤ i → Wrote numbers 5 w out out₁ 0 k (entries_of s (R.judge s))
-    filed-all l =
-        let x = t.ahead.accepted in
-        let whole : take i rs ≡ rs = take_all i rs (omega (arith, l, t.ahead.count, x.count, length-map file.recordings (λ (y : R.Placed). y.recording))) in
-        rw x.judged (rw whole at t.wrote)

@@ -151,6 +151,3 @@ module _ {o : Order} {s : List ℕ} {before : ℕ} {x : Spot} {w : Bool} {out : 
             wrote = rw (z.0, entries-more, e)
                 (wrote-join numbers 5 (λ _. refl) w out out₁ out₂ k k₁ k₂ (entries_up_to o s before x p) (of_change x p next) t.wrote y);
           }
-
-    pub sampled-all : samples_of s ≤ p → Wrote numbers 5 w out out₁ k k₁ (entries_up_to o s before x (samples_of s))
-    sampled-all l = let e : samples_of s ≡ p = omega (arith, t.inside) in rw e t.wrote

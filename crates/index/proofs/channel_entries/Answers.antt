@@ -43,9 +43,6 @@ ends w = ap (λ (n : ℕ). w.args.at + n)
 room : (b : After-struct_known-1) → ChannelsIn (length b.args.file.now) (subs_at b.args.q.channels b.args.q.count)
 room b = b.requires.stands.found.owned.room
 
-sub-inside : (b : After-struct_known-1) → b.args.q.channels + 32 + 256 * b.args.c + 256 ≤ length b.args.file.now
-sub-inside b = omega (arith, room b, b.requires.inside)
-
 events : (e : Else-not-events_at) → of_events (y (goal.at.Else-not-events_at e).After-width-wide) ≡ true
 events e =
     sym (events-kept _ _ _ _ (its-sub e.requires)) ∙ sym e.events_at.ensures ∙ e.if-not-events_at.false
@@ -74,39 +71,6 @@ part-long e part h =
 part-samples : (e : After-sample_entries-arg-1) (part : List ℕ) → part ≡ bytes_of e.args.file.now (place e) → samples_of part ≡ e.samples_in-n.result
 part-samples e part h = omega (arith, part-long e part h)
 
-pub overflow_add-p : goal.overflow_add-p
-overflow_add-p c = record { fits = omega (arith, sub-inside c, c.well_formed) }
-
-pub overflow_mul-p : goal.overflow_mul-p
-overflow_mul-p c = record { fits = omega (arith, sub-inside c, c.well_formed) }
-
-pub overflow_add-p-2 : goal.overflow_add-p-2
-overflow_add-p-2 c = record { fits = omega (arith, sub-inside c, c.well_formed) }
-
-pub overflow_add-p-3 : goal.overflow_add-p-3
-overflow_add-p-3 c = record { fits = omega (arith, sub-inside c, c.well_formed) }
-
-pub number4-flags-requires : goal.number4-flags-requires
-number4-flags-requires c = omega (arith, sub-inside c)
-
-pub overflow_add-p-4 : goal.overflow_add-p-4
-overflow_add-p-4 c = record { fits = omega (arith, sub-inside (goal.at.overflow_add-p-4 c).After-struct_known-1, c.well_formed) }
-
-pub number4-format-requires : goal.number4-format-requires
-number4-format-requires c = omega (arith, sub-inside (goal.at.number4-format-requires c).After-struct_known-1)
-
-pub overflow_add-p-5 : goal.overflow_add-p-5
-overflow_add-p-5 c = record { fits = omega (arith, sub-inside (goal.at.overflow_add-p-5 c).After-struct_known-1, c.well_formed) }
-
-pub number4-rate-requires : goal.number4-rate-requires
-number4-rate-requires c = omega (arith, sub-inside (goal.at.number4-rate-requires c).After-struct_known-1)
-
-pub samples_in-n-requires : goal.samples_in-n-requires
-samples_in-n-requires c = c.requires.stands.found.seconds
-
-pub overflow_mul-end : goal.overflow_mul-end
-overflow_mul-end c = record { fits = omega (arith, its-end c.requires, ends c, c.well_formed) }
-
 pub overflow_add-end : goal.overflow_add-end
 overflow_add-end c = record { fits = omega (arith, its-end c.requires, ends c, c.well_formed) }
 
@@ -114,9 +78,6 @@ pub returns-then-n-eq0 : goal.returns-then-n-eq0
 returns-then-n-eq0 c =
     channel-empty c.requires _ (ends (goal.at.returns-then-n-eq0 c).After-width-wide)
     (sym (many (goal.at.returns-then-n-eq0 c).After-width-wide) ∙ c.if-n-eq0.true)
-
-pub events_at-requires : goal.events_at-requires
-events_at-requires c = sub-inside (goal.at.events_at-requires c).After-struct_known-1
 
 pub returns-then-not-events_at : goal.returns-then-not-events_at
 returns-then-not-events_at c =

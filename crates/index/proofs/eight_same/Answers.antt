@@ -5,12 +5,8 @@ use Prim.Native.Nat.{ℕ, ◌*◌}
 use native.Mathlib.Omega.{arith}
 use borrow.Author.Tests.{eqb-true}
 use Rattle.words.proofs.Words.{bytes}
-use Rattle.walk.proofs.Apart.{false-true}
 use Rattle.index.proofs.Pairs.{eight-same}
 use Rattle.index.proofs.eight_same.Goals as goal
-
-pub returns-then-word_of_8-four : goal.returns-then-word_of_8-four
-returns-then-word_of_8-four c e = false-true e
 
 pub returns : goal.returns
 returns c e q l =
