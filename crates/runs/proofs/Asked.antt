@@ -31,7 +31,8 @@ module _ {s : List ℕ} {i j k : ℕ} {o : Order} {q : Places} {run : Run} {x : 
     run_by = rw (placed h, h.described)
 
     -- where the file's samples are enough and the buffer isn't
-    pub run_short : (space : ℕ) → serves b run.format ≡ true → leb (first + n) run.place.count ≡ true → space < n → answer_of b s i j k first n space ≡ refusal 17 n
+    pub run_short : (space : ℕ) → serves b run.format ≡ true → leb (first + n) run.place.count ≡ true → space < n →
+        answer_of b s i j k first n space ≡ refusal 17 n
     run_short space served l r = rw (run_by, served, l, lt-leb n space r)
 
 -- The definition before places: some of the values of the reading
