@@ -30,7 +30,8 @@ pub indexes-refused : (s : List ℕ) (out : List ℤ) (r : Refusal) → R.judge 
 indexes-refused s out r h = record { answer = rw h; buffer = rw h }
 
 -- a file that is accepted
-module _ (s : List ℕ) (h : FileHeader) (x : AcceptedAs s h) (out out₁ : List ℤ) (need : ℕ) (first : Wrote numbers 5 false out out₁ 0 need (entries_of s (R.judge s))) where
+module _ (s : List ℕ) (h : FileHeader) (x : AcceptedAs s h) (out out₁ : List ℤ) (need : ℕ)
+    (first : Wrote numbers 5 false out out₁ 0 need (entries_of s (R.judge s))) where
   abbrev es : List Entry
   es = entries s (R.contents x.file)
 
@@ -51,7 +52,8 @@ module _ (s : List ℕ) (h : FileHeader) (x : AcceptedAs s h) (out out₁ : List
       let e = lt-leb (5 * length es) (length out) (omega (arith, needs)) in
       record { answer = rw (x.judged, e, needs); buffer = rw (x.judged, e, leaves) }
 
-  pub indexes-entries : (out₂ : List ℤ) (n : ℕ) → need ≤ length out₁ → Wrote numbers 5 true out₁ out₂ 0 n (entries_of s (R.judge s)) → Indexes s out out₂ (Ok (n / 5))
+  pub indexes-entries : (out₂ : List ℤ) (n : ℕ) → need ≤ length out₁ → Wrote numbers 5 true out₁ out₂ 0 n (entries_of s (R.judge s)) →
+      Indexes s out out₂ (Ok (n / 5))
   indexes-entries out₂ n l second =
       let i : length out₁ ≡ length out = ap length leaves in
       let e = le-leb (5 * length es) (length out) (omega (arith, needs)) in

@@ -16,7 +16,8 @@ use Rattle.rules.proofs.Renew.{SamplesOk}
 use Rattle.recordings.specs.Answers.{value, indexed}
 use Rattle.recordings.specs.Recordings.{Chosen, recording_of}
 use Rattle.recordings.proofs.Chosen.{indexed-one}
-use Rattle.index.specs.Events.{Entry, of_events, last_of, codes_in, codes_of, sample_entries, each_of, channel_entries, frame_entries, recording_entries, entries}
+use Rattle.index.specs.Events.{Entry, of_events, last_of, codes_in, codes_of}
+use Rattle.index.specs.Events.{sample_entries, each_of, channel_entries, frame_entries, recording_entries, entries}
 use Rattle.index.specs.Index.{entries_of}
 use Rattle.index.proofs.Channels.{some_one, each-zero, each-alike, each_more}
 use Rattle.index.proofs.Reading.{one_channel, channels_read, frames_read, recording_read, recordings_read, entries_read, last_frame, frames-more}
@@ -35,7 +36,8 @@ entries-any i j k a b (x ∷ l) h = ap (λ (n : ℕ). sample_entries i j k 0 n (
 
 -- channels, each with its samples
 channels-same : (s : List ℕ) (i j : ℕ) (before : List R.Frame) (t k : ℕ) (cs : List R.Channel) (ss : List (List ℕ)) → SamplesOk t cs ss →
-    ((c : ℕ) (y : R.Channel) → indexed cs c ≡ value y → channel_entries s i j (suc (k + c)) y ≡ one_channel i j before (k + c) y (get_or ss c [])) → each_of (channel_entries s i j) k cs ≡ channels_read i j before k cs ss
+    ((c : ℕ) (y : R.Channel) → indexed cs c ≡ value y → channel_entries s i j (suc (k + c)) y ≡ one_channel i j before (k + c) y (get_or ss c [])) →
+    each_of (channel_entries s i j) k cs ≡ channels_read i j before k cs ss
 unfolding each_of channels_read indexed
 channels-same s i j before t k [] ss ok h = refl
 channels-same s i j before t k (y ∷ cs) [] ok h = absurd ok
@@ -56,7 +58,8 @@ module _ (s : List ℕ) (b : Bytes s) (i : ℕ) {r : Chosen} (asked : recording_
 
   module _ (c : ℕ) (y : R.Channel) (one : indexed cs c ≡ value y) where
     -- the last code of a frame is that of all frames up to it
-    last-read : width y.format ≡ 2 → 1 ≤ samples_in r.this.recording.seconds y → (j : ℕ) → j ≤ length fs → last_of 0 (codes_in c (take j fs)) ≡ last_of 0 (codes_of s i j (suc c))
+    last-read : width y.format ≡ 2 → 1 ≤ samples_in r.this.recording.seconds y → (j : ℕ) → j ≤ length fs →
+        last_of 0 (codes_in c (take j fs)) ≡ last_of 0 (codes_of s i j (suc c))
     unfolding codes_in
     last-read wide some zero l = ap (last_of 0) (sym (codes-none s i (suc c)))
     last-read wide some (suc j) l =
@@ -69,7 +72,8 @@ module _ (s : List ℕ) (b : Bytes s) (i : ℕ) {r : Chosen} (asked : recording_
         (ap (last_of (last_of 0 (codes_in c (take j fs)))) (codes-read s b i (suc j) f c y one wide) ∙
         last-any (last_of 0 (codes_in c (take j fs))) 0 (codes_of s i (suc j) (suc c)) (omega (arith, many, some))))
 
-    channel-same : (j : ℕ) (g : R.Frame) → indexed fs j ≡ value g → channel_entries s i (suc j) (suc c) y ≡ one_channel i (suc j) (take j fs) c y (get_or g.channels c [])
+    channel-same : (j : ℕ) (g : R.Frame) → indexed fs j ≡ value g →
+        channel_entries s i (suc j) (suc c) y ≡ one_channel i (suc j) (take j fs) c y (get_or g.channels c [])
     unfolding channel_entries
     channel-same j g is = go (of_events y) refl
       where
@@ -114,13 +118,16 @@ unfolding each_of recordings_read
 recordings-read i [] = refl
 recordings-read i (x ∷ rs) = ap (λ (l : List Entry). recording_read (suc i) x ++ l) (recordings-read (suc i) rs)
 
-pub entries-read : (s : List ℕ) → Bytes s → {v : R.File} {r : List ℕ} {t : List Event} → R.judge s ≡ passed v r t → entries s (R.contents v) ≡ entries_read (R.contents v)
+pub entries-read : (s : List ℕ) → Bytes s → {v : R.File} {r : List ℕ} {t : List Event} → R.judge s ≡ passed v r t →
+    entries s (R.contents v) ≡ entries_read (R.contents v)
 entries-read s b {v} h =
     each-alike (recording_entries s) (λ n x. recording_read n x) 0 (R.contents v).recordings
     (each-zero (λ n x. recording_entries s n x ≡ recording_read n x) (R.contents v).recordings
-    (λ c x e. let y = recording-there s h c e in subst (λ (z : R.Recording). recording_entries s (suc c) z ≡ recording_read (suc c) z) y.2 (recording-same s b (suc c) y.1))) ∙
+    (λ c x e. let y = recording-there s h c e in
+    subst (λ (z : R.Recording). recording_entries s (suc c) z ≡ recording_read (suc c) z) y.2 (recording-same s b (suc c) y.1))) ∙
     recordings-read 0 (R.contents v).recordings
 
 -- so the contract says the same as it did over the reading
-pub as_before : (s : List ℕ) → Bytes s → {v : R.File} {r : List ℕ} {t : List Event} → R.judge s ≡ passed v r t → entries_of s (R.judge s) ≡ entries_read (R.contents v)
+pub as_before : (s : List ℕ) → Bytes s → {v : R.File} {r : List ℕ} {t : List Event} → R.judge s ≡ passed v r t →
+    entries_of s (R.judge s) ≡ entries_read (R.contents v)
 as_before s b h = ap (entries_of s) h ∙ entries-read s b h

@@ -66,7 +66,8 @@ module _ {A : Type 0} where
         let e : n + suc d ≡ suc (n + d) = omega arith in
         let a = some_one l (n + d) (omega arith) in
         let none : f (suc (0 + (n + d))) a.0 ≡ [] = ap (λ (m : ℕ). f (suc m) a.0) (zero-add (n + d)) ∙ q (n + d) a.0 (omega arith) (omega arith) a.1 in
-        let less : each_of f 0 (take (n + d) l) ++ f (suc (0 + (n + d))) a.0 ≡ each_of f 0 (take (n + d) l) = rw none (append-nil (each_of f 0 (take (n + d) l))) in
+        let less : each_of f 0 (take (n + d) l) ++ f (suc (0 + (n + d))) a.0 ≡ each_of f 0 (take (n + d) l) =
+        rw none (append-nil (each_of f 0 (take (n + d) l))) in
         ap (λ (m : ℕ). each_of f 0 (take m l)) e ∙ (each_more 0 (n + d) l a.1 ∙ (less ∙ each-quiet n d l (omega arith) (λ c b u v. q c b u (omega arith))))
 
     pub each_none : (k : ℕ) (l : List A) → Each (λ n a. f n a ≡ []) k l → each_of f k l ≡ []
@@ -94,7 +95,8 @@ pub channel-none : (s : List ℕ) (i j k : ℕ) (y : R.Channel) → of_events y 
 unfolding channel_entries
 channel-none s i j k y h = rw h
 
-pub recording-none : (s : List ℕ) (i : ℕ) (r : R.Recording) → ((c : ℕ) (y : R.Channel) → indexed r.channels c ≡ value y → of_events y ≡ false) → recording_entries s i r ≡ []
+pub recording-none : (s : List ℕ) (i : ℕ) (r : R.Recording) → ((c : ℕ) (y : R.Channel) → indexed r.channels c ≡ value y → of_events y ≡ false) →
+    recording_entries s i r ≡ []
 unfolding recording_entries frame_entries
 recording-none s i r h =
     each_none (frame_entries s i r.channels) 0 r.frames
@@ -103,7 +105,8 @@ recording-none s i r h =
 -- The bytes of samples
 
 -- of one channel more
-pub bytes-more : (t c : ℕ) (cs : List R.Channel) {y : R.Channel} → indexed cs c ≡ value y → R.sample_bytes t (take (suc c) cs) ≡ R.sample_bytes t (take c cs) + R.samples_in t y * R.width y.format
+pub bytes-more : (t c : ℕ) (cs : List R.Channel) {y : R.Channel} → indexed cs c ≡ value y →
+    R.sample_bytes t (take (suc c) cs) ≡ R.sample_bytes t (take c cs) + R.samples_in t y * R.width y.format
 unfolding indexed R.sample_bytes
 bytes-more t c [] h = refusal-value h
 bytes-more t zero (x ∷ cs) {y} h =

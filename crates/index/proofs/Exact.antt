@@ -177,7 +177,8 @@ codes-split k (suc j) [] = refl
 codes-split k (suc j) (f ∷ fs) = rw append_assoc (ap (λ (z : List ℕ). get_or f.channels k [] ++ z) (codes-split k j fs))
 
 -- the code before, by the codes of this frame and the later ones
-code-before : (r : R.Recording) (j k n : ℕ) → code_before r (suc j) (suc k) n ≡ get_or (last_of 0 (codes_in k (take j r.frames)) ∷ codes_in k (drop j r.frames)) n 0
+code-before : (r : R.Recording) (j k n : ℕ) →
+    code_before r (suc j) (suc k) n ≡ get_or (last_of 0 (codes_in k (take j r.frames)) ∷ codes_in k (drop j r.frames)) n 0
 code-before r j k n =
     let p : suc j - 1 ≡ j = omega arith in
     let q : suc k - 1 ≡ k = omega arith in

@@ -49,18 +49,23 @@ module _ (s : List ℕ) (i j t : ℕ) where
   abbrev Many : ℕ → R.Channel → Type 0
   Many k y = length (codes_of s i j k) ≡ samples_in t y
 
-  channels-few : (k c : ℕ) (cs : List R.Channel) → Each (λ n y. Many n y) k cs → length (each_of (channel_entries s i j) k (take c cs)) ≤ sample_bytes t (take c cs)
+  channels-few : (k c : ℕ) (cs : List R.Channel) → Each (λ n y. Many n y) k cs →
+      length (each_of (channel_entries s i j) k (take c cs)) ≤ sample_bytes t (take c cs)
   unfolding each_of sample_bytes
   channels-few k zero cs h = omega arith
   channels-few k (suc c) [] h = omega arith
-  channels-few k (suc c) (y ∷ cs) h = rw length-append (omega (arith, one-few (suc k) y (each_first (λ n x. Many n x) k y cs h), channels-few (suc k) c cs (each-others (λ n x. Many n x) k y cs h)))
+  channels-few k (suc c) (y ∷ cs) h =
+      rw length-append (omega
+      (arith, one-few (suc k) y (each_first (λ n x. Many n x) k y cs h), channels-few (suc k) c cs (each-others (λ n x. Many n x) k y cs h)))
 
 -- some channels of a frame that was asked for
 pub frame-few : (s : List ℕ) → Bytes s → (i j : ℕ) {f : ChosenFrame} → frame_of s i j ≡ value f → (c : ℕ) →
-    length (each_of (channel_entries s i j) 0 (take c f.of.this.recording.channels)) ≤ sample_bytes f.of.this.recording.seconds (take c f.of.this.recording.channels)
+    length (each_of (channel_entries s i j) 0 (take c f.of.this.recording.channels)) ≤ sample_bytes f.of.this.recording.seconds
+    (take c f.of.this.recording.channels)
 frame-few s b i j {f} is c =
     let t : ℕ = f.of.this.recording.seconds in
-    channels-few s i j t 0 c f.of.this.recording.channels (each-zero (λ n y. Many s i j t n y) f.of.this.recording.channels (λ n y one. codes-many s b i j is n y one))
+    channels-few s i j t 0 c f.of.this.recording.channels
+    (each-zero (λ n y. Many s i j t n y) f.of.this.recording.channels (λ n y one. codes-many s b i j is n y one))
 
 -- a recording
 longest-most : (label : Label) → longest (R.most_of label) ≤ 274877906944
@@ -103,4 +108,5 @@ pub recordings-few : (s : List ℕ) → Bytes s → {v : R.File} {r : List ℕ} 
 recordings-few s b {v} h n =
     each-few (recording_entries s) 0 n 274877906944 (R.contents v).recordings
     (each-zero (λ k x. length (recording_entries s k x) ≤ 274877906944) (R.contents v).recordings
-    (λ c x e. let y = recording-there s h c e in subst (λ (z : R.Recording). length (recording_entries s (suc c) z) ≤ 274877906944) y.2 (recording-few s b (suc c) y.1)))
+    (λ c x e. let y = recording-there s h c e in
+    subst (λ (z : R.Recording). length (recording_entries s (suc c) z) ≤ 274877906944) y.2 (recording-few s b (suc c) y.1)))

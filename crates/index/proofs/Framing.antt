@@ -48,7 +48,13 @@ module _ {o : Order} {s : List ℕ} {q : Places} {x : Spot} {c at k : ℕ} (a : 
 
   -- its samples are in the file
   pub its-end : at + samples_in q.seconds the_one.0 * width the_one.0.format ≤ length s
-  its-end = omega (arith, a.place, a.stands.inside, bytes-before q.seconds c theirs the_one.1, mul_comm (width the_one.0.format) (samples_in q.seconds the_one.0))
+  its-end = omega (
+    arith,
+    a.place,
+    a.stands.inside,
+    bytes-before q.seconds c theirs the_one.1,
+    mul_comm (width the_one.0.format) (samples_in q.seconds the_one.0),
+  )
 
   -- frames are counted from 1; before any but the first stands another
   pub its-frame : 1 ≤ x.frame
@@ -66,16 +72,23 @@ module _ {o : Order} {s : List ℕ} {q : Places} {x : Spot} {c at k : ℕ} (a : 
 
   -- where it is of events: two bytes a sample
   pub its-bytes : of_events the_one.0 ≡ true → at + 2 * samples_in q.seconds the_one.0 ≤ length s
-  its-bytes e = omega (arith, its-end, mul_comm 2 (samples_in q.seconds the_one.0), ap (λ (w : ℕ). samples_in q.seconds the_one.0 * w) (events-width the_one.0 e))
+  its-bytes e = omega (
+    arith,
+    its-end,
+    mul_comm 2 (samples_in q.seconds the_one.0),
+    ap (λ (w : ℕ). samples_in q.seconds the_one.0 * w) (events-width the_one.0 e),
+  )
 
   -- it is the one that its number names
-  same-one : (r : Chosen) (y : R.Channel) → recording_of s x.recording ≡ value r → indexed r.this.recording.channels c ≡ value y → (a.frame.of ≡ r) × (the_one.0 ≡ y)
+  same-one : (r : Chosen) (y : R.Channel) → recording_of s x.recording ≡ value r → indexed r.this.recording.channels c ≡ value y →
+      (a.frame.of ≡ r) × (the_one.0 ≡ y)
   same-one r y is one =
       let d : a.frame.of ≡ r = cc (a.stands.found.is, is) in
       (d, cc (the_one.1, one))
 
   -- behind it
-  behind : (e : ℕ) → e ≡ at + samples_in q.seconds the_one.0 * width the_one.0.format → (r : Chosen) (y : R.Channel) → recording_of s x.recording ≡ value r → indexed r.this.recording.channels c ≡ value y →
+  behind : (e : ℕ) → e ≡ at + samples_in q.seconds the_one.0 * width the_one.0.format → (r : Chosen) (y : R.Channel) → recording_of s x.recording ≡ value r →
+      indexed r.this.recording.channels c ≡ value y →
       e ≡ at + samples_in r.this.recording.seconds y * width y.format
   behind e h r y is one =
       let m = same-one r y is one in
@@ -85,10 +98,12 @@ module _ {o : Order} {s : List ℕ} {q : Places} {x : Spot} {c at k : ℕ} (a : 
 
   module _ {w : Bool} {out : List ℤ} (e : ℕ) (ends : e ≡ at + samples_in q.seconds the_one.0 * width the_one.0.format) where
     -- by its entries
-    listed : {out' : List ℤ} (k' : ℕ) → Wrote numbers 5 w out out' k k' (channel_entries s x.recording x.frame (suc c) the_one.0) → ChannelListed s x c at w out out' k (record { at = e; k = k' })
+    listed : {out' : List ℤ} (k' : ℕ) → Wrote numbers 5 w out out' k k' (channel_entries s x.recording x.frame (suc c) the_one.0) →
+        ChannelListed s x c at w out out' k (record { at = e; k = k' })
     listed {out'} k' wrote = record {
       behind = behind e ends;
-      wrote = λ r y is one. subst (λ (z : R.Channel). Wrote numbers 5 w out out' k k' (channel_entries s x.recording x.frame (suc c) z)) (same-one r y is one).1 wrote;
+      wrote = λ r y is one. subst (λ (z : R.Channel). Wrote numbers 5 w out out' k k' (channel_entries s x.recording x.frame (suc c) z))
+          (same-one r y is one).1 wrote;
     }
 
     pub channel-quiet : of_events the_one.0 ≡ false → ChannelListed s x c at w out out k (record { at = e; k = k })
@@ -104,22 +119,26 @@ module _ {o : Order} {s : List ℕ} {q : Places} {x : Spot} {c at k : ℕ} (a : 
         nil (y ∷ l) h = absurd (omega arith)
 
         none : codes_of s x.recording x.frame (suc c) ≡ []
-        none = nil _ (codes-many s a.stands.found.bytes x.recording x.frame a.stands.is c the_one.0 the_one.1 ∙ ap (λ (t : ℕ). samples_in t the_one.0) (sym (seconds-same a.stands)) ∙ n)
+        none = nil _ (codes-many s a.stands.found.bytes x.recording x.frame a.stands.is c the_one.0 the_one.1 ∙
+            ap (λ (t : ℕ). samples_in t the_one.0) (sym (seconds-same a.stands)) ∙ n)
 
         go : (b : Bool) → Wrote numbers 5 w out out k k (pick b [] [])
         go true = wrote_nothing numbers 5 (λ _. refl) w out k
         go false = wrote_nothing numbers 5 (λ _. refl) w out k
 
     -- its samples, of two bytes each, in the part of the file that their place names, behind the code that stands before
-    pub channel-listed : {out' : List ℤ} (n wide before k' : ℕ) (part : List ℕ) → of_events the_one.0 ≡ true → n ≡ samples_in q.seconds the_one.0 → wide ≡ width the_one.0.format →
+    pub channel-listed : {out' : List ℤ} (n wide before k' : ℕ) (part : List ℕ) → of_events the_one.0 ≡ true → n ≡ samples_in q.seconds the_one.0 →
+        wide ≡ width the_one.0.format →
         before ≡ last_of 0 (codes_of s x.recording (x.frame - 1) (suc c)) → part ≡ bytes_of s (record { position = at; width = wide; count = n }) →
-        Wrote numbers 5 w out out' k k' (sample_entries x.recording x.frame x.channel 0 before (words_at o part 0 n)) → ChannelListed s x c at w out out' k (record { at = e; k = k' })
+        Wrote numbers 5 w out out' k k' (sample_entries x.recording x.frame x.channel 0 before (words_at o part 0 n)) →
+        ChannelListed s x c at w out out' k (record { at = e; k = k' })
     unfolding channel_entries
     channel-listed n wide before k' part is many width_is last cut wrote =
         let two : wide ≡ 2 = width_is ∙ events-width the_one.0 is in
         let made = codes-made a.stands c the_one.0 the_one.1 at wide n a.place width_is many in
         let codes : codes_of s x.recording x.frame (suc c) ≡ words_at o part 0 n =
-        made ∙ (ap (λ (m : ℕ). numbers_at o m n (bytes_of s (record { position = at; width = wide; count = n })) 0) two ∙ ap (λ (l : List ℕ). words_at o l 0 n) (sym cut)) in
+        made ∙ (ap (λ (m : ℕ). numbers_at o m n (bytes_of s (record { position = at; width = wide; count = n })) 0) two ∙
+        ap (λ (l : List ℕ). words_at o l 0 n) (sym cut)) in
         listed k' (rw (is, codes, ← last, ← a.channel) wrote)
 
 -- The channels of a frame
@@ -142,10 +161,12 @@ module _ {o : Order} {s : List ℕ} {q : Places} {i j k : ℕ} where
     count = a.stands.found.owned.stand.count
 
     -- channels that the code found to be of no events
-    silent : (lo n : ℕ) → lo + n ≤ q.count → Quiet o s (q.channels + 32) lo (lo + n) → each_of (channel_entries s i j) 0 (take (lo + n) cs) ≡ each_of (channel_entries s i j) 0 (take lo cs)
+    silent : (lo n : ℕ) → lo + n ≤ q.count → Quiet o s (q.channels + 32) lo (lo + n) →
+        each_of (channel_entries s i j) 0 (take (lo + n) cs) ≡ each_of (channel_entries s i j) 0 (take lo cs)
     silent lo n l h =
         each-quiet (channel_entries s i j) lo n cs (omega (arith, count))
-        (λ c y u v g. channel-none s i j (suc c) y (sym (events-kept o s (q.channels + 32 + 256 * c) y (kept-indexed o s (q.channels + 32) c cs a.stands.found.owned.stand.kept g)) ∙ h c u v))
+        (λ c y u v g. channel-none s i j (suc c) y
+        (sym (events-kept o s (q.channels + 32 + 256 * c) y (kept-indexed o s (q.channels + 32) c cs a.stands.found.owned.stand.kept g)) ∙ h c u v))
 
     -- the bytes of the samples before the stretch
     before-is : e.before ≡ sample_bytes q.seconds (take e.first cs)
@@ -169,7 +190,9 @@ module _ {o : Order} {s : List ℕ} {q : Places} {i j k : ℕ} where
           ahead = a;
           few = a.stretch.first.inside;
           place = omega (arith, h, before-is);
-          wrote = rw (ap (λ (n : ℕ). each_of (channel_entries s i j) 0 (take n cs)) (sym z) ∙ silent 0 e.first (omega (arith, a.stretch.first.inside)) (λ c u v. a.stretch.first.quiet c u (omega arith))) (wrote_nothing numbers 5 (λ _. refl) w out k);
+          wrote = rw (ap (λ (n : ℕ). each_of (channel_entries s i j) 0 (take n cs)) (sym z) ∙
+              silent 0 e.first (omega (arith, a.stretch.first.inside)) (λ c u v. a.stretch.first.quiet c u (omega arith)))
+              (wrote_nothing numbers 5 (λ _. refl) w out k);
         }
 
   module _ {end : ℕ} {w : Bool} {out out₁ : List ℤ} {k₁ c at : ℕ} (t : Channeled o s q end i j w out out₁ k k₁ c at) where
@@ -186,12 +209,15 @@ module _ {o : Order} {s : List ℕ} {q : Places} {i j k : ℕ} where
       place = rw e₂ t.place;
       room = λ y g.
           let few = frame-few s t.ahead.stands.found.bytes i j t.ahead.stands.is c in
-          let same : sample_bytes q.seconds (take c all) ≡ sample_bytes t.ahead.frame.of.this.recording.seconds (take c all) = ap (λ (n : ℕ). sample_bytes n (take c all)) (seconds-same t.ahead.stands) in
-          let most : samples_in q.seconds y ≤ width y.format * samples_in q.seconds y = omega (arith, mul-le-mul_right (samples_in q.seconds y) (width-least y.format)) in
+          let same : sample_bytes q.seconds (take c all) ≡ sample_bytes t.ahead.frame.of.this.recording.seconds (take c all) =
+          ap (λ (n : ℕ). sample_bytes n (take c all)) (seconds-same t.ahead.stands) in
+          let most : samples_in q.seconds y ≤ width y.format * samples_in q.seconds y =
+          omega (arith, mul-le-mul_right (samples_in q.seconds y) (width-least y.format)) in
           omega (arith, t.ahead.room, few, same, most, t.wrote.next, bytes-before q.seconds c all g);
     }
 
-    pub channeled-more : {out₂ : List ℤ} (x : Spot) → x.recording ≡ i → x.frame ≡ j → c < end → (p : Passed) → ChannelListed s x c at w out₁ out₂ k₁ p → Channeled o s q end i j w out out₂ k p.k (c + 1) p.at
+    pub channeled-more : {out₂ : List ℤ} (x : Spot) → x.recording ≡ i → x.frame ≡ j → c < end → (p : Passed) → ChannelListed s x c at w out₁ out₂ k₁ p →
+        Channeled o s q end i j w out out₂ k p.k (c + 1) p.at
     channeled-more {out₂} x e₁ e₂ l p h =
         let y = some_one all c (omega (arith, l, t.ends, t.ahead.stretch.end.inside, count t.ahead)) in
         let d : c + 1 ≡ suc c = omega arith in
@@ -204,7 +230,13 @@ module _ {o : Order} {s : List ℕ} {q : Places} {i j k : ℕ} where
           ends = t.ends;
           ahead = t.ahead;
           few = omega (arith, l, t.ends, t.ahead.stretch.end.inside);
-          place = rw d (omega (arith, b, t.place, bytes-more q.seconds c all y.1, ap (λ (n : ℕ). samples_in n y.0 * width y.0.format) (seconds-same t.ahead.stands)));
+          place = rw d (omega (
+            arith,
+            b,
+            t.place,
+            bytes-more q.seconds c all y.1,
+            ap (λ (n : ℕ). samples_in n y.0 * width y.0.format) (seconds-same t.ahead.stands),
+          ));
           wrote = rw (d, more, zero-add c) (wrote-join numbers 5 (λ _. refl) w out out₁ out₂ k k₁ p.k _ _ t.wrote wrote);
         }
 

@@ -1,5 +1,4 @@
 pub mod Pairs
-pub mod Quiet
 pub mod Words
 pub mod Sampling
 pub mod Channels

@@ -49,7 +49,8 @@ codes-append k [] gs = refl
 codes-append k (f ∷ fs) gs = rw (codes-append k fs gs, append_assoc)
 
 -- the last code of a channel behind it
-pub last_frame : (k : ℕ) (fs : List R.Frame) (f : R.Frame) → last_of 0 (codes_in k (fs ++ (f ∷ []))) ≡ last_of (last_of 0 (codes_in k fs)) (get_or f.channels k [])
+pub last_frame : (k : ℕ) (fs : List R.Frame) (f : R.Frame) →
+    last_of 0 (codes_in k (fs ++ (f ∷ []))) ≡ last_of (last_of 0 (codes_in k fs)) (get_or f.channels k [])
 unfolding codes_in
 last_frame k fs f = rw (codes-append k fs (f ∷ []), append-nil (get_or f.channels k [])) (last-append 0 (codes_in k fs) (get_or f.channels k []))
 
@@ -61,10 +62,12 @@ module _ (i : ℕ) (cs : List R.Channel) where
   frames-append j before (g ∷ fs) f =
       let d : suc j + length fs ≡ j + suc (length fs) = omega arith in
       rw (frames-append (suc j) (before ++ (g ∷ [])) fs f, d, append_assoc before (g ∷ []) fs)
-      (sym (append_assoc (channels_read i j before 0 cs g.channels) (frames_read i (suc j) cs (before ++ (g ∷ [])) fs) (channels_read i (j + suc (length fs)) (before ++ (g ∷ fs)) 0 cs f.channels)))
+      (sym (append_assoc (channels_read i j before 0 cs g.channels) (frames_read i (suc j) cs (before ++ (g ∷ [])) fs)
+      (channels_read i (j + suc (length fs)) (before ++ (g ∷ fs)) 0 cs f.channels)))
 
   -- of a recording
-  pub frames-more : (j : ℕ) (fs : List R.Frame) (f : R.Frame) → One fs j f → frames_read i 1 cs [] (take (suc j) fs) ≡ frames_read i 1 cs [] (take j fs) ++ channels_read i (suc j) (take j fs) 0 cs f.channels
+  pub frames-more : (j : ℕ) (fs : List R.Frame) (f : R.Frame) → One fs j f →
+      frames_read i 1 cs [] (take (suc j) fs) ≡ frames_read i 1 cs [] (take j fs) ++ channels_read i (suc j) (take j fs) 0 cs f.channels
   frames-more j fs f o =
       let d : 1 + j ≡ suc j = omega arith in
       let l : length (take j fs) ≡ j = length-take-le j fs (omega (arith, o.inside)) in

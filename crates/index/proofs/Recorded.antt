@@ -34,7 +34,7 @@ use Rattle.recordings.proofs.Reach.{Going, Met, ok_of, going_start, met, asked-f
 use Rattle.samples.proofs.Framing.{frame-of, frame-found-at}
 use Rattle.samples.proofs.Stretch.{kept-indexed, indexed-within}
 use Rattle.index.specs.Events.{of_events, each_of, channel_entries, frame_entries, recording_entries}
-use Rattle.index.specs.Index.{numbers, entries_of}
+use Rattle.index.specs.Index.{numbers}
 use Rattle.index.specs.Listing.{events_at, FirstEvents, BehindEvents, of_frame, of_recording, StretchOf, FrameAhead, RecordingAhead, FileAhead}
 use Rattle.index.specs.declared.Stretch.{Stretch}
 use Rattle.index.proofs.Channels.{some_one, each_more, frame_is, recording-none}
@@ -47,11 +47,13 @@ use Rattle.index.proofs.Few.{frames-few, recording-small, recordings-few}
 pub record Framed (o : Order) (s : List ℕ) (q : Places) (i : ℕ) (w : Bool) (out out₁ : List ℤ) (k k₁ j : ℕ) : Type 0 where
   pub ahead : RecordingAhead o s q i k
   pub few : j ≤ q.total
-  pub wrote : Wrote numbers 5 w out out₁ k k₁ (each_of (frame_entries s i ahead.recording.this.recording.channels) 0 (take j ahead.recording.this.recording.frames))
+  pub wrote : Wrote numbers 5 w out out₁ k k₁
+      (each_of (frame_entries s i ahead.recording.this.recording.channels) 0 (take j ahead.recording.this.recording.frames))
 
 module _ {o : Order} {s : List ℕ} {q : Places} {i : ℕ} {w : Bool} {out : List ℤ} {k : ℕ} where
   -- no channel is of events: those before the first are not, nor those behind the last
-  pub framed-none : RecordingAhead o s q i k → (first end : ℕ) → FirstEvents o s (q.channels + 32) q.count first → BehindEvents o s (q.channels + 32) q.count end → end ≤ first →
+  pub framed-none : RecordingAhead o s q i k → (first end : ℕ) → FirstEvents o s (q.channels + 32) q.count first →
+      BehindEvents o s (q.channels + 32) q.count end → end ≤ first →
       Wrote numbers 5 w out out k k (of_recording s i (recording_of s i))
   framed-none a first end f b l = rw (a.found.is, recording-none s i a.recording.this.recording quiet) (wrote_nothing numbers 5 (λ _. refl) w out k)
     where
@@ -99,17 +101,20 @@ module _ {o : Order} {s : List ℕ} {q : Places} {i : ℕ} {w : Bool} {out : Lis
           room = rw same (omega (arith, t.ahead.room, t.wrote.next, frames_small, more, add-mul j 1 bytes));
         }
 
-    pub framed-more : {out₂ : List ℤ} {k₂ : ℕ} → j < q.total → Wrote numbers 5 w out₁ out₂ k₁ k₂ (of_frame s i (j + 1) (recording_of s i)) → Framed o s q i w out out₂ k k₂ (j + 1)
+    pub framed-more : {out₂ : List ℤ} {k₂ : ℕ} → j < q.total → Wrote numbers 5 w out₁ out₂ k₁ k₂ (of_frame s i (j + 1) (recording_of s i)) →
+        Framed o s q i w out out₂ k k₂ (j + 1)
     framed-more {out₂} {k₂} l h =
         let x = some_one this.frames j (omega (arith, l, t.ahead.found.frames)) in
         let e : j + 1 ≡ suc j = omega arith in
         let path : of_frame s i (j + 1) (recording_of s i) ≡ frame_entries s i this.channels (suc j) x.0 =
-        ap (of_frame s i (j + 1)) t.ahead.found.is ∙ (ap (λ (n : ℕ). each_of (channel_entries s i n) 0 this.channels) e ∙ frame_is s i this.channels (suc j) x.0) in
+        ap (of_frame s i (j + 1)) t.ahead.found.is ∙
+        (ap (λ (n : ℕ). each_of (channel_entries s i n) 0 this.channels) e ∙ frame_is s i this.channels (suc j) x.0) in
         let y : Wrote numbers 5 w out₁ out₂ k₁ k₂ (frame_entries s i this.channels (suc j) x.0) = rw path at h in
         record {
           ahead = t.ahead;
           few = omega arith;
-          wrote = rw (e, each_more (frame_entries s i this.channels) 0 j this.frames x.1, zero-add j) (wrote-join numbers 5 (λ _. refl) w out out₁ out₂ k k₁ k₂ _ _ t.wrote y);
+          wrote = rw (e, each_more (frame_entries s i this.channels) 0 j this.frames x.1, zero-add j)
+              (wrote-join numbers 5 (λ _. refl) w out out₁ out₂ k k₁ k₂ _ _ t.wrote y);
         }
 
     pub framed-all : q.total ≤ j → Wrote numbers 5 w out out₁ k k₁ (of_recording s i (recording_of s i))
@@ -172,7 +177,8 @@ module _ {o : Order} {label : Label} {s : List ℕ} {count : ℕ} {w : Bool} {ou
             let one : One file.recordings i found.0.this = rw (same, d) at c.one in
             record {
               inside = omega (arith, one.inside, length-map file.recordings (λ (x : R.Placed). x.recording));
-              is = λ e. any rs i e found.0.this.recording (omega (arith, one.inside, length-map file.recordings (λ (x : R.Placed). x.recording))) ∙ get_or-map (λ (x : R.Placed). x.recording) file.recordings i found.0.this ∙ ap (λ (x : R.Placed). x.recording) (one.is found.0.this);
+              is = λ e. any rs i e found.0.this.recording (omega (arith, one.inside, length-map file.recordings (λ (x : R.Placed). x.recording))) ∙
+                  get_or-map (λ (x : R.Placed). x.recording) file.recordings i found.0.this ∙ ap (λ (x : R.Placed). x.recording) (one.is found.0.this);
             }
           where
             any : {A : Type 0} (l : List A) (n : ℕ) (d e : A) → n < length l → get_or l n d ≡ get_or l n e
@@ -184,8 +190,9 @@ module _ {o : Order} {label : Label} {s : List ℕ} {count : ℕ} {w : Bool} {ou
         filed-ahead =
             let v = file-ok (length s) (accepted s b t.ahead.accepted.judged).plays in
             let e : q.seconds ≡ found.0.this.recording.seconds = ap (λ (x : Places). x.seconds) found.1.same in
-            let all : q.total * sample_bytes q.seconds found.0.this.recording.channels ≡ length found.0.this.recording.frames * sample_bytes found.0.this.recording.seconds found.0.this.recording.channels =
-            ap (λ (n : ℕ). n * sample_bytes q.seconds found.0.this.recording.channels) found.1.frames ∙ ap (λ (n : ℕ). length found.0.this.recording.frames * sample_bytes n found.0.this.recording.channels) e in
+            let this : R.Recording = found.0.this.recording in
+            let all : q.total * sample_bytes q.seconds this.channels ≡ length this.frames * sample_bytes this.seconds this.channels =
+            ap (λ (n : ℕ). n * sample_bytes q.seconds this.channels) found.1.frames ∙ ap (λ (n : ℕ). length this.frames * sample_bytes n this.channels) e in
             let few = recordings-few s b t.ahead.accepted.judged i in
             let most = between_in 1 64 (length rs) v.header.count in
             record {
@@ -194,12 +201,14 @@ module _ {o : Order} {label : Label} {s : List ℕ} {count : ℕ} {w : Bool} {ou
               room = omega (arith, recording-small s b (i + 1) found.1.is, all, few, most.1, t.wrote.next, next_one.inside);
             }
 
-        pub filed-more : {out₂ : List ℤ} {k₂ : ℕ} → Wrote numbers 5 w out₁ out₂ k k₂ (of_recording s (i + 1) (recording_of s (i + 1))) → Filed o label s count w out out₂ k₂ q.end (i + 1) (Some q)
+        pub filed-more : {out₂ : List ℤ} {k₂ : ℕ} → Wrote numbers 5 w out₁ out₂ k k₂ (of_recording s (i + 1) (recording_of s (i + 1))) →
+            Filed o label s count w out out₂ k₂ q.end (i + 1) (Some q)
         filed-more {out₂} {k₂} h =
             let u = rw on at again.continues in
             let e : i + 1 ≡ suc i = omega arith in
             let y : Wrote numbers 5 w out₁ out₂ k k₂ (recording_entries s (suc i) found.0.this.recording) = rw (found.1.is, e) at h in
-            let one : indexed rs i ≡ value found.0.this.recording = indexed-in found.0.this.recording rs i next_one.inside ∙ ap value (next_one.is found.0.this.recording) in
+            let one : indexed rs i ≡ value found.0.this.recording = indexed-in found.0.this.recording rs i next_one.inside ∙
+            ap value (next_one.is found.0.this.recording) in
             record {
               ahead = t.ahead;
               few = omega arith;
@@ -208,9 +217,3 @@ module _ {o : Order} {label : Label} {s : List ℕ} {count : ℕ} {w : Bool} {ou
               going = on-next;
               wrote = rw (e, each_more (recording_entries s) 0 i rs one, zero-add i) (wrote-join numbers 5 (λ _. refl) w out out₁ out₂ 0 k k₂ _ _ t.wrote y);
             }
-
-    pub filed-all : count ≤ i → Wrote numbers 5 w out out₁ 0 k (entries_of s (R.judge s))
-    filed-all l =
-        let x = t.ahead.accepted in
-        let whole : take i rs ≡ rs = take_all i rs (omega (arith, l, t.ahead.count, x.count, length-map file.recordings (λ (y : R.Placed). y.recording))) in
-        rw x.judged (rw whole at t.wrote)

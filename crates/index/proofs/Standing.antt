@@ -51,7 +51,8 @@ mapped f [] c h = refusal-value h
 mapped f (a ∷ l) zero h = (a, refl, cc)
 mapped f (a ∷ l) (suc c) h = mapped f l c h
 
-pub recording-there : (s : List ℕ) {v : R.File} {r : List ℕ} {t : List Event} → R.judge s ≡ passed v r t → (c : ℕ) {x : R.Recording} → indexed (R.contents v).recordings c ≡ value x →
+pub recording-there : (s : List ℕ) {v : R.File} {r : List ℕ} {t : List Event} → R.judge s ≡ passed v r t → (c : ℕ) {x : R.Recording} →
+    indexed (R.contents v).recordings c ≡ value x →
     (y : Chosen) × (recording_of s (suc c) ≡ value y) × (y.this.recording ≡ x)
 unfolding numbered
 recording-there s {v} h c e =
@@ -70,7 +71,8 @@ frame-none s i (refusal n p) e = (n, p, frame_refused s i 0 e)
 
 pub codes-none : (s : List ℕ) (i k : ℕ) → codes_of s i 0 k ≡ []
 unfolding codes_of
-codes-none s i k = let f = frame-none s i (recording_of s i) refl in ap (λ (a : Answer Samples). codes_at s (a >>= λ x. value (place_in x))) (samples-refused s i 0 k f.2)
+codes-none s i k = let f = frame-none s i (recording_of s i) refl in
+    ap (λ (a : Answer Samples). codes_at s (a >>= λ x. value (place_in x))) (samples-refused s i 0 k f.2)
 
 -- A frame that was asked for
 
@@ -123,8 +125,10 @@ module _ (s : List ℕ) (b : Bytes s) (i j : ℕ) {f : ChosenFrame} (is : frame_
         let w : ℕ = width y.format in
         let n : ℕ = samples_in seconds y in
         let e : part_in (length s) place ≡ all_of place = part-inside (length s) place inside in
-        let there : codes_at s (value place) ≡ numbers_at (R.order_of s) w n s (place.position + 0) = rw e (part-numbers (R.order_of s) s place.position (w * n) w n 0 (omega (arith, mul_comm w n))) in
-        codes_placed ∙ (there ∙ (ap (numbers_at (R.order_of s) w n s) (add-zero place.position) ∙ ap (λ (m : ℕ). numbers_at (R.order_of s) m n s place.position) wide))
+        let there : codes_at s (value place) ≡ numbers_at (R.order_of s) w n s (place.position + 0) =
+        rw e (part-numbers (R.order_of s) s place.position (w * n) w n 0 (omega (arith, mul_comm w n))) in
+        codes_placed ∙ (there ∙
+        (ap (numbers_at (R.order_of s) w n s) (add-zero place.position) ∙ ap (λ (m : ℕ). numbers_at (R.order_of s) m n s place.position) wide))
 
     -- they are those of the reading
     pub codes-read : width y.format ≡ 2 → get_or f.frame.channels c [] ≡ codes_of s i j (suc c)
@@ -144,28 +148,33 @@ module _ {s : List ℕ} {i j : ℕ} {o : Order} {q : Places} {at : ℕ} {f : Cho
   seconds-same = ap (λ (p : Places). p.seconds) h.found.same
 
   module _ (c : ℕ) (y : R.Channel) (one : indexed f.of.this.recording.channels c ≡ value y) where
-    position-same : at + (24 + sample_bytes q.seconds (take c f.of.this.recording.channels)) ≡ f.at + (24 + sample_bytes f.of.this.recording.seconds (take c f.of.this.recording.channels))
+    position-same : at + (24 + sample_bytes q.seconds (take c f.of.this.recording.channels)) ≡ f.at +
+        (24 + sample_bytes f.of.this.recording.seconds (take c f.of.this.recording.channels))
     position-same = rw (h.place, seconds-same)
 
     -- the codes at the place that the code makes
-    pub codes-made : (p w n : ℕ) → p ≡ at + (24 + sample_bytes q.seconds (take c f.of.this.recording.channels)) → w ≡ width y.format → n ≡ samples_in q.seconds y →
+    pub codes-made : (p w n : ℕ) → p ≡ at + (24 + sample_bytes q.seconds (take c f.of.this.recording.channels)) → w ≡ width y.format →
+        n ≡ samples_in q.seconds y →
         codes_of s i j (suc c) ≡ numbers_at o w n (bytes_of s (record { position = p; width = w; count = n })) 0
     codes-made p w n e₁ e₂ e₃ =
         let d₁ : p ≡ f.at + (24 + sample_bytes f.of.this.recording.seconds (take c f.of.this.recording.channels)) = e₁ ∙ position-same in
         let d₃ : n ≡ samples_in f.of.this.recording.seconds y = e₃ ∙ ap (λ (t : ℕ). samples_in t y) seconds-same in
-        let e : ◌≡◌ {A = Place} (record { position = p; width = w; count = n }) (place_behind s h.found.bytes i j h.is c y) = λ m. record { position = d₁ m; width = e₂ m; count = d₃ m } in
+        let e : ◌≡◌ {A = Place} (record { position = p; width = w; count = n }) (place_behind s h.found.bytes i j h.is c y) =
+        λ m. record { position = d₁ m; width = e₂ m; count = d₃ m } in
         codes_placed s h.found.bytes i j h.is c y one ∙ (sym (ap (λ (x : Place). codes_at s (value x)) e) ∙
         ap (λ (x : Order). numbers_at x w n (bytes_of s (record { position = p; width = w; count = n })) 0) (sym h.found.order))
 
     -- of two bytes each
-    codes-there : width y.format ≡ 2 → codes_of s i j (suc c) ≡ words_at o s (at + (24 + sample_bytes q.seconds (take c f.of.this.recording.channels))) (samples_in q.seconds y)
+    codes-there : width y.format ≡ 2 →
+        codes_of s i j (suc c) ≡ words_at o s (at + (24 + sample_bytes q.seconds (take c f.of.this.recording.channels))) (samples_in q.seconds y)
     codes-there wide = rw (position-same, seconds-same, h.found.order) (codes-words s h.found.bytes i j h.is c y one wide)
 
 -- the frame before
 module _ {s : List ℕ} {i j : ℕ} {o : Order} {q : Places} {f : ChosenFrame} (h : FrameStands s i (suc (suc j)) o q (frame_from q (suc (suc j))) f) where
   -- its last sample of channel c is the code before
   last-there : (c : ℕ) (y : R.Channel) → indexed f.of.this.recording.channels c ≡ value y → width y.format ≡ 2 → (n : ℕ) → samples_in q.seconds y ≡ suc n →
-      last_of 0 (codes_of s i (suc j) (suc c)) ≡ number_at o 2 s (frame_from q (suc j) + (24 + sample_bytes q.seconds (take c f.of.this.recording.channels)) + 2 * n)
+      last_of 0 (codes_of s i (suc j) (suc c)) ≡ number_at o 2 s
+      (frame_from q (suc j) + (24 + sample_bytes q.seconds (take c f.of.this.recording.channels)) + 2 * n)
   last-there c y one wide n many =
       let g = frame-of s h.found.bytes i (suc (suc j)) h.is in
       let l : suc j ≤ q.total = omega (arith, g.one.inside, h.found.frames) in
@@ -188,5 +197,6 @@ before-there {s} (suc (suc j)) {o} {q} {f} l h c y is wide (suc n) at many some 
     let d : suc (suc j) - 1 ≡ suc j = omega arith in
     let d' : suc j - 1 ≡ j = omega arith in
     let e₁ : q.frame * (suc (suc j) - 1) ≡ q.frame * (suc j - 1) + q.frame = rw (d, d') (mul-suc q.frame j) in
-    let e₂ : at - q.frame + 2 * (suc n - 1) ≡ frame_from q (suc j) + (24 + sample_bytes q.seconds (take c f.of.this.recording.channels)) + 2 * n = omega (arith, place, e₁) in
+    let e₂ : at - q.frame + 2 * (suc n - 1) ≡ frame_from q (suc j) + (24 + sample_bytes q.seconds (take c f.of.this.recording.channels)) + 2 * n =
+    omega (arith, place, e₁) in
     rw (ne_eqb (suc (suc j)) 1 (λ z. omega arith), d) (ap (number_at o 2 s) e₂ ∙ sym (last-there h c y is wide n many))

@@ -28,7 +28,8 @@ module _ (o : Order) (s : List ℕ) where
   words-add at (suc m) n =
       let c : suc m + n ≡ suc (m + n) = omega arith in
       let d : at + 2 + 2 * m ≡ at + 2 * suc m = omega arith in
-      ap (words_at o s at) c ∙ ap (λ (l : List ℕ). number_at o 2 s at ∷ l) (words-add (at + 2) m n ∙ ap (λ (k : ℕ). words_at o s (at + 2) m ++ words_at o s k n) d)
+      ap (words_at o s at) c ∙
+      ap (λ (l : List ℕ). number_at o 2 s at ∷ l) (words-add (at + 2) m n ∙ ap (λ (k : ℕ). words_at o s (at + 2) m ++ words_at o s k n) d)
 
   -- a list that has the word at its place for each
   pub words_are : (l : List ℕ) (at n : ℕ) → length l ≡ n → ((m : ℕ) → m < n → get_or l m 0 ≡ number_at o 2 s (at + 2 * m)) → l ≡ words_at o s at n

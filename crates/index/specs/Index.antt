@@ -1,8 +1,7 @@
 -- The answer of `index` for a file and a buffer, and what the buffer holds afterwards, by the rules' outcome for the file.
 -- Assumes nothing.
-use Rattle.std.specs.Prelude.{Result, Ok, Err}
 use Rattle.rules.specs.declared.Refusal.{Refusal}
-use Rattle.std.specs.Prelude.{◌≡◌, true, List, [], ◌∷◌, ℕ, ◌*◌, leb, ℤ, pos, length}
+use Rattle.std.specs.Prelude.{◌≡◌, true, List, [], ◌∷◌, ℕ, ◌*◌, leb, ℤ, pos, length, Result, Ok, Err}
 use Rattle.words.specs.Lent.{written}
 use Rattle.walk.specs.Walk.{pick, Outcome, refused, passed}
 use Rattle.rules.specs.Rules as R

@@ -47,36 +47,39 @@ unfoldable pub pair_of : Order → ℕ → ℕ
 pair_of Little code = code
 pair_of Big code = code % 256 * 256 + code / 256
 
--- eight samples, and a pair of bytes; what is said where they are all that pair
-pub record Eight (s : List ℕ) (pair : ℕ) : Type 0 where
-  pub long : length s ≡ 16
-  pub small : pair < 65536
+-- eight samples that are all this pair, and what is said where they are
+abbrev pub EightOf : ℕ → List ℕ → Type 0
+EightOf pair s = (q : ℕ) → q < 8 → number_at Little 2 s (2 * q) ≡ pair
 
 abbrev pub SamePairs : List ℕ → ℕ → Bool → Type 0
-SamePairs s pair r = r ≡ true → (q : ℕ) → q < 8 → number_at Little 2 s (2 * q) ≡ pair
+SamePairs s pair r = r ≡ true → EightOf pair s
 
--- n samples, of which the code looks at those from p on, for a code
-pub record Samples (s : List ℕ) (n p code : ℕ) : Type 0 where
-  pub long : length s ≡ 2 * n
-  pub inside : p ≤ n
+-- how many samples of two bytes
+abbrev pub samples_of : List ℕ → ℕ
+samples_of s = length s / 2
+
+-- of the samples the code looks at those from p on, for a code
+pub record Samples (s : List ℕ) (p code : ℕ) : Type 0 where
+  pub long : length s ≡ 2 * samples_of s
+  pub inside : p ≤ samples_of s
   pub small : code < 65536
 
 -- from sample p up to r all are this code
-pub record Same (o : Order) (s : List ℕ) (n p code r : ℕ) : Type 0 where
+pub record Same (o : Order) (s : List ℕ) (p code r : ℕ) : Type 0 where
   pub on : p ≤ r
-  pub inside : r ≤ n
+  pub inside : r ≤ samples_of s
   pub all : (q : ℕ) → p ≤ q → q < r → number_at o 2 s (2 * q) ≡ code
 
 -- and the one at r is another
-pub record Repeated (o : Order) (s : List ℕ) (n p code r : ℕ) : Type 0 where
-  pub same : Same o s n p code r
-  pub other : r < n → number_at o 2 s (2 * r) ≡ code → ⊥
+pub record Repeated (o : Order) (s : List ℕ) (p code r : ℕ) : Type 0 where
+  pub same : Same o s p code r
+  pub other : r < samples_of s → number_at o 2 s (2 * r) ≡ code → ⊥
 
--- n samples, behind a code
-pub record SamplesAhead (s : List ℕ) (n before k : ℕ) : Type 0 where
-  pub long : length s ≡ 2 * n
+-- the samples, behind a code
+pub record SamplesAhead (s : List ℕ) (before k : ℕ) : Type 0 where
+  pub long : length s ≡ 2 * samples_of s
   pub small : before < 65536
-  pub ahead : Ahead k n n
+  pub ahead : Ahead k (samples_of s) (samples_of s)
 
 -- Channels
 

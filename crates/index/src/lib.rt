@@ -8,7 +8,7 @@ ghost use Rattle.rules.specs.Rules as R;
 ghost use Rattle.recordings.specs.Recordings.{recording_of};
 ghost use Rattle.index.specs.Events.{sample_entries};
 ghost use Rattle.index.specs.Index.{numbers, entries_of, Indexes};
-ghost use Rattle.index.specs.Listing.{entry_at, of_change, pair_of, words_at, Ahead, Eight, SamePairs, Samples, Same, Repeated, SamplesAhead};
+ghost use Rattle.index.specs.Listing.{entry_at, of_change, pair_of, words_at, samples_of, Ahead, SamePairs, Samples, Same, Repeated, SamplesAhead};
 ghost use Rattle.index.specs.Listing.{SubsIn, events_at, FirstEvents, BehindEvents, Behind, code_behind};
 ghost use Rattle.index.specs.Listing.{of_frame, of_recording, ChannelAhead, ChannelListed, FrameAhead, RecordingAhead, FileAhead};
 
@@ -75,22 +75,22 @@ fn changed(out: &mut [i64], k: usize, write: bool, spot: Spot, place: usize, cod
 }
 
 // The two bytes of a code in this order, as a number whose least byte comes first.
-fn pair_of(o: Order, code: u32) -> u64
+fn pair_of(o: Order, code: u32) -> u16
     requires { code < 65536 }
     ensures { result ≡ pair_of o code }
 {
+    let pair = code as u16;
     match o {
-        Order::Little => code as u64,
-        Order::Big => (code % 256 * 256 + code / 256) as u64,
+        Order::Little => pair,
+        Order::Big => pair.swap_bytes(),
     }
 }
 
 // Whether eight samples are this pair of bytes each, two words at a time.
-fn eight_same(s: &[u8], pair: u64) -> bool
-    requires { Eight s.now pair }
+fn eight_same(s: &[u8; 16], pair: u16) -> bool
     ensures { SamePairs s.now pair result }
 {
-    let four = pair * 0x0001_0001_0001_0001;
+    let four = u64::from(pair) * 0x0001_0001_0001_0001;
     if word_of_8(&s[0..8]) != four {
         return false;
     }
@@ -98,27 +98,22 @@ fn eight_same(s: &[u8], pair: u64) -> bool
 }
 
 // From sample p on, eights of samples that are all this pair of bytes: where they end.
-fn same_eights(s: &[u8], n: usize, p: usize, pair: u64) -> usize
-    requires { Samples s.now n p pair }
-    ensures { Same Little s.now n p pair result }
+fn same_eights(s: &[u8], p: usize, pair: u16) -> usize
+    requires { p ≤ samples_of s.now }
+    ensures { Same Little s.now p pair result }
 {
-    let mut i = p;
-    while n - i >= 8 {
-        if !eight_same(&s[2 * i..2 * i + 16], pair) {
-            return i;
-        }
-        i += 8;
-    }
-    i
+    let eights = s[2 * p..].as_chunks::<16>().0;
+    let other = eights.iter().position(|eight| !eight_same(eight, pair));
+    p + 8 * other.unwrap_or(eights.len())
 }
 
-// From sample p on, the first that is not this code; n where there is none.
-fn repeated(o: Order, s: &[u8], n: usize, p: usize, code: u32) -> usize
-    requires { Samples s.now n p code }
-    ensures { Repeated o s.now n p code result }
+// From sample p on, the first that is not this code; their number where there is none.
+fn repeated(o: Order, s: &[u8], p: usize, code: u32) -> usize
+    requires { Samples s.now p code }
+    ensures { Repeated o s.now p code result }
 {
-    let start = same_eights(s, n, p, pair_of(o, code));
-    for i in start..n {
+    let n = s.len() / 2;
+    for i in same_eights(s, p, pair_of(o, code))..n {
         if number::<2>(o, s, 2 * i) != code {
             return i;
         }
@@ -126,28 +121,27 @@ fn repeated(o: Order, s: &[u8], n: usize, p: usize, code: u32) -> usize
     n
 }
 
-// The entries of n samples of a channel in a frame, behind a code.
+// The entries of the samples of a channel in a frame, behind a code. A `while`, since it goes on from each change to the next.
 fn sample_entries(
     o: Order,
     s: &[u8],
-    n: usize,
     before: u32,
     spot: Spot,
     out: &mut [i64],
     k: usize,
     write: bool,
 ) -> usize
-    requires { SamplesAhead s.now n before k }
+    requires { SamplesAhead s.now before k }
     ensures { Wrote numbers 5 write out.old out.new k result
-        (sample_entries spot.recording spot.frame spot.channel 0 before (words_at o s.now 0 n)) }
+        (sample_entries spot.recording spot.frame spot.channel 0 before (words_at o s.now 0 (samples_of s.now))) }
 {
     let mut next = k;
     let mut code = before;
-    let mut p = repeated(o, s, n, 0, code);
-    while p < n {
+    let mut p = repeated(o, s, 0, code);
+    while p < s.len() / 2 {
         code = number::<2>(o, s, 2 * p);
         next = changed(out, next, write, spot, p, code);
-        p = repeated(o, s, n, p + 1, code);
+        p = repeated(o, s, p + 1, code);
     }
     next
 }
@@ -234,7 +228,7 @@ fn channel_entries(
         width: wide,
         count: n,
     };
-    let next = sample_entries(o, part(file, place), n, before, spot, out, k, write);
+    let next = sample_entries(o, part(file, place), before, spot, out, k, write);
     Passed { at: end, k: next }
 }
 
@@ -299,7 +293,7 @@ fn recording_entries(
     next
 }
 
-// The entries of all recordings of an accepted file: how many numbers they take.
+// The entries of all recordings of an accepted file, of which none is refused again: how many numbers they take.
 fn file_entries(
     o: Order,
     label: Label,
@@ -331,12 +325,10 @@ pub fn index(file: &[u8], out: &mut [i64]) -> Result<usize, Refusal>
     ensures { Indexes file.now out.old out.new result }
 {
     let h = judge::judge(file)?;
-    let o = h.order;
-    let heading = h.heading;
-    let label = heading.label;
-    let need = file_entries(o, label, file, h.count, out, false);
+    let label = h.heading.label;
+    let need = file_entries(h.order, label, file, h.count, out, false);
     if out.len() < need {
         return Err(Refusal(Reason::Room, need));
     }
-    Ok(file_entries(o, label, file, h.count, out, true) / 5)
+    Ok(file_entries(h.order, label, file, h.count, out, true) / 5)
 }

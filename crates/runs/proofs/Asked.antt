@@ -4,7 +4,7 @@
 use mathlib.Core.Path.{◌≡◌, refl, sym, ap}
 use mathlib.Core.Bool.{Bool, true, false, ◌&&◌}
 use mathlib.Core.List.{List}
-use Prim.Native.Nat.{ℕ, ◌+◌, ◌≤◌, ◌<◌}
+use Prim.Native.Nat.{ℕ, ◌+◌, ◌<◌}
 use borrow.Author.Tests.{lt-leb, leb-true}
 use lib.Dec.{leb}
 use lib.ListN.{length}
@@ -17,17 +17,12 @@ use Rattle.descriptions.specs.declared.Places.{Places}
 use Rattle.samples.specs.Asked.{RunIn}
 use Rattle.samples.specs.Frames.{format_of, Samples, samples_of}
 use Rattle.samples.specs.Placed.{place_in}
-use Rattle.samples.specs.declared.Place.{Place}
 use Rattle.samples.specs.declared.Run.{Run}
 use Rattle.samples.proofs.Framing.{frame-of}
-use Rattle.samples.proofs.Placing.{placed, run-wide, some-shown}
+use Rattle.samples.proofs.Placing.{placed, some-shown}
 use Rattle.samples.proofs.Sampling.{SamplesIn, samples-from}
-use Rattle.runs.specs.Found.{RunInside, FoundIn}
-use Rattle.runs.specs.Runs.{serves, run_within, place_from, run_at, run_of, answer_of}
+use Rattle.runs.specs.Runs.{serves, run_within, run_at, run_of, answer_of}
 use Rattle.runs.specs.declared.Sibling.{Sibling}
-
-pub run-refused : (b : Sibling) (s : List ℕ) (i j k first n space : ℕ) {m p : ℕ} → samples_of s i j k ≡ refusal m p → answer_of b s i j k first n space ≡ refusal m p
-run-refused b s i j k first n space h = rw h
 
 module _ {s : List ℕ} {i j k : ℕ} {o : Order} {q : Places} {run : Run} {x : Samples} (h : RunIn s i j k o q run x) where
   module _ (b : Sibling) (first n : ℕ) where
@@ -35,32 +30,10 @@ module _ {s : List ℕ} {i j k : ℕ} {o : Order} {q : Places} {run : Run} {x : 
     run_by : run_of b s i j k first n ≡ run_at b s first n run.format run.place
     run_by = rw (placed h, h.described)
 
-    module _ (space : ℕ) where
-      pub run-unserved : serves b run.format ≡ false → answer_of b s i j k first n space ≡ refusal 19 0
-      run-unserved e = rw (run_by, e)
-
-      module _ (served : serves b run.format ≡ true) where
-        pub run-outside : leb (first + n) run.place.count ≡ false → answer_of b s i j k first n space ≡ refusal 19 0
-        run-outside l = rw (run_by, served, l)
-
-        pub run_short : leb (first + n) run.place.count ≡ true → space < n → answer_of b s i j k first n space ≡ refusal 17 n
-        run_short l r = rw (run_by, served, l, lt-leb n space r)
-
-        pub run-within : leb (first + n) run.place.count ≡ true → RunInside (length s) first n run.place
-        run-within l = record { file = h.inside; inside = leb-true (first + n) run.place.count l }
-
-        pub run-found : leb (first + n) run.place.count ≡ true → n ≤ space → (p : Place) → p ≡ place_from first n run.place → FoundIn b s i j k first n space o run.format p
-        run-found l r p q = record {
-          order = h.order;
-          all = run.place;
-          placed = placed h;
-          described = h.described;
-          wide = run-wide h;
-          served = served;
-          inside = run-within l;
-          room = r;
-          place = q;
-        }
+    -- where the file's samples are enough and the buffer isn't
+    pub run_short : (space : ℕ) → serves b run.format ≡ true → leb (first + n) run.place.count ≡ true → space < n →
+        answer_of b s i j k first n space ≡ refusal 17 n
+    run_short space served l r = rw (run_by, served, l, lt-leb n space r)
 
 -- The definition before places: some of the values of the reading
 
@@ -68,7 +41,8 @@ same_if : {A : Type 0} (c : Bool) (x y z : A) → (c ≡ true → x ≡ y) → p
 same_if true x y z h = h refl
 same_if false x y z h = refl
 
-pub as_before : (s : List ℕ) → Bytes s → (b : Sibling) (i j k first n : ℕ) → run_of b s i j k first n ≡ (samples_of s i j k >>= λ x. run_within b first n x.format x.values)
+pub as_before : (s : List ℕ) → Bytes s → (b : Sibling) (i j k first n : ℕ) →
+    run_of b s i j k first n ≡ (samples_of s i j k >>= λ x. run_within b first n x.format x.values)
 as_before s y b i j k first n = go (samples_of s i j k) refl
   where
     shown : (x : Samples) → SamplesIn s x → run_at b s first n x.format (place_in x) ≡ run_within b first n x.format x.values

@@ -51,7 +51,8 @@ written Sibling.Whole format w n h = go (eqb format 4) refl
 written Sibling.Floats format w n h = rw h
 
 -- a run that is refused leaves the buffer as it was
-pub runs-refused : (b : Sibling) (s : List ℕ) (i j k first n : ℕ) (out : List (Element b)) (r : Refusal) → answer_of b s i j k first n (length out) ≡ refusal (number_of r.0) r.1 → RunAnswer b s i j k first n out out (Err r)
+pub runs-refused : (b : Sibling) (s : List ℕ) (i j k first n : ℕ) (out : List (Element b)) (r : Refusal) →
+    answer_of b s i j k first n (length out) ≡ refusal (number_of r.0) r.1 → RunAnswer b s i j k first n out out (Err r)
 runs-refused b s i j k first n out r h = record { answer = sym h; buffer = go (run_of b s i j k first n) h }
   where
     go : (x : Answer (List Value)) → counted n (length out) x ≡ refusal (number_of r.0) r.1 → out ≡ holding b n x out
@@ -101,14 +102,20 @@ module _ {b : Sibling} {s : List ℕ} {i j k first n space : ℕ} {o : Order} {f
 
     pub bytes-long : length bytes ≡ length (take n out) * v
     bytes-long =
-        let inside : p.position + p.width * p.count ≤ length s = rw f.place (omega (arith, f.inside.file, mul-le-mul_left f.all.width f.inside.inside, mul-add f.all.width first n)) in
+        let inside : p.position + p.width * p.count ≤ length s =
+        rw f.place (omega (arith, f.inside.file, mul-le-mul_left f.all.width f.inside.inside, mul-add f.all.width first n)) in
         let l : length bytes ≡ w * n = ap length cut ∙ (bytes-many s p ∙ (ap (λ (q : Cut). q.length) (part-inside (length s) p inside) ∙ rw (wide, many))) in
         l ∙ rw (first-long, is) (mul_comm w n)
 
-    pub runs-told : (x : Value) (d' : List (Element b)) → Decoded (element_of b x) (means b v) o v bytes (take n out) d' → RunAnswer b s i j k first n out (d' ++ drop n out) (Ok n)
+    pub runs-told : (x : Value) (d' : List (Element b)) → Decoded (element_of b x) (means b v) o v bytes (take n out) d' →
+        RunAnswer b s i j k first n out (d' ++ drop n out) (Ok n)
     runs-told x d' g =
         let r = le-leb n (length out) (omega (arith, f.room)) in
-        record { answer = rw (run_is, r); buffer = rw (run_is, r) (ap (λ (z : List (Element b)). z ++ drop n out) (decoded x (take n out) d' first-long (rw (is, cut) at g))) }
+        record {
+          answer = rw (run_is, r);
+          buffer =
+              rw (run_is, r) (ap (λ (z : List (Element b)). z ++ drop n out) (decoded x (take n out) d' first-long (rw (is, cut) at g)));
+        }
 
 -- floats have four bytes
 pub floats-wide : (format : ℕ) → serves Sibling.Floats format ≡ true → 4 ≡ R.width format
@@ -116,5 +123,6 @@ unfolding R.width
 floats-wide format h = rw (eqb-true format 4 h)
 
 -- one answer and one buffer for every file, run and buffer
-pub run-unique : (b : Sibling) (s : List ℕ) (i j k first n : ℕ) (out out₁ out₂ : List (Element b)) (a c : Result ℕ Refusal) → RunAnswer b s i j k first n out out₁ a → RunAnswer b s i j k first n out out₂ c → (a ≡ c) × (out₁ ≡ out₂)
+pub run-unique : (b : Sibling) (s : List ℕ) (i j k first n : ℕ) (out out₁ out₂ : List (Element b)) (a c : Result ℕ Refusal) →
+    RunAnswer b s i j k first n out out₁ a → RunAnswer b s i j k first n out out₂ c → (a ≡ c) × (out₁ ≡ out₂)
 run-unique b s i j k first n out out₁ out₂ a c x y = (meaning-one a c x.answer y.answer, x.buffer ∙ sym y.buffer)

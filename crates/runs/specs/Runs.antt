@@ -1,9 +1,8 @@
 -- A run of samples, of a channel in a frame: how many are asked for from the first on of those at its place, and by which of two calls; the answer, and
 -- what the buffer holds afterwards.
 -- Assumes nothing.
-use Rattle.std.specs.Prelude.{Result, Ok, Err}
 use Rattle.rules.specs.declared.Refusal.{Refusal}
-use Rattle.std.specs.Prelude.{◌≡◌, Bool, ◌&&◌, not, List, ◌++◌, map, ℕ, ◌+◌, ◌*◌, leb, eqb, ℤ, pos, length, take, drop}
+use Rattle.std.specs.Prelude.{◌≡◌, Bool, ◌&&◌, not, List, ◌++◌, map, ℕ, ◌+◌, ◌*◌, leb, eqb, ℤ, pos, length, take, drop, Result, Ok, Err}
 use Rattle.walk.specs.Walk.{pick}
 use Rattle.rules.specs.Reading.{Value, whole, float}
 use Rattle.recordings.specs.Answers.{Answer, value, refusal, ◌>>=◌, outside, meaning}

@@ -67,7 +67,8 @@ fn run_asked(
     Ok((order, run.format, from))
 }
 
-// A run of whole numbers, of a channel of format 1, 2 or 3.
+// A run of whole numbers, of a channel of format 1, 2 or 3. It and `run_floats` keep their own three lines behind what they share: one function for both
+// would take a trait of the two elements, with a law of each method, and still be called by these two names.
 pub fn run(
     file: &[u8],
     recording: usize,

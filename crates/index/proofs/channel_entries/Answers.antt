@@ -14,6 +14,7 @@ use Rattle.samples.specs.declared.Cut.{Cut}
 use Rattle.samples.specs.declared.Place.{Place}
 use Rattle.samples.proofs.Placing.{all_of, part-inside, bytes-many}
 use Rattle.index.specs.Events.{of_events}
+use Rattle.index.specs.Listing.{samples_of}
 use Rattle.index.proofs.Framing.{the_one, its-sub, its-end, its-frame, far-enough, its-bytes, channel-quiet, channel-empty, channel-listed}
 use Rattle.index.proofs.Standing.{events-kept, events-width, before-there}
 use Rattle.index.proofs.channel_entries.Goals as goal
@@ -34,14 +35,13 @@ wide : (w : After-width-wide) → w.width-wide.result ≡ R.width (y w).format
 wide w = w.width-wide.ensures.0 ∙ ap R.width (w.number-format.ensures.0 ∙ sym (its-sub w.requires).format)
 
 ends : (w : After-width-wide) → w.args.at + w.width-wide.result * w.samples_in-n.result ≡ w.args.at + R.samples_in w.args.q.seconds (y w) * R.width (y w).format
-ends w = ap (λ (n : ℕ). w.args.at + n) (mul_comm w.width-wide.result w.samples_in-n.result ∙ ap (λ (m : ℕ). m * w.width-wide.result) (many w) ∙ ap (λ (m : ℕ). R.samples_in w.args.q.seconds (y w) * m) (wide w))
+ends w = ap (λ (n : ℕ). w.args.at + n)
+    (mul_comm w.width-wide.result w.samples_in-n.result ∙ ap (λ (m : ℕ). m * w.width-wide.result) (many w) ∙
+    ap (λ (m : ℕ). R.samples_in w.args.q.seconds (y w) * m) (wide w))
 
 -- the subs have room in the file, that of the channel among them
 room : (b : After-struct_known-1) → ChannelsIn (length b.args.file.now) (subs_at b.args.q.channels b.args.q.count)
 room b = b.requires.stands.found.owned.room
-
-sub-inside : (b : After-struct_known-1) → b.args.q.channels + 32 + 256 * b.args.c + 256 ≤ length b.args.file.now
-sub-inside b = omega (arith, room b, b.requires.inside)
 
 events : (e : Else-not-events_at) → of_events (y (goal.at.Else-not-events_at e).After-width-wide) ≡ true
 events e =
@@ -52,7 +52,9 @@ twice : (e : After-sample_entries-arg-1) →
     let w = e in
     w.width-wide.result * w.samples_in-n.result ≡ 2 * w.samples_in-n.result
 twice e =
-    ap (λ (m : ℕ). m * e.samples_in-n.result) (wide (goal.at.After-sample_entries-arg-1 e).After-width-wide ∙ events-width (y (goal.at.After-sample_entries-arg-1 e).After-width-wide) (events (goal.at.After-sample_entries-arg-1 e).Else-not-events_at))
+    ap (λ (m : ℕ). m * e.samples_in-n.result)
+    (wide (goal.at.After-sample_entries-arg-1 e).After-width-wide ∙
+    events-width (y (goal.at.After-sample_entries-arg-1 e).After-width-wide) (events (goal.at.After-sample_entries-arg-1 e).Else-not-events_at))
 
 abbrev place : goal.After-sample_entries-arg-1 → Place
 place w = record { position = w.args.at; width = w.width-wide.result; count = w.samples_in-n.result }
@@ -62,54 +64,25 @@ part-long : (e : After-sample_entries-arg-1) (part : List ℕ) →
     part ≡ bytes_of w.args.file.now (place w) → length part ≡ 2 * w.samples_in-n.result
 part-long e part h =
     let s = e.args.file.now in
-    let l : part_in (length s) (place e) ≡ all_of (place e) = part-inside (length s) (place e) (omega (arith, its-end e.requires, ends (goal.at.After-sample_entries-arg-1 e).After-width-wide)) in
+    let l : part_in (length s) (place e) ≡ all_of (place e) =
+    part-inside (length s) (place e) (omega (arith, its-end e.requires, ends (goal.at.After-sample_entries-arg-1 e).After-width-wide)) in
     ap length h ∙ (bytes-many s (place e) ∙ (ap (λ (p : Cut). p.length) l ∙ twice e))
 
-pub overflow_add-p : goal.overflow_add-p
-overflow_add-p c = record { fits = omega (arith, sub-inside c, c.well_formed) }
-
-pub overflow_mul-p : goal.overflow_mul-p
-overflow_mul-p c = record { fits = omega (arith, sub-inside c, c.well_formed) }
-
-pub overflow_add-p-2 : goal.overflow_add-p-2
-overflow_add-p-2 c = record { fits = omega (arith, sub-inside c, c.well_formed) }
-
-pub overflow_add-p-3 : goal.overflow_add-p-3
-overflow_add-p-3 c = record { fits = omega (arith, sub-inside c, c.well_formed) }
-
-pub number-flags-requires-clause-within : goal.number-flags-requires-clause-within
-number-flags-requires-clause-within c = omega (arith, sub-inside c)
-
-pub overflow_add-p-4 : goal.overflow_add-p-4
-overflow_add-p-4 c = record { fits = omega (arith, sub-inside (goal.at.overflow_add-p-4 c).After-struct_known-1, c.well_formed) }
-
-pub number-format-requires-clause-within : goal.number-format-requires-clause-within
-number-format-requires-clause-within c = omega (arith, sub-inside (goal.at.number-format-requires-clause-within c).After-struct_known-1)
-
-pub overflow_add-p-5 : goal.overflow_add-p-5
-overflow_add-p-5 c = record { fits = omega (arith, sub-inside (goal.at.overflow_add-p-5 c).After-struct_known-1, c.well_formed) }
-
-pub number-rate-requires-clause-within : goal.number-rate-requires-clause-within
-number-rate-requires-clause-within c = omega (arith, sub-inside (goal.at.number-rate-requires-clause-within c).After-struct_known-1)
-
-pub samples_in-n-requires : goal.samples_in-n-requires
-samples_in-n-requires c = c.requires.stands.found.seconds
-
-pub overflow_mul-end : goal.overflow_mul-end
-overflow_mul-end c = record { fits = omega (arith, its-end c.requires, ends c, c.well_formed) }
+part-samples : (e : After-sample_entries-arg-1) (part : List ℕ) → part ≡ bytes_of e.args.file.now (place e) → samples_of part ≡ e.samples_in-n.result
+part-samples e part h = omega (arith, part-long e part h)
 
 pub overflow_add-end : goal.overflow_add-end
 overflow_add-end c = record { fits = omega (arith, its-end c.requires, ends c, c.well_formed) }
 
 pub returns-then-n-eq0 : goal.returns-then-n-eq0
-returns-then-n-eq0 c = channel-empty c.requires _ (ends (goal.at.returns-then-n-eq0 c).After-width-wide) (sym (many (goal.at.returns-then-n-eq0 c).After-width-wide) ∙ c.if-n-eq0.true)
-
-pub events_at-requires : goal.events_at-requires
-events_at-requires c = sub-inside (goal.at.events_at-requires c).After-struct_known-1
+returns-then-n-eq0 c =
+    channel-empty c.requires _ (ends (goal.at.returns-then-n-eq0 c).After-width-wide)
+    (sym (many (goal.at.returns-then-n-eq0 c).After-width-wide) ∙ c.if-n-eq0.true)
 
 pub returns-then-not-events_at : goal.returns-then-not-events_at
 returns-then-not-events_at c =
-    channel-quiet c.requires _ (ends (goal.at.returns-then-not-events_at c).After-width-wide) (sym (events-kept _ _ _ _ (its-sub c.requires)) ∙ sym c.events_at.ensures ∙ c.if-not-events_at.true)
+    channel-quiet c.requires _ (ends (goal.at.returns-then-not-events_at c).After-width-wide)
+    (sym (events-kept _ _ _ _ (its-sub c.requires)) ∙ sym c.events_at.ensures ∙ c.if-not-events_at.true)
 
 pub code_before-before-requires : goal.code_before-before-requires
 code_before-before-requires c =
@@ -123,9 +96,25 @@ code_before-before-requires c =
 pub sample_entries-next-requires : goal.sample_entries-next-requires
 sample_entries-next-requires c =
     record {
-      long = part-long c _ c.part.ensures.bytes;
+      long = omega (arith, part-long c _ c.part.ensures.bytes);
       small = omega (arith, c.code_before-before.ensures.1);
-      ahead = record { room = omega (arith, c.requires.room (y (goal.at.sample_entries-next-requires c).After-width-wide) (the_one c.requires).1, many (goal.at.sample_entries-next-requires c).After-width-wide); short = omega (arith, its-bytes c.requires (events (goal.at.sample_entries-next-requires c).Else-not-events_at), many (goal.at.sample_entries-next-requires c).After-width-wide, c.well_formed) };
+      ahead = record {
+        room =
+            omega (
+              arith,
+              c.requires.room (y (goal.at.sample_entries-next-requires c).After-width-wide) (the_one c.requires).1,
+              many (goal.at.sample_entries-next-requires c).After-width-wide,
+              part-samples c _ c.part.ensures.bytes,
+            );
+        short =
+            omega (
+              arith,
+              part-samples c _ c.part.ensures.bytes,
+              its-bytes c.requires (events (goal.at.sample_entries-next-requires c).Else-not-events_at),
+              many (goal.at.sample_entries-next-requires c).After-width-wide,
+              c.well_formed,
+            );
+      };
     }
 
 pub returns : goal.returns
@@ -133,6 +122,10 @@ returns c =
     let a = c.requires in
     let n = c.samples_in-n.result in
     let some : 1 ≤ n = omega (arith, c.if-n-eq0.false) in
-    channel-listed a _ (ends (goal.at.returns c).After-width-wide) n c.width-wide.result c.code_before-before.result _ _ (events (goal.at.returns c).Else-not-events_at) (many (goal.at.returns c).After-width-wide) (wide (goal.at.returns c).After-width-wide)
-    (c.code_before-before.ensures.0 ∙ before-there c.args.spot.frame (its-frame a) a.stands c.args.c (y (goal.at.returns c).After-width-wide) (the_one a).1 (events-width (y (goal.at.returns c).After-width-wide) (events (goal.at.returns c).Else-not-events_at)) n c.args.at (sym (many (goal.at.returns c).After-width-wide)) some a.place)
-    c.part.ensures.bytes c.sample_entries-next.ensures
+    channel-listed a _ (ends (goal.at.returns c).After-width-wide) n c.width-wide.result c.code_before-before.result _ _
+    (events (goal.at.returns c).Else-not-events_at) (many (goal.at.returns c).After-width-wide) (wide (goal.at.returns c).After-width-wide)
+    (c.code_before-before.ensures.0 ∙
+    before-there c.args.spot.frame (its-frame a) a.stands c.args.c (y (goal.at.returns c).After-width-wide) (the_one a).1
+    (events-width (y (goal.at.returns c).After-width-wide) (events (goal.at.returns c).Else-not-events_at)) n c.args.at
+    (sym (many (goal.at.returns c).After-width-wide)) some a.place)
+    c.part.ensures.bytes (rw (part-samples (goal.at.returns c).After-sample_entries-arg-1 _ c.part.ensures.bytes) at c.sample_entries-next.ensures)

@@ -9,9 +9,6 @@ pub returns-then-frame-eq1 : goal.returns-then-frame-eq1
 unfolding code_behind
 returns-then-frame-eq1 c = (rw c.if-frame-eq1.true, omega arith)
 
-pub overflow_sub-at : goal.overflow_sub-at
-overflow_sub-at c = c.requires.before c.if-frame-eq1.false
-
 pub returns : goal.returns
 unfolding code_behind
 returns c = (rw (ne_eqb c.args.frame 1 c.if-frame-eq1.false) c.number.ensures.0, c.number.ensures.1)

@@ -26,4 +26,5 @@ pub returns : goal.returns
 unfolding events_at
 returns c =
     let a = c.args in
-    its-type (number_at a.o 4 a.s.now (a.p + 24)) (number_at a.o 4 a.s.now (a.p + 28)) c.number-2.result (sym c.number.ensures.0 ∙ c.if-number-ne-EVENTS.false) c.number-2.ensures.0
+    its-type (number_at a.o 4 a.s.now (a.p + 24)) (number_at a.o 4 a.s.now (a.p + 28)) c.number-2.result
+    (sym c.number.ensures.0 ∙ c.if-number-ne-EVENTS.false) c.number-2.ensures.0

@@ -6,7 +6,7 @@ use borrow.Author.Rules.{rules}
 use Rattle.words.specs.Numbers.{Bytes}
 use Rattle.words.proofs.Words.{bytes}
 use Rattle.judge.proofs.Accepted.{accepted-long}
-use Rattle.index.proofs.Recorded.{filed-start, filed-stop, filed-ahead, filed-more, filed-all}
+use Rattle.index.proofs.Recorded.{filed-start, filed-stop, filed-ahead, filed-more}
 use Rattle.index.proofs.file_entries.Goals as goal
 use Rattle.index.proofs.file_entries.Goals.{After-recording_again}
 
@@ -17,27 +17,18 @@ file-bytes c = bytes c.args.file.now (λ j. omega (arith, c.type_inv.file j))
 pub loop-i-init : goal.loop-i-init
 loop-i-init c = (filed-start (accepted-long _ _ c.requires.accepted) c.requires, refl)
 
-pub recording_again-requires : goal.recording_again-requires
-recording_again-requires c = record { inside = omega (arith, c.loop-i.invariant.0.inside, accepted-long _ _ c.requires.accepted); short = omega (arith, c.well_formed); held = c.loop-i.invariant.0.room }
-
-pub shape_of-out-in_default : goal.shape_of-out-in_default
-shape_of-out-in_default c = c.loop-i.invariant.1
-
 pub returns-in_default : goal.returns-in_default
 returns-in_default c =
-    filed-stop c.loop-i.invariant.0 (file-bytes (goal.at.returns-in_default c).After-recording_again) c.loop-i-test.true _ c.recording_again.ensures c.in_default.is
+    filed-stop c.loop-i.invariant.0
+    (file-bytes (goal.at.returns-in_default c).After-recording_again) c.loop-i-test.true _ c.recording_again.ensures c.in_default.is
 
 pub recording_entries-k-requires : goal.recording_entries-k-requires
 recording_entries-k-requires c =
-    filed-ahead c.loop-i.invariant.0 (file-bytes (goal.at.recording_entries-k-requires c).After-recording_again) c.loop-i-test.true _ c.recording_again.ensures c.in-Ok.is
+    filed-ahead c.loop-i.invariant.0
+    (file-bytes (goal.at.recording_entries-k-requires c).After-recording_again) c.loop-i-test.true _ c.recording_again.ensures c.in-Ok.is
 
 pub loop-i-preserved : goal.loop-i-preserved
 loop-i-preserved c =
-    let m = filed-more c.loop-i.invariant.0 (file-bytes (goal.at.loop-i-preserved c).After-recording_again) c.loop-i-test.true _ c.recording_again.ensures c.in-Ok.is c.recording_entries-k.ensures in
+    let m = filed-more c.loop-i.invariant.0
+    (file-bytes (goal.at.loop-i-preserved c).After-recording_again) c.loop-i-test.true _ c.recording_again.ensures c.in-Ok.is c.recording_entries-k.ensures in
     (m, search rules)
-
-pub shape_of-out : goal.shape_of-out
-shape_of-out c = c.loop-i.invariant.1
-
-pub returns : goal.returns
-returns c = filed-all c.loop-i.invariant.0 (omega arith)

