@@ -1,5 +1,6 @@
 -- What is written of the records of a recording, one after the other, from what each of the code's steps wrote.
 -- Assumes nothing.
+use mathlib.Core.Logic.{◌⊎◌, inl, inr}
 use mathlib.Core.Path.{◌≡◌, refl, sym, ap, ◌∙◌}
 use mathlib.Core.Bool.{Bool, true, false}
 use mathlib.Core.List.{List, [], ◌∷◌, ◌++◌, append_assoc, append-nil}
@@ -163,8 +164,19 @@ module _ (w : Way) (code : ℕ) (s d : List ℕ) where
     maker = λ z. absurd (omega (arith, maker-high code z, group-low code q));
   }
 
-  pub bodied-items : (code ≡ 100 → ⊥) → is_group code ≡ false → code < 1024 → Itemized w s d → Bodied w code s d
-  bodied-items n₁ n₂ l y = record { basic = λ z. absurd (n₁ z); channels = λ z. false-true (sym n₂ ∙ z); patient = λ _. y; events = λ _. y; maker = λ z. absurd (omega (arith, maker-high code z)) }
+  pub bodied-items : code ≡ 130 ⊎ code ≡ 200 → Itemized w s d → Bodied w code s d
+  unfolding is_group
+  bodied-items q y = record {
+    basic = λ z. absurd (omega (arith, q));
+    channels = λ z. false-true (sym (ungrouped q) ∙ z);
+    patient = λ _. y;
+    events = λ _. y;
+    maker = λ z. absurd (omega (arith, q, maker-high code z));
+  }
+    where
+      ungrouped : code ≡ 130 ⊎ code ≡ 200 → is_group code ≡ false
+      ungrouped (inl e) = ap is_group e
+      ungrouped (inr e) = ap is_group e
 
 -- a 120, 320 or 350 has the length that its count of subs asks for
 pub channels-counted : (o : Order) (b : ℕ) (s : List ℕ) (c : Group) (n : ℕ) {l : List Channel} {e : ℕ} → see o b s b (channels_body c n) ≡ goes l e → n ≡ 32 + 256 * number_at o 4 s 0
