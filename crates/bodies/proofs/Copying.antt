@@ -17,30 +17,36 @@ use Rattle.bodies.specs.declared.Way.{Way}
 
 module _ {A B : Type 0} (w : Way) (b : ℕ) (s : List ℕ) (at : ℕ) where
   -- one walk after the other, where the first goes on
-  pub copy-bind : (v : Walk A) (k : A → Walk B) {a : A} {e : ℕ} → see w.from b s at v ≡ goes a e → copy w b s at (v >>= k) ≡ copy w b s at v ++ copy w b s e (k a)
-  copy-bind v k {a} {e} h = ap (written w.keep w.to) (trace-bind w.from b s at v k h) ∙ written-append w.keep w.to (trace w.from b s at v) (trace w.from b s e (k a))
+  pub copy-bind : (v : Walk A) (k : A → Walk B) {a : A} {e : ℕ} → see w.from b s at v ≡ goes a e →
+      copy w b s at (v >>= k) ≡ copy w b s at v ++ copy w b s e (k a)
+  copy-bind v k {a} {e} h = ap (written w.keep w.to) (trace-bind w.from b s at v k h) ∙ written-append w.keep w.to (trace w.from b s at v)
+      (trace w.from b s e (k a))
 
   pub copy-give : (v : Walk A) (f : A → B) → copy w b s at (v >>= λ a. give (f a)) ≡ copy w b s at v
   copy-give v f = ap (written w.keep w.to) (trace-give w.from b s at v f)
 
 -- a head that is admitted is written already
-pub copy-admit : {A : Type 0} (w : Way) (b : ℕ) (s : List ℕ) (at room most : ℕ) (fits serial : ℕ → Bool) (h : Head) (v : Walk A) → copy w b s at (admit room most fits serial h >> v) ≡ copy w b s at v
+pub copy-admit : {A : Type 0} (w : Way) (b : ℕ) (s : List ℕ) (at room most : ℕ) (fits serial : ℕ → Bool) (h : Head) (v : Walk A) →
+    copy w b s at (admit room most fits serial h >> v) ≡ copy w b s at v
 unfolding admit trace ◌>>=◌ ◌>>◌
 copy-admit w b s at room most fits serial h v = written_row w.keep w.to 16 (span h) h.code h.serial (trace w.from b s at v)
 
 module _ {A : Type 0} (w : Way) where
   -- a walk that went on and stays in a part is written the same there as in the whole
-  pub copy-part : (b c a m : ℕ) (s : List ℕ) → c ≡ b + a → a + m ≤ length s → (v : Walk A) (at : ℕ) (Q : A → ℕ → Type 0) → c ≤ at → Stays (c + m) at v Q → {x : A} {e : ℕ} → see w.from b s at v ≡ goes x e →
+  pub copy-part : (b c a m : ℕ) (s : List ℕ) → c ≡ b + a → a + m ≤ length s → (v : Walk A) (at : ℕ) (Q : A → ℕ → Type 0) → c ≤ at → Stays (c + m) at v Q →
+      {x : A} {e : ℕ} → see w.from b s at v ≡ goes x e →
       copy w c (take m (drop a s)) at v ≡ copy w b s at v
   copy-part b c a m s stands fits v at Q g h k = ap (written w.keep w.to) (trace-part w.from b c a m s stands fits v at Q g h k)
 
   -- the body of the record at p, handed on as the part up to q
-  pub copy_body : (b p q : ℕ) (s : List ℕ) (v : Walk A) (Q : A → ℕ → Type 0) → p + 16 ≤ q → q ≤ length s → Stays (b + q) (b + p + 16) v Q → {x : A} {e : ℕ} → see w.from b s (b + (p + 16)) v ≡ goes x e →
+  pub copy_body : (b p q : ℕ) (s : List ℕ) (v : Walk A) (Q : A → ℕ → Type 0) → p + 16 ≤ q → q ≤ length s → Stays (b + q) (b + p + 16) v Q → {x : A} {e : ℕ} →
+      see w.from b s (b + (p + 16)) v ≡ goes x e →
       copy w (b + p + 16) (take (q - (p + 16)) (drop (p + 16) s)) (b + p + 16) v ≡ copy w b s (b + (p + 16)) v
   copy_body b p q s v Q f l h k = ap (written w.keep w.to) (trace-body w.from b p q s v Q f l h k)
 
   -- as many bytes as the walk reads
-  pub length-copy : (b : ℕ) (s : List ℕ) (L : ℕ) → L ≤ b + length s → (v : Walk A) (at : ℕ) (Q : A → ℕ → Type 0) {x : A} {e : ℕ} → b ≤ at → Stays L at v Q → see w.from b s at v ≡ goes x e → at + length (copy w b s at v) ≡ e
+  pub length-copy : (b : ℕ) (s : List ℕ) (L : ℕ) → L ≤ b + length s → (v : Walk A) (at : ℕ) (Q : A → ℕ → Type 0) {x : A} {e : ℕ} → b ≤ at → Stays L at v Q →
+      see w.from b s at v ≡ goes x e → at + length (copy w b s at v) ≡ e
   length-copy b s L fit v at Q g h k =
       let i = size-trace w.from b s L fit v at Q g h k in
       let j = length-written w.keep w.to (trace w.from b s at v) in

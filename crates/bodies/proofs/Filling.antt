@@ -29,10 +29,12 @@ use Rattle.records.specs.Says.{Kept}
 use Rattle.bodies.specs.Copy.{copy, filling, all_wide, widths_in}
 use Rattle.bodies.specs.declared.Way.{Way}
 use Rattle.bodies.proofs.Copying.{copy-bind, copy-give, length-copy}
-use Rattle.bodies.proofs.Pieces.{Takes, Left, left-whole, left-numbers, left-reserve, left-nothing, copy_within, length-within, copy-next, copy-follows, takes-numbers, takes-text, text-whole}
+use Rattle.bodies.proofs.Pieces.{Takes, Left, left-whole, left-numbers, left-reserve, left-nothing}
+use Rattle.bodies.proofs.Pieces.{copy_within, length-within, copy-next, copy-follows, takes-numbers, takes-text, text-whole}
 
 -- a piece of m bytes that a call wrote, which was lent k
-piece-pasted : {A : Type 0} (w : Way) (b : ℕ) (s d ys : List ℕ) (v : Walk A) (n m k : ℕ) → Takes m v → k ≡ m → n + m ≤ length s → ((c : ℕ) → ys ≡ copy w c (take k (drop n s)) c v) → put n k d ys ≡ pasted d n (copy w b s (b + n) v)
+piece-pasted : {A : Type 0} (w : Way) (b : ℕ) (s d ys : List ℕ) (v : Walk A) (n m k : ℕ) → Takes m v → k ≡ m → n + m ≤ length s →
+    ((c : ℕ) → ys ≡ copy w c (take k (drop n s)) c v) → put n k d ys ≡ pasted d n (copy w b s (b + n) v)
 piece-pasted w b s d ys v n m k takes e f h =
     let g : ys ≡ copy w b s (b + n) v = h (b + n) ∙ rw e (copy_within w b s m v takes n) in
     part-pasted d ys n k (ap length g ∙ (length-within w b s m v takes (b + n) (omega arith) (omega arith) ∙ sym e)) ∙ ap (pasted d n) g
@@ -55,7 +57,8 @@ module _ (b : ℕ) (s : List ℕ) (p : ℕ) (ok : ℕ → Bool) (room : ℕ) whe
       let e : n ≡ number_at w.from 4 s (b + p - b) = rw (add-sub_cancel_left b p) is in
       rw e
 
-  pub item-says : (o : Order) {x : Item} {e : ℕ} → see o b s (b + p) (item ok room) ≡ goes x e → (8 ≤ number_at o 4 s p) × (number_at o 4 s p ≤ room) × (e ≡ b + (p + number_at o 4 s p))
+  pub item-says : (o : Order) {x : Item} {e : ℕ} → see o b s (b + p) (item ok room) ≡ goes x e →
+      (8 ≤ number_at o 4 s p) × (number_at o 4 s p ≤ room) × (e ≡ b + (p + number_at o 4 s p))
   unfolding item ◌>>=◌ ◌>>◌
   item-says o g =
       let n : ℕ = number_at o 4 s (b + p - b) in
@@ -67,7 +70,8 @@ module _ (b : ℕ) (s : List ℕ) (p : ℕ) (ok : ℕ → Bool) (room : ℕ) whe
       g)
 
 -- as the code writes it: the numbers, ys, in j bytes, and the text, zs, in k
-module _ (w : Way) (s d : List ℕ) (p n j k : ℕ) (long : length d ≡ length s) (is : n ≡ number_at w.from 4 s p) (least : 8 ≤ n) (inside : p + n ≤ length s) (front : j ≡ 8) (rest : k ≡ n - 8) (ys zs : List ℕ)
+module _ (w : Way) (s d : List ℕ) (p n j k : ℕ) (long : length d ≡ length s) (is : n ≡ number_at w.from 4 s p) (least : 8 ≤ n) (inside : p + n ≤ length s)
+    (front : j ≡ 8) (rest : k ≡ n - 8) (ys zs : List ℕ)
     (numbers : (c : ℕ) → ys ≡ copy w c (take j (drop p s)) c (number_list 4 2)) (content : zs ≡ take k (drop (p + 8) s)) where
   item-pasted : (b : ℕ) (ok : ℕ → Bool) → put (p + 8) k (put p j d ys) zs ≡ pasted d p (copy w b s (b + p) (item ok (length s - p)))
   item-pasted b ok =
@@ -76,17 +80,20 @@ module _ (w : Way) (s d : List ℕ) (p n j k : ℕ) (long : length d ≡ length 
       let l : length xs ≡ 8 = length-within w b s 8 (number_list 4 2) (takes-numbers 4 2) (b + p) (omega arith) (omega arith) in
       let i : p + 8 ≡ p + length xs = omega arith in
       let h : b + (p + 8) ≡ b + p + 8 = omega arith in
-      piece-pasted w b s (put p j d ys) zs (text (n - 8)) (p + 8) (n - 8) k (takes-text (n - 8)) rest (omega arith) (λ c. content ∙ text-whole w c (take k (drop (p + 8) s)) (n - 8) (length-take-le k (drop (p + 8) s) (rw length-drop (omega arith)) ∙ rest))
+      piece-pasted w b s (put p j d ys) zs (text (n - 8)) (p + 8) (n - 8) k (takes-text (n - 8)) rest (omega arith)
+      (λ c. content ∙ text-whole w c (take k (drop (p + 8) s)) (n - 8) (length-take-le k (drop (p + 8) s) (rw length-drop (omega arith)) ∙ rest))
       ∙ (ap (λ (x : List ℕ). pasted x (p + 8) ts) (piece-pasted w b s d ys (number_list 4 2) p 8 j (takes-numbers 4 2) front (omega arith) numbers)
       ∙ (ap (λ (x : ℕ). pasted (pasted d p xs) x ts) i
       ∙ (pasted-pasted d p xs ts (omega arith)
-      ∙ ap (pasted d p) (sym (copy-item b s p ok (length s - p) w n is ∙ (copy-next w b s 8 (number_list 4 2) (takes-numbers 4 2) (b + p) (text (n - 8)) ∙ rw h))))))
+      ∙ ap (pasted d p) (sym (copy-item b s p ok (length s - p) w n
+      is ∙ (copy-next w b s 8 (number_list 4 2) (takes-numbers 4 2) (b + p) (text (n - 8)) ∙ rw h))))))
 
   pub item-copied : (b : ℕ) (ok : ℕ → Bool) (x : Item) (e : ℕ) → see w.from b s (b + p) (item ok (length s - p)) ≡ goes x e →
       (e ≡ b + (p + n)) × (p + n ≡ p + item_size x) × (put (p + 8) k (put p j d ys) zs ≡ pasted d p (copy w b s (b + p) (item ok (length s - p))))
   item-copied b ok x e g =
       let z = (item-says b s p ok (length s - p) w.from g).2 in
-      let y = (stays-goes w.from b s (b + p + (length s - p)) (omega arith) (item ok (length s - p)) (b + p) _ (omega arith) (stays-item ok (length s - p) (b + p)) g).0 in
+      let y = (stays-goes w.from b s (b + p + (length s - p)) (omega arith) (item ok (length s - p)) (b + p) _ (omega arith)
+      (stays-item ok (length s - p) (b + p)) g).0 in
       (omega (arith, z, is), omega (arith, z, y, is), item-pasted b ok)
 
 -- items still to write, from byte p on
@@ -96,63 +103,78 @@ pub record Items (w : Way) (b : ℕ) (s : List ℕ) (ok : ℕ → Bool) (n p : �
   pub left : Left w b s d p (items_body ok (16 + length s)) (item_list ok n (length s - p))
 
 -- the body of a 130 or a 200: the count, n, a reserve area, and the items, the first of them at `at` with this room
-module _ (b : ℕ) (s : List ℕ) (ok : ℕ → Bool) (o : Order) (n at room : ℕ) (count : n ≡ number_at o 4 s (b - b)) (first : at ≡ b + 4 + 4) (left : room ≡ 16 + length s - 24) {l : List Item} {e : ℕ} where
+module _ (b : ℕ) (s : List ℕ) (ok : ℕ → Bool) (o : Order) (n at room : ℕ) (count : n ≡ number_at o 4 s (b - b)) (first : at ≡ b + 4 + 4)
+    (left : room ≡ 16 + length s - 24) {l : List Item} {e : ℕ} where
   items-list : see o b s b (items_body ok (16 + length s)) ≡ goes l e → see o b s at (item_list ok n room) ≡ goes l e
   unfolding items_body see ◌>>=◌ ◌>>◌
   items-list g =
       let f = went-first o b s (b + 4 + 4) (item_list ok (number_at o 4 s (b - b)) (16 + length s - 24)) _ (gate-went _ _ _ _ g).1 in
       rw (count, first, left) (f.is ∙ (gate-went _ _ _ _ f.kept).1)
 
-  trace-items : see o b s at (item_list ok n room) ≡ goes l e → trace o b s b (items_body ok (16 + length s)) ≡ trace o b s b (number_list 4 1 >> (reserve 4 >> item_list ok n room))
+  trace-items : see o b s at (item_list ok n room) ≡ goes l e →
+      trace o b s b (items_body ok (16 + length s)) ≡ trace o b s b (number_list 4 1 >> (reserve 4 >> item_list ok n room))
   unfolding items_body number_list trace ◌>>=◌ ◌>>◌
   trace-items g =
       let h = rw (count, first, left) at g in
       rw (count, left)
-      (ap (λ (t : List Event). numeral 4 (number_at o 4 s (b - b)) ∷ blank (bytes_at 4 s (b + 4 - b)) ∷ t) (trace-bind o b s (b + 4 + 4) (item_list ok (number_at o 4 s (b - b)) (16 + length s - 24)) _ h ∙ append-nil _))
+      (ap (λ (t : List Event). numeral 4 (number_at o 4 s (b - b)) ∷ blank (bytes_at 4 s (b + 4 - b)) ∷ t)
+      (trace-bind o b s (b + 4 + 4) (item_list ok (number_at o 4 s (b - b)) (16 + length s - 24)) _ h ∙ append-nil _))
 
 module _ (w : Way) (s : List ℕ) where
   -- the code has written the count, ys, and the reserve area, zs
   pub items-begun : (n : ℕ) (d ys zs : List ℕ) → n ≡ number_at w.from 4 s 0 → 8 ≤ length s → length d ≡ length s →
       ((c : ℕ) → ys ≡ copy w c (take 4 s) c (number_list 4 1)) → ((c : ℕ) → zs ≡ copy w c (take 4 (drop 4 s)) c (reserve (length (take 4 (drop 4 s))))) →
-      (b : ℕ) (ok : ℕ → Bool) (l : List Item) (e : ℕ) → see w.from b s b (items_body ok (16 + length s)) ≡ goes l e → Items w b s ok n 8 (put 4 4 (put 0 4 d ys) zs)
+      (b : ℕ) (ok : ℕ → Bool) (l : List Item) (e : ℕ) → see w.from b s b (items_body ok (16 + length s)) ≡ goes l e →
+      Items w b s ok n 8 (put 4 4 (put 0 4 d ys) zs)
   items-begun n d ys zs is fit long numbers area b ok l e g =
       let c : n ≡ number_at w.from 4 s (b - b) = rw (sub_self b) is in
       let v = items-list b s ok w.from n (b + 8) (length s - 8) c (omega arith) (omega arith) g in
-      let z = stays-goes w.from b s (b + (16 + length s - 16)) (omega arith) (items_body ok (16 + length s)) b _ (omega arith) (stays-items_body ok (16 + length s) b (omega arith)) g in
+      let z = stays-goes w.from b s (b + (16 + length s - 16)) (omega arith) (items_body ok (16 + length s)) b _ (omega arith)
+      (stays-items_body ok (16 + length s) b (omega arith)) g in
       record {
         rest = l;
         accepted = v ∙ ap (λ (x : ℕ). goes l x) (omega (arith, z));
         left =
             left-reserve w b s (put 0 4 d ys) (items_body ok (16 + length s)) (item_list ok n (length s - 8)) 4 zs 4 fit area
             (left-numbers w b s d (items_body ok (16 + length s)) (reserve 4 >> item_list ok n (length s - 8)) 0 ys 4 1 (omega arith) numbers
-            (left-whole w b s d (items_body ok (16 + length s)) _ long (ap (written w.keep w.to) (trace-items b s ok w.from n (b + 8) (length s - 8) c (omega arith) (omega arith) v))));
+            (left-whole w b s d (items_body ok (16 + length s)) _ long
+            (ap (written w.keep w.to) (trace-items b s ok w.from n (b + 8) (length s - 8) c (omega arith) (omega arith) v))));
       }
 
   module _ {b : ℕ} {ok : ℕ → Bool} {n p : ℕ} {d : List ℕ} (x : Items w b s ok n p d) where
     -- the next item, and the items behind it
-    items-step : (m r : ℕ) (d' : List ℕ) → n ≡ suc m → r ≤ length s → (u : Goes (see w.from b s (b + p) (item ok (length s - p))) (λ i e. see w.from b s e (item_list ok m (length s - p - item_size i) >>= λ l. give (i ∷ l)) ≡ goes x.rest (b + length s))) →
-        Goes (see w.from b s u.end (item_list ok m (length s - p - item_size u.value))) (λ l e. see w.from b s e (give (u.value ∷ l)) ≡ goes x.rest (b + length s)) →
+    items-step : (m r : ℕ) (d' : List ℕ) → n ≡ suc m → r ≤ length s →
+        (u : Goes (see w.from b s (b + p) (item ok (length s - p)))
+        (λ i e. see w.from b s e (item_list ok m (length s - p - item_size i) >>= λ l. give (i ∷ l)) ≡ goes x.rest (b + length s))) →
+        Goes (see w.from b s u.end (item_list ok m (length s - p - item_size u.value)))
+        (λ l e. see w.from b s e (give (u.value ∷ l)) ≡ goes x.rest (b + length s)) →
         u.end ≡ b + r → r ≡ p + item_size u.value → d' ≡ pasted d p (copy w b s (b + p) (item ok (length s - p))) → Items w b s ok m r d'
     unfolding item_list see
     items-step m r d' h f u v j k y =
         let z : length s - p - item_size u.value ≡ length s - r = omega (arith, k) in
-        let g = length-copy w b s (b + p + (length s - p)) (omega (arith, k)) (item ok (length s - p)) (b + p) _ (omega arith) (stays-item ok (length s - p) (b + p)) u.is in
+        let g = length-copy w b s (b + p + (length s - p)) (omega (arith, k)) (item ok (length s - p)) (b + p) _ (omega arith)
+        (stays-item ok (length s - p) (b + p)) u.is in
         record {
           rest = v.value;
           accepted = rw (← z, ← j) (v.is ∙ ap (λ (e : ℕ). goes v.value e) (goes_same v.kept).1);
           left =
-              left-pasted w b s d d' (copy w b s (b + p) (item ok (length s - p))) (items_body ok (16 + length s)) (item_list ok n (length s - p)) (item_list ok m (length s - r)) p r
-              (rw (h, ← z, ← j) (copy-bind w b s (b + p) (item ok (length s - p)) _ u.is ∙ ap (λ (l : List ℕ). copy w b s (b + p) (item ok (length s - p)) ++ l) (copy-give w b s u.end (item_list ok m (length s - p - item_size u.value)) (λ l. u.value ∷ l))))
+              left-pasted w b s d d' (copy w b s (b + p) (item ok (length s - p))) (items_body ok (16 + length s)) (item_list ok n (length s - p))
+              (item_list ok m (length s - r)) p r
+              (rw (h, ← z, ← j) (copy-bind w b s (b + p) (item ok (length s - p)) _ u.is ∙ ap
+              (λ (l : List ℕ). copy w b s (b + p) (item ok (length s - p)) ++ l)
+              (copy-give w b s u.end (item_list ok m (length s - p - item_size u.value)) (λ l. u.value ∷ l))))
               y (omega (arith, g, j)) f x.left;
         }
 
     -- what the code has written is the next item
     pub items_more : (m r : ℕ) (d' : List ℕ) → n ≡ suc m → r ≤ length s →
-        ((i : Item) (e : ℕ) → see w.from b s (b + p) (item ok (length s - p)) ≡ goes i e → (e ≡ b + r) × (r ≡ p + item_size i) × (d' ≡ pasted d p (copy w b s (b + p) (item ok (length s - p))))) →
+        ((i : Item) (e : ℕ) → see w.from b s (b + p) (item ok (length s - p)) ≡ goes i e →
+        (e ≡ b + r) × (r ≡ p + item_size i) × (d' ≡ pasted d p (copy w b s (b + p) (item ok (length s - p))))) →
         Items w b s ok m r d'
     unfolding item_list
     items_more m r d' h f says =
-        let u = went-first w.from b s (b + p) (item ok (length s - p)) (λ i. item_list ok m (length s - p - item_size i) >>= λ l. give (i ∷ l)) (rw h at x.accepted) in
+        let u = went-first w.from b s (b + p) (item ok (length s - p)) (λ i. item_list ok m (length s - p - item_size i) >>= λ l. give (i ∷ l))
+        (rw h at x.accepted) in
         let y = says u.value u.end u.is in
         items-step m r d' h f u (went-first w.from b s u.end (item_list ok m (length s - p - item_size u.value)) (λ l. give (u.value ∷ l)) u.kept) y.0 y.1 y.2
 
@@ -178,17 +200,21 @@ one-several : {X : Type 0} {v : ℕ} → Some v ≡ None → X
 one-several h = zero_one (cc)
 
 -- the samples of the channel whose sub stands at byte q of the file, as the code reads it
-module _ (w : Way) (file : List ℕ) (q t : ℕ) (flags format rate wide n : ℕ) (at20 : flags ≡ number_at w.from 4 file (q + 20)) (at28 : format ≡ number_at w.from 4 file (q + 28)) (at32 : rate ≡ number_at w.from 4 file (q + 32))
-    (is_wide : wide ≡ width format) (is_many : n ≡ samples_of t flags rate) (s d : List ℕ) (p : ℕ) (c : Channel) (cs : List Channel) (kept : Kept w.from file q (c ∷ cs)) where
+module _ (w : Way) (file : List ℕ) (q t : ℕ) (flags format rate wide n : ℕ) (at20 : flags ≡ number_at w.from 4 file (q + 20))
+    (at28 : format ≡ number_at w.from 4 file (q + 28)) (at32 : rate ≡ number_at w.from 4 file (q + 32))
+    (is_wide : wide ≡ width format) (is_many : n ≡ samples_of t flags rate) (s d : List ℕ) (p : ℕ) (c : Channel) (cs : List Channel)
+    (kept : Kept w.from file q (c ∷ cs)) where
   read_wide : wide ≡ width c.format
   read_wide = is_wide ∙ ap width (at28 ∙ sym kept.0.format)
 
   read-many : n ≡ samples_in t c
   read-many = is_many ∙ rw (at20, at32, kept.0.flags, kept.0.rate)
 
-  pub samples-copied : (k : ℕ) (ys : List ℕ) → k ≡ n * wide → p + n * wide ≤ length s → ((x : ℕ) → ys ≡ copy w x (take k (drop p s)) x (number_list wide n)) → (b : ℕ) →
+  pub samples-copied : (k : ℕ) (ys : List ℕ) → k ≡ n * wide → p + n * wide ≤ length s → ((x : ℕ) → ys ≡ copy w x (take k (drop p s)) x (number_list wide n)) →
+      (b : ℕ) →
       (p + n * wide ≡ p + samples_in t c * width c.format) × (put p k d ys ≡ pasted d p (copy w b s (b + p) (number_list (width c.format) (samples_in t c))))
-  samples-copied k ys e f numbers b = rw (← read-many, ← read_wide) (refl, piece-pasted w b s d ys (number_list wide n) p (n * wide) k (takes-numbers wide n) e f numbers)
+  samples-copied k ys e f numbers b = rw (← read-many, ← read_wide)
+      (refl, piece-pasted w b s d ys (number_list wide n) p (n * wide) k (takes-numbers wide n) e f numbers)
 
 -- channels whose samples are still to write, from byte p on; their subs stand in the file from byte q on
 pub record Samples (w : Way) (file : List ℕ) (t b : ℕ) (s : List ℕ) (cs : List Channel) (n q p : ℕ) (d : List ℕ) : Type 0 where
@@ -202,7 +228,8 @@ module _ (w : Way) (file : List ℕ) (t : ℕ) (s : List ℕ) where
   -- the code has written the clock, ys, and the reserve area, zs
   pub samples-begun : (q : ℕ) (d ys zs : List ℕ) → length d ≡ length s →
       ((c : ℕ) → ys ≡ copy w c (take 6 s) c (number_list 2 3)) → ((c : ℕ) → zs ≡ copy w c (take 2 (drop 6 s)) c (reserve (length (take 2 (drop 6 s))))) →
-      (b : ℕ) (cs : List Channel) (n : ℕ) → length cs ≡ n → Kept w.from file q cs → length s ≡ 8 + sample_bytes t cs → Samples w file t b s cs n q 8 (put 6 2 (put 0 6 d ys) zs)
+      (b : ℕ) (cs : List Channel) (n : ℕ) → length cs ≡ n → Kept w.from file q cs → length s ≡ 8 + sample_bytes t cs →
+      Samples w file t b s cs n q 8 (put 6 2 (put 0 6 d ys) zs)
   unfolding filling
   samples-begun q d ys zs long numbers area b cs n e k l = record {
     rest = cs;
@@ -211,7 +238,8 @@ module _ (w : Way) (file : List ℕ) (t : ℕ) (s : List ℕ) where
     room = sym l;
     left =
         left-reserve w b s (put 0 6 d ys) (filling t cs) (samples t cs) 6 zs 2 (omega arith) area
-        (left-numbers w b s d (filling t cs) (reserve 2 >> samples t cs) 0 ys 2 3 (omega arith) numbers (left-whole w b s d (filling t cs) (filling t cs) long refl));
+        (left-numbers w b s d (filling t cs) (reserve 2 >> samples t cs) 0 ys 2 3 (omega arith) numbers
+        (left-whole w b s d (filling t cs) (filling t cs) long refl));
   }
 
   module _ {b n q p : ℕ} {cs : List Channel} {d : List ℕ} (x : Samples w file t b s cs n q p d) where
@@ -223,7 +251,8 @@ module _ (w : Way) (file : List ℕ) (t : ℕ) (s : List ℕ) where
     unfolding samples sample_bytes
     samples-more m r d' h says = go x.rest x.count x.kept x.room x.left
       where
-        go : (l : List Channel) → length l ≡ n → Kept w.from file q l → p + sample_bytes t l ≡ length s → Left w b s d p (filling t cs) (samples t l) → Samples w file t b s cs m (q + 256) r d'
+        go : (l : List Channel) → length l ≡ n → Kept w.from file q l → p + sample_bytes t l ≡ length s → Left w b s d p (filling t cs) (samples t l) →
+            Samples w file t b s cs m (q + 256) r d'
         go [] e k f y = absurd (omega (arith, e))
         go (c ∷ l) e k f y =
             let wide : ℕ = width c.format in
@@ -237,8 +266,14 @@ module _ (w : Way) (file : List ℕ) (t : ℕ) (s : List ℕ) where
               room = omega (arith, i.0);
               left =
                   left-pasted w b s d d' (copy w b s (b + p) (number_list wide many)) (filling t cs) (samples t (c ∷ l)) (samples t l) p r
-                  (copy-follows w b s (many * wide) (number_list wide many) (takes-numbers wide many) (b + p) _ (samples t l) (λ v. trace-give w.from b s (b + p + many * wide) (samples t l) (λ a. v ∷ a)) ∙ rw j)
-                  i.1 (omega (arith, i.0, length-within w b s (many * wide) (number_list wide many) (takes-numbers wide many) (b + p) (omega arith) (omega arith))) (omega (arith, i.0)) y;
+                  (copy-follows w b s (many * wide) (number_list wide many) (takes-numbers wide many) (b + p) _ (samples t l)
+                  (λ v. trace-give w.from b s (b + p + many * wide) (samples t l) (λ a. v ∷ a)) ∙ rw j)
+                  i.1 (omega (
+                    arith,
+                    i.0,
+                    length-within w b s (many * wide) (number_list wide many) (takes-numbers wide many) (b + p) (omega arith)
+                        (omega arith),
+                  )) (omega (arith, i.0)) y;
             }
 
     pub samples-all : n ≡ 0 → d ≡ copy w b s b (filling t cs)
@@ -283,7 +318,9 @@ module _ (t v : ℕ) where
   unfolding samples number_list trace
   wide-run w b s [] at h = refl
   wide-run w b s (c ∷ cs) at h =
-      copy-follows w b s (samples_in t c * width c.format) (number_list (width c.format) (samples_in t c)) (takes-numbers (width c.format) (samples_in t c)) at _ (samples t cs) (λ n. trace-give w.from b s (at + samples_in t c * width c.format) (samples t cs) (λ l. n ∷ l))
+      copy-follows w b s (samples_in t c * width c.format) (number_list (width c.format) (samples_in t c))
+      (takes-numbers (width c.format) (samples_in t c)) at _ (samples t cs)
+      (λ n. trace-give w.from b s (at + samples_in t c * width c.format) (samples t cs) (λ l. n ∷ l))
       ∙ rw (h.0, wide-run w b s cs (at + samples_in t c * v) h.1) (sym (numbers-both w b s v (samples_in t c) (total t cs) at))
 
 -- the widths that the code read
@@ -336,7 +373,8 @@ module _ (o : Order) (file : List ℕ) where
       go false e = one-several (h ∙ rw (widths_in, e))
 
 -- a run that the code wrote from byte 8 on, to the end
-pub run-copied : (w : Way) (s d : List ℕ) (v n k : ℕ) (ys : List ℕ) → 2 ≤ v → n ≡ (length s - 8) / v → k ≡ n * v → 8 ≤ length s → ((x : ℕ) → ys ≡ copy w x (take k (drop 8 s)) x (number_list v n)) →
+pub run-copied : (w : Way) (s d : List ℕ) (v n k : ℕ) (ys : List ℕ) → 2 ≤ v → n ≡ (length s - 8) / v → k ≡ n * v → 8 ≤ length s →
+    ((x : ℕ) → ys ≡ copy w x (take k (drop 8 s)) x (number_list v n)) →
     (b m : ℕ) → length s ≡ 8 + m * v → put 8 k d ys ≡ pasted d 8 (copy w b s (b + 8) (number_list v m))
 run-copied w s d v n k ys two is e f numbers b m l =
     let j : n ≡ m = is ∙ div-eq_of_eq-mul_left {k = m} (omega arith) (omega arith) in
@@ -355,7 +393,8 @@ module _ {w : Way} {file : List ℕ} {t b : ℕ} {s : List ℕ} {cs : List Chann
       let r : length s ≡ 8 + m * v = sym x.room ∙ ap (λ (y : ℕ). 8 + y) (wide-bytes t v x.rest k) in
       let l : length ys ≡ m * v = length-within w b s (m * v) (number_list v m) (takes-numbers v m) (b + 8) (omega arith) (omega arith) in
       left-nothing w b s d' (filling t cs) {B = List ℕ} (length s) [] refl
-      (left-pasted {D = List ℕ} w b s d d' ys (filling t cs) (samples t x.rest) (give []) 8 (length s) (wide-run t v w b s x.rest (b + 8) k ∙ rw written_none (sym (append-nil ys))) (says m r) (omega arith) (omega arith) x.left)
+      (left-pasted {D = List ℕ} w b s d d' ys (filling t cs) (samples t x.rest) (give []) 8 (length s)
+      (wide-run t v w b s x.rest (b + 8) k ∙ rw written_none (sym (append-nil ys))) (says m r) (omega arith) (omega arith) x.left)
 
 -- the code has written the clock, ys, the reserve area, zs, and the samples in one run
 pub body-once : (w : Way) (file : List ℕ) (t : ℕ) (s : List ℕ) (q n v : ℕ) (d ys zs d' : List ℕ) → length d ≡ length s →
@@ -363,4 +402,5 @@ pub body-once : (w : Way) (file : List ℕ) (t : ℕ) (s : List ℕ) (q n v : �
     all_wide w.from file q n v ≡ true →
     ((b m : ℕ) → length s ≡ 8 + m * v → d' ≡ pasted (put 6 2 (put 0 6 d ys) zs) 8 (copy w b s (b + 8) (number_list v m))) →
     (b : ℕ) (cs : List Channel) → length cs ≡ n → Kept w.from file q cs → length s ≡ 8 + sample_bytes t cs → d' ≡ copy w b s b (filling t cs)
-body-once w file t s q n v d ys zs d' long numbers area wide says b cs e k l = samples-once (samples-begun w file t s q d ys zs long numbers area b cs n e k l) v d' wide (says b)
+body-once w file t s q n v d ys zs d' long numbers area wide says b cs e k l =
+    samples-once (samples-begun w file t s q d ys zs long numbers area b cs n e k l) v d' wide (says b)

@@ -17,7 +17,8 @@ use Rattle.words.proofs.Fronts.{put, Begun, begun_more}
 use Rattle.words.proofs.Words.{bytes_take, bytes_drop, bytes_in-word_in}
 use Rattle.words.proofs.Runs.{bytes_in-other}
 use Rattle.walk.specs.Trace.{trace, written}
-use Rattle.walk.specs.Walk.{Text, laid, Event, numeral, piece, blank, row, render, cleared, size, Walk, give, refuse, check, number, read, skip, list, ◌>>=◌, ◌>>◌, pick, text, reserve}
+use Rattle.walk.specs.Walk.{Text, laid, Event, numeral, piece, blank, row, render, cleared, size, Walk}
+use Rattle.walk.specs.Walk.{give, refuse, check, number, read, skip, list, ◌>>=◌, ◌>>◌, pick, text, reserve}
 use Rattle.walk.proofs.Laid.{laid-text}
 use Rattle.walk.proofs.Seen.{part_bytes, length-bytes_at}
 use Rattle.walk.proofs.Tracing.{trace-give, written-append, written_none, written-piece, length-written}
@@ -64,13 +65,17 @@ module _ {A : Type 0} where
     trace-within (check t n p v) at e g l h = trace-within v at e g l h
     trace-within (number n f) at e g l h =
         let d : a + (at - c) ≡ at - b = omega arith in
-        rw (part_bytes s a m (at - c) n (omega (arith, reaches-le (f 0) (at + n) e (h 0))), d) (ap (λ (t : List Event). numeral n (number_at o n s (at - b)) ∷ t) (trace-within (f (number_at o n s (at - b))) (at + n) e (omega arith) l (h _)))
+        rw (part_bytes s a m (at - c) n (omega (arith, reaches-le (f 0) (at + n) e (h 0))), d)
+        (ap (λ (t : List Event). numeral n (number_at o n s (at - b)) ∷ t) (trace-within (f (number_at o n s (at - b))) (at + n) e (omega arith) l (h _)))
     trace-within (read k n f) at e g l h =
         let d : a + (at - c) ≡ at - b = omega arith in
-        rw (part_bytes s a m (at - c) n (omega (arith, reaches-le (f []) (at + n) e (h []))), d) (ap (λ (t : List Event). piece k (laid o k (bytes_at n s (at - b))) ∷ t) (trace-within (f (laid o k (bytes_at n s (at - b)))) (at + n) e (omega arith) l (h _)))
+        rw (part_bytes s a m (at - c) n (omega (arith, reaches-le (f []) (at + n) e (h []))), d)
+        (ap (λ (t : List Event). piece k (laid o k (bytes_at n s (at - b))) ∷ t)
+        (trace-within (f (laid o k (bytes_at n s (at - b)))) (at + n) e (omega arith) l (h _)))
     trace-within (skip n v) at e g l h =
         let d : a + (at - c) ≡ at - b = omega arith in
-        rw (part_bytes s a m (at - c) n (omega (arith, reaches-le v (at + n) e h)), d) (ap (λ (t : List Event). blank (bytes_at n s (at - b)) ∷ t) (trace-within v (at + n) e (omega arith) l h))
+        rw (part_bytes s a m (at - c) n (omega (arith, reaches-le v (at + n) e h)), d)
+        (ap (λ (t : List Event). blank (bytes_at n s (at - b)) ∷ t) (trace-within v (at + n) e (omega arith) l h))
     trace-within (list p i x y v) at e g l h = ap (λ (t : List Event). row p i x y ∷ t) (trace-within v at e g l h)
 
   module _ (o : Order) (b : ℕ) (s : List ℕ) where
@@ -109,13 +114,16 @@ module _ {A B : Type 0} where
 
 module _ {A B : Type 0} (o : Order) (b : ℕ) (s : List ℕ) where
   -- one walk after the other, where what follows is the same whatever was read
-  trace-follows : (v : Walk A) (k : A → Walk B) (at e : ℕ) (t : List Event) → Reaches e at v → ((a : A) → trace o b s e (k a) ≡ t) → trace o b s at (v >>= k) ≡ trace o b s at v ++ t
+  trace-follows : (v : Walk A) (k : A → Walk B) (at e : ℕ) (t : List Event) → Reaches e at v → ((a : A) → trace o b s e (k a) ≡ t) →
+      trace o b s at (v >>= k) ≡ trace o b s at v ++ t
   unfolding trace ◌>>=◌
   trace-follows (give x) k at e t h f = rw h (f x)
   trace-follows (refuse n p) k at e t h f = absurd h
   trace-follows (check c n p v) k at e t h f = trace-follows v k at e t h f
-  trace-follows (number n g) k at e t h f = ap (λ (u : List Event). numeral n (number_at o n s (at - b)) ∷ u) (trace-follows (g (number_at o n s (at - b))) k (at + n) e t (h _) f)
-  trace-follows (read κ n g) k at e t h f = ap (λ (u : List Event). piece κ (laid o κ (bytes_at n s (at - b))) ∷ u) (trace-follows (g (laid o κ (bytes_at n s (at - b)))) k (at + n) e t (h _) f)
+  trace-follows (number n g) k at e t h f = ap (λ (u : List Event). numeral n (number_at o n s (at - b)) ∷ u)
+      (trace-follows (g (number_at o n s (at - b))) k (at + n) e t (h _) f)
+  trace-follows (read κ n g) k at e t h f = ap (λ (u : List Event). piece κ (laid o κ (bytes_at n s (at - b))) ∷ u)
+      (trace-follows (g (laid o κ (bytes_at n s (at - b)))) k (at + n) e t (h _) f)
   trace-follows (skip n v) k at e t h f = ap (λ (u : List Event). blank (bytes_at n s (at - b)) ∷ u) (trace-follows v k (at + n) e t h f)
   trace-follows (list p l c m v) k at e t h f = ap (λ (u : List Event). row p l c m ∷ u) (trace-follows v k at e t h f)
 
@@ -129,7 +137,8 @@ module _ {A : Type 0} (w : Way) (b : ℕ) (s : List ℕ) (n : ℕ) (v : Walk A) 
       let i = size-within w.from b s v at (at + n) g l (takes at) in
       length-written w.keep w.to (trace w.from b s at v) ∙ omega arith
 
-  pub copy-follows : {B C : Type 0} (at : ℕ) (k : A → Walk B) (u : Walk C) → ((a : A) → trace w.from b s (at + n) (k a) ≡ trace w.from b s (at + n) u) → copy w b s at (v >>= k) ≡ copy w b s at v ++ copy w b s (at + n) u
+  pub copy-follows : {B C : Type 0} (at : ℕ) (k : A → Walk B) (u : Walk C) → ((a : A) → trace w.from b s (at + n) (k a) ≡ trace w.from b s (at + n) u) →
+      copy w b s at (v >>= k) ≡ copy w b s at v ++ copy w b s (at + n) u
   copy-follows at k u h =
       ap (written w.keep w.to) (trace-follows w.from b s v k at (at + n) (trace w.from b s (at + n) u) (takes at) h)
       ∙ written-append w.keep w.to (trace w.from b s at v) (trace w.from b s (at + n) u)
@@ -182,7 +191,8 @@ order-big Big = refl
 pub takes-numbers : (k n : ℕ) → Takes (n * k) (R.number_list k n)
 unfolding R.number_list ◌>>=◌
 takes-numbers k zero at = omega (arith, zero-mul k)
-takes-numbers k (suc n) at = λ v. reaches-bind (R.number_list k n) (λ l. give (v ∷ l)) (at + k) (at + k + n * k) (at + suc n * k) (takes-numbers k n (at + k)) (λ l. omega (arith, suc-mul n k))
+takes-numbers k (suc n) at = λ v. reaches-bind (R.number_list k n) (λ l. give (v ∷ l)) (at + k) (at + k + n * k) (at + suc n * k) (takes-numbers k n (at + k))
+    (λ l. omega (arith, suc-mul n k))
 
 abbrev anew : Bool → ℕ → ℕ → List ℕ → List ℕ
 anew same k n s = pick same (take (n * k) s) (turned k n s)
@@ -223,7 +233,14 @@ module _ (w : Way) (b : ℕ) (s : List ℕ) (k : ℕ) (bytes : Bytes s) where
       let j : length x ≡ k = length-take-le k (drop (at - b) s) (rw length-drop (omega arith)) in
       let d : at - b + k ≡ at + k - b = omega arith in
       written-number w.keep w.to k (word_in w.from x) (trace w.from b s (at + k) (R.number_list k n >>= λ l. give (word_in w.from x ∷ l)))
-      ∙ rw (trace-give w.from b s (at + k) (R.number_list k n) (λ l. word_in w.from x ∷ l), one-anew w.from w.to k x (bytes_take k (drop (at - b) s) (bytes_drop (at - b) s bytes)) j, anew-more, drop-drop, d)
+      ∙ rw (
+        trace-give w.from b s (at + k) (R.number_list k n) (λ l. word_in w.from x ∷ l),
+        one-anew w.from w.to k x
+            (bytes_take k (drop (at - b) s) (bytes_drop (at - b) s bytes)) j,
+        anew-more,
+        drop-drop,
+        d,
+      )
       (ap (λ (y : List ℕ). pick (same_order w.from w.to) x (reverse x) ++ y) (numbers-anew n (at + k) (omega arith) i))
 
   -- the whole part
@@ -257,7 +274,8 @@ takes-text n at = λ _. refl
 
 pub copy-text : (w : Way) (b : ℕ) (s : List ℕ) (at n : ℕ) → copy w b s at (text n) ≡ bytes_at n s (at - b)
 unfolding trace
-copy-text w b s at n = written-piece w.keep w.to Text (laid w.from Text (bytes_at n s (at - b))) [] ∙ rw (written_none, append-nil, laid-text w.to, laid-text w.from)
+copy-text w b s at n = written-piece w.keep w.to Text (laid w.from Text (bytes_at n s (at - b)))
+    [] ∙ rw (written_none, append-nil, laid-text w.to, laid-text w.from)
 
 pub text-whole : (w : Way) (b : ℕ) (s : List ℕ) (n : ℕ) → length s ≡ n → s ≡ copy w b s b (text n)
 unfolding bytes_at
@@ -267,7 +285,8 @@ pub texts-whole : (w : Way) (b : ℕ) (s : List ℕ) (m n : ℕ) → length s �
 unfolding bytes_at
 texts-whole w b s m n l =
     let d : b + m - b ≡ m = omega arith in
-    sym (copy-next w b s m (text m) (takes-text m) b (text n) ∙ rw (copy-text w b s b m, copy-text w b s (b + m) n, sub_self, d) (sym (take-add m n s) ∙ take_all (m + n) s (omega arith)))
+    sym (copy-next w b s m (text m) (takes-text m) b (text n) ∙ rw (copy-text w b s b m, copy-text w b s (b + m) n, sub_self, d)
+    (sym (take-add m n s) ∙ take_all (m + n) s (omega arith)))
 
 -- a number that is a field, or reserve
 takes_field : (is : Bool) (ok : ℕ → Bool) → Takes 4 (R.field_if is ok)
@@ -275,7 +294,8 @@ unfolding R.field_if
 takes_field true ok at = λ _. refl
 takes_field false ok at = refl
 
-reaches_field : {A : Type 0} (is : Bool) (ok : ℕ → Bool) (f : ℕ → Walk A) (at e : ℕ) → ((n : ℕ) → Reaches e (at + 4) (f n)) → Reaches e at (R.field_if is ok >>= f)
+reaches_field : {A : Type 0} (is : Bool) (ok : ℕ → Bool) (f : ℕ → Walk A) (at e : ℕ) → ((n : ℕ) → Reaches e (at + 4) (f n)) →
+    Reaches e at (R.field_if is ok >>= f)
 reaches_field is ok f at e h = reaches-bind (R.field_if is ok) f at (at + 4) e (takes_field is ok at) h
 
 module _ (w : Way) (b : ℕ) (s : List ℕ) (ok : ℕ → Bool) where
@@ -288,7 +308,8 @@ module _ (w : Way) (b : ℕ) (s : List ℕ) (ok : ℕ → Bool) where
   field-reserved is e l = rw (e, l)
 
 -- events that are written the same
-same-written : (keep : Bool) (o : Order) (t u : List Event) → render o t ≡ render o u → render o (cleared t) ≡ render o (cleared u) → written keep o t ≡ written keep o u
+same-written : (keep : Bool) (o : Order) (t u : List Event) → render o t ≡ render o u → render o (cleared t) ≡ render o (cleared u) →
+    written keep o t ≡ written keep o u
 same-written true o t u h g = h
 same-written false o t u h g = g
 
@@ -311,7 +332,8 @@ abbrev channel_pieces : Bool → Bool → Walk (List ℕ)
 channel_pieces calibrated wired =
     numbers_of calibrated >> (reserve 4 >> ((text 16 >> text 16) >> (R.field_if wired R.anything >> (R.field_if wired R.anything >> (reserve 84 >> text 60)))))
 
-copy-channel : (u : R.Sub) (w : Way) (b : ℕ) (s : List ℕ) (at room i : ℕ) → copy w b s at (R.channel u room i) ≡ copy w b s at (channel_pieces u.calibrated u.wired)
+copy-channel : (u : R.Sub) (w : Way) (b : ℕ) (s : List ℕ) (at room i : ℕ) →
+    copy w b s at (R.channel u room i) ≡ copy w b s at (channel_pieces u.calibrated u.wired)
 unfolding R.number_list R.fixed R.head R.admit R.channel_body R.field_if numbers_of trace render cleared ◌>>=◌ ◌>>◌
 copy-channel =
     by_shape (λ u. (w : Way) (b : ℕ) (s : List ℕ) (at room i : ℕ) → copy w b s at (R.channel u room i) ≡ copy w b s at (channel_pieces u.calibrated u.wired))
@@ -324,26 +346,32 @@ length_part : (s : List ℕ) (n m : ℕ) → n + m ≤ length s → length (take
 length_part s n m f = length-take-le m (drop n s) (rw length-drop (omega arith))
 
 module _ {A D : Type 0} (w : Way) (b : ℕ) (s d : List ℕ) (u : Walk A) (y : Walk D) (n : ℕ) (ys : List ℕ) where
-  pub left-numbers : (k m : ℕ) → n + m * k ≤ length s → ((c : ℕ) → ys ≡ copy w c (take (m * k) (drop n s)) c (R.number_list k m)) → Left w b s d n u (R.number_list k m >> y) → Left w b s (put n (m * k) d ys) (n + m * k) u y
+  pub left-numbers : (k m : ℕ) → n + m * k ≤ length s → ((c : ℕ) → ys ≡ copy w c (take (m * k) (drop n s)) c (R.number_list k m)) →
+      Left w b s d n u (R.number_list k m >> y) → Left w b s (put n (m * k) d ys) (n + m * k) u y
   left-numbers k m f h = left-next w b s d u n (m * k) ys (R.number_list k m) y (takes-numbers k m) f h
 
-  pub left-reserve : (m : ℕ) → n + m ≤ length s → ((c : ℕ) → ys ≡ copy w c (take m (drop n s)) c (reserve (length (take m (drop n s))))) → Left w b s d n u (reserve m >> y) → Left w b s (put n m d ys) (n + m) u y
+  pub left-reserve : (m : ℕ) → n + m ≤ length s → ((c : ℕ) → ys ≡ copy w c (take m (drop n s)) c (reserve (length (take m (drop n s))))) →
+      Left w b s d n u (reserve m >> y) → Left w b s (put n m d ys) (n + m) u y
   left-reserve m f h =
       left-next w b s d u n m ys (reserve m) y (takes-reserve m) f (λ c. h c ∙ ap (λ (x : ℕ). copy w c (take m (drop n s)) c (reserve x)) (length_part s n m f))
 
-  left-field : (is : Bool) → n + 4 ≤ length s → ((c : ℕ) (ok : ℕ → Bool) → ys ≡ copy w c (take 4 (drop n s)) c (R.field_if is ok)) → Left w b s d n u (R.field_if is R.anything >> y) → Left w b s (put n 4 d ys) (n + 4) u y
+  left-field : (is : Bool) → n + 4 ≤ length s → ((c : ℕ) (ok : ℕ → Bool) → ys ≡ copy w c (take 4 (drop n s)) c (R.field_if is ok)) →
+      Left w b s d n u (R.field_if is R.anything >> y) → Left w b s (put n 4 d ys) (n + 4) u y
   left-field is f h = left-next w b s d u n 4 ys (R.field_if is R.anything) y (takes_field is R.anything) f (λ c. h c R.anything)
 
   pub left-text : (m : ℕ) → n + m ≤ length s → ys ≡ take m (drop n s) → Left w b s d n u (text m >> y) → Left w b s (put n m d ys) (n + m) u y
   left-text m f h =
       left-next w b s d u n m ys (text m) y (takes-text m) f (λ c. h ∙ text-whole w c (take m (drop n s)) m (length_part s n m f))
 
-  pub left-texts : (m k : ℕ) → n + (m + k) ≤ length s → ys ≡ take (m + k) (drop n s) → Left w b s d n u (text m >> text k >> y) → Left w b s (put n (m + k) d ys) (n + (m + k)) u y
+  pub left-texts : (m k : ℕ) → n + (m + k) ≤ length s → ys ≡ take (m + k) (drop n s) → Left w b s d n u (text m >> text k >> y) →
+      Left w b s (put n (m + k) d ys) (n + (m + k)) u y
   left-texts m k f h =
-      left-next w b s d u n (m + k) ys (text m >> text k) y (takes-then m k (text m) (text k) (takes-text m) (takes-text k)) f (λ c. h ∙ texts-whole w c (take (m + k) (drop n s)) m k (length_part s n (m + k) f))
+      left-next w b s d u n (m + k) ys (text m >> text k) y (takes-then m k (text m) (text k) (takes-text m) (takes-text k)) f
+      (λ c. h ∙ texts-whole w c (take (m + k) (drop n s)) m k (length_part s n (m + k) f))
 
 -- a piece that goes up to the end comes last
-left_end : {A B : Type 0} (w : Way) (b : ℕ) (s d : List ℕ) (u : Walk A) (n : ℕ) (ys : List ℕ) (m : ℕ) (v : Walk B) → Takes m v → length s ≡ n + m → ((c : ℕ) → ys ≡ copy w c (take (length s - n) (drop n s)) c v) → Left w b s d n u v → put n (length d - n) d ys ≡ copy w b s b u
+left_end : {A B : Type 0} (w : Way) (b : ℕ) (s d : List ℕ) (u : Walk A) (n : ℕ) (ys : List ℕ) (m : ℕ) (v : Walk B) → Takes m v → length s ≡ n + m →
+    ((c : ℕ) → ys ≡ copy w c (take (length s - n) (drop n s)) c v) → Left w b s d n u v → put n (length d - n) d ys ≡ copy w b s b u
 unfolding trace
 left_end w b s d u n ys m v takes f h l =
     let i : length s - n ≡ m = omega arith in
@@ -352,7 +380,8 @@ left_end w b s d u n ys m v takes f h l =
     (left-nothing w b s (put n m d ys) u (n + m) ys (sym f)
     (left-more w b s d u n m ys v v (give ys) takes (omega arith) (rw (written_none, append-nil)) (rw i at h) l))
 
-left-end-text : {A : Type 0} (w : Way) (b : ℕ) (s d : List ℕ) (u : Walk A) (n : ℕ) (ys : List ℕ) (m : ℕ) → length s ≡ n + m → ys ≡ take (length s - n) (drop n s) → Left w b s d n u (text m) → put n (length d - n) d ys ≡ copy w b s b u
+left-end-text : {A : Type 0} (w : Way) (b : ℕ) (s d : List ℕ) (u : Walk A) (n : ℕ) (ys : List ℕ) (m : ℕ) → length s ≡ n + m →
+    ys ≡ take (length s - n) (drop n s) → Left w b s d n u (text m) → put n (length d - n) d ys ≡ copy w b s b u
 left-end-text w b s d u n ys m f h =
     left_end w b s d u n ys m (text m) (takes-text m) f (λ c. h ∙ text-whole w c _ m (length_part s n (length s - n) (omega arith) ∙ omega arith))
 
@@ -365,7 +394,8 @@ module _ (w : Way) (s : List ℕ) where
   Reserved ys n m = (c : ℕ) → ys ≡ copy w c (take m (drop n s)) c (reserve (length (take m (drop n s))))
 
   pub basic_body-written : (d y₁ y₂ y₃ y₄ y₅ y₆ y₇ : List ℕ) → length s ≡ 112 → length d ≡ length s →
-      Numbers y₁ 0 3 → Reserved y₂ 12 4 → Numbers y₃ 16 6 → y₄ ≡ take 20 (drop 40 s) → Numbers y₅ 60 1 → Reserved y₆ 64 16 → y₇ ≡ take (length s - 80) (drop 80 s) →
+      Numbers y₁ 0 3 → Reserved y₂ 12 4 → Numbers y₃ 16 6 → y₄ ≡ take 20 (drop 40 s) → Numbers y₅ 60 1 → Reserved y₆ 64 16 →
+      y₇ ≡ take (length s - 80) (drop 80 s) →
       let d₆ = put 64 16 (put 60 4 (put 40 20 (put 16 24 (put 12 4 (put 0 12 d y₁) y₂) y₃) y₄) y₅) y₆ in
       (b : ℕ) → put 80 (length d₆ - 80) d₆ y₇ ≡ copy w b s b R.basic_body
   basic_body-written d y₁ y₂ y₃ y₄ y₅ y₆ y₇ l k h₁ h₂ h₃ h₄ h₅ h₆ h₇ b =
@@ -392,7 +422,8 @@ module _ (w : Way) (s : List ℕ) where
       (left-numbers w b s d (numbers_of is) _ 0 y₁ 4 13 (omega arith) h₁ (left-whole w b s d (numbers_of is) (numbers_of is) k refl))))
 
   pub channel-written : (k : Shape) (d y₁ y₂ y₃ y₄ y₅ y₆ y₇ : List ℕ) → length s ≡ 256 → length d ≡ length s →
-      ((c : ℕ) → y₁ ≡ copy w c (take 68 s) c (numbers_of k.calibrated)) → Reserved y₂ 68 4 → y₃ ≡ take 32 (drop 72 s) → FieldIf y₄ 104 k.wired → FieldIf y₅ 108 k.wired → Reserved y₆ 112 84 → y₇ ≡ take (length s - 196) (drop 196 s) →
+      ((c : ℕ) → y₁ ≡ copy w c (take 68 s) c (numbers_of k.calibrated)) → Reserved y₂ 68 4 → y₃ ≡ take 32 (drop 72 s) → FieldIf y₄ 104 k.wired →
+      FieldIf y₅ 108 k.wired → Reserved y₆ 112 84 → y₇ ≡ take (length s - 196) (drop 196 s) →
       let d₆ = put 112 84 (put 108 4 (put 104 4 (put 72 32 (put 68 4 (put 0 68 d y₁) y₂) y₃) y₄) y₅) y₆ in
       (b room i : ℕ) (u : R.Sub) → HasShape u k → put 196 (length d₆ - 196) d₆ y₇ ≡ copy w b s b (R.channel u room i)
   channel-written k d y₁ y₂ y₃ y₄ y₅ y₆ y₇ l e h₁ h₂ h₃ h₄ h₅ h₆ h₇ b room i u a =
@@ -423,11 +454,13 @@ copy-series w b s at n i step room v takes =
     copy-follows w b s step (v room i) takes at (λ a. R.series n (suc i) step (room - step) v >>= λ l. give (a ∷ l)) (R.series n (suc i) step (room - step) v)
     (λ a. trace-give w.from b s (at + step) (R.series n (suc i) step (room - step) v) (λ l. a ∷ l))
 
-copy-channels : (w : Way) (b : ℕ) (s : List ℕ) (g : R.Group) (n m : ℕ) → number_at w.from 4 s 0 ≡ m → copy w b s b (R.channels_body g n) ≡ copy w b s b (R.number_list 4 2 >> (reserve 8 >> R.series m 1 256 (n - 32) (R.channel g.sub)))
+copy-channels : (w : Way) (b : ℕ) (s : List ℕ) (g : R.Group) (n m : ℕ) → number_at w.from 4 s 0 ≡ m →
+    copy w b s b (R.channels_body g n) ≡ copy w b s b (R.number_list 4 2 >> (reserve 8 >> R.series m 1 256 (n - 32) (R.channel g.sub)))
 unfolding R.number_list R.channels_body trace render cleared ◌>>=◌ ◌>>◌
 copy-channels w b s g n m h =
     let e : number_at w.from 4 s (b - b) ≡ m = rw sub_self h in
-    same-written w.keep w.to (trace w.from b s b (R.channels_body g n)) (trace w.from b s b (R.number_list 4 2 >> (reserve 8 >> R.series m 1 256 (n - 32) (R.channel g.sub)))) (rw e) (rw e)
+    same-written w.keep w.to (trace w.from b s b (R.channels_body g n))
+    (trace w.from b s b (R.number_list 4 2 >> (reserve 8 >> R.series m 1 256 (n - 32) (R.channel g.sub)))) (rw e) (rw e)
 
 -- i of the m subs of this shape are written
 pub record SoFar (w : Way) (k : Shape) (m : ℕ) (s d : List ℕ) (at i : ℕ) : Type 0 where
@@ -435,10 +468,12 @@ pub record SoFar (w : Way) (k : Shape) (m : ℕ) (s d : List ℕ) (at i : ℕ) :
   pub within : i ≤ m
   pub whole : length s ≡ 16 + 256 * m
   pub long : length d ≡ length s
-  pub left : (b n : ℕ) (g : R.Group) → HasShape g.sub k → number_at w.from 4 s 0 ≡ m → Left w b s d at (R.channels_body g n) (R.series (m - i) (suc i) 256 (n - 32 - 256 * i) (R.channel g.sub))
+  pub left : (b n : ℕ) (g : R.Group) → HasShape g.sub k → number_at w.from 4 s 0 ≡ m →
+      Left w b s d at (R.channels_body g n) (R.series (m - i) (suc i) 256 (n - 32 - 256 * i) (R.channel g.sub))
 
 module _ (w : Way) (k : Shape) (m : ℕ) (s d : List ℕ) where
-  pub channels-front : (y₁ y₂ : List ℕ) → length s ≡ 16 + 256 * m → length d ≡ length s → length (put 8 8 (put 0 8 d y₁) y₂) ≡ length d → Numbers w s y₁ 0 2 → Reserved w s y₂ 8 8 → SoFar w k m s (put 8 8 (put 0 8 d y₁) y₂) 16 0
+  pub channels-front : (y₁ y₂ : List ℕ) → length s ≡ 16 + 256 * m → length d ≡ length s → length (put 8 8 (put 0 8 d y₁) y₂) ≡ length d → Numbers w s y₁ 0 2 →
+      Reserved w s y₂ 8 8 → SoFar w k m s (put 8 8 (put 0 8 d y₁) y₂) 16 0
   channels-front y₁ y₂ f l o h₁ h₂ =
       record {
         place = omega arith;
@@ -448,10 +483,13 @@ module _ (w : Way) (k : Shape) (m : ℕ) (s d : List ℕ) where
         left = λ b n g a e.
             rw (sub-zero m, sub-zero (n - 32))
             (left-reserve w b s _ (R.channels_body g n) _ 8 y₂ 8 (omega arith) h₂
-            (left-numbers w b s d (R.channels_body g n) _ 0 y₁ 4 2 (omega arith) h₁ (left-whole w b s d (R.channels_body g n) _ l (copy-channels w b s g n m e))));
+            (left-numbers w b s d (R.channels_body g n) _ 0 y₁ 4 2 (omega arith) h₁
+            (left-whole w b s d (R.channels_body g n) _ l (copy-channels w b s g n m e))));
       }
 
-  pub channels-more : (at i z e : ℕ) (ys : List ℕ) → i < m → z ≡ 256 → e ≡ at + 256 → length (put at z d ys) ≡ length d → ((b room j : ℕ) (u : R.Sub) → HasShape u k → ys ≡ copy w b (take z (drop at s)) b (R.channel u room j)) → SoFar w k m s d at i → SoFar w k m s (put at z d ys) e (i + 1)
+  pub channels-more : (at i z e : ℕ) (ys : List ℕ) → i < m → z ≡ 256 → e ≡ at + 256 → length (put at z d ys) ≡ length d →
+      ((b room j : ℕ) (u : R.Sub) → HasShape u k → ys ≡ copy w b (take z (drop at s)) b (R.channel u room j)) → SoFar w k m s d at i →
+      SoFar w k m s (put at z d ys) e (i + 1)
   channels-more at i z e ys f l t o h q =
       record {
         place = omega (arith, q.place);
@@ -464,11 +502,14 @@ module _ (w : Way) (k : Shape) (m : ℕ) (s d : List ℕ) where
             let y : m - i ≡ suc (m - suc i) = omega arith in
             let v : n - 32 - 256 * (i + 1) ≡ r - 256 = omega arith in
             rw (l, t, v, add-one)
-            (left-more w b s d (R.channels_body g n) at 256 ys _ (u r (suc i)) (R.series (m - suc i) (suc (suc i)) 256 (r - 256) u) (takes-channel g.sub r (suc i)) (omega (arith, q.place, q.whole))
-            (copy-series w b s (b + at) (m - suc i) (suc i) 256 r u (takes-channel g.sub r (suc i))) (λ p. rw l at (h p r (suc i) g.sub a)) (rw y at (q.left b n g a x)));
+            (left-more w b s d (R.channels_body g n) at 256 ys _ (u r (suc i)) (R.series (m - suc i) (suc (suc i)) 256 (r - 256) u)
+            (takes-channel g.sub r (suc i)) (omega (arith, q.place, q.whole))
+            (copy-series w b s (b + at) (m - suc i) (suc i) 256 r u (takes-channel g.sub r (suc i))) (λ p. rw l at (h p r (suc i) g.sub a))
+            (rw y at (q.left b n g a x)));
       }
 
-  pub channels-all : (at i : ℕ) → i ≡ m → SoFar w k m s d at i → (b n : ℕ) (g : R.Group) → HasShape g.sub k → number_at w.from 4 s 0 ≡ m → d ≡ copy w b s b (R.channels_body g n)
+  pub channels-all : (at i : ℕ) → i ≡ m → SoFar w k m s d at i → (b n : ℕ) (g : R.Group) → HasShape g.sub k → number_at w.from 4 s 0 ≡ m →
+      d ≡ copy w b s b (R.channels_body g n)
   unfolding R.series
   channels-all at i f q b n g a e =
       let z : m - i ≡ 0 = omega arith in

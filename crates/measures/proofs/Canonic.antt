@@ -41,7 +41,8 @@ pub record Both {A B C : Type 0} (o : Order) (b : ℕ) (s : List ℕ) (at : ℕ)
   pub is : f value other ≡ c
   pub events : bare o b s at (w >>= λ a. v a >>= λ x. give (f a x)) ≡ bare o b s at w ++ bare o b s mid (v value)
 
-pub both : {A B C : Type 0} (o : Order) (b : ℕ) (s : List ℕ) (at : ℕ) (w : Walk A) (v : A → Walk B) (f : A → B → C) {c : C} {e : ℕ} → see o b s at (w >>= λ a. v a >>= λ x. give (f a x)) ≡ goes c e → Both o b s at w v f c e
+pub both : {A B C : Type 0} (o : Order) (b : ℕ) (s : List ℕ) (at : ℕ) (w : Walk A) (v : A → Walk B) (f : A → B → C) {c : C} {e : ℕ} →
+    see o b s at (w >>= λ a. v a >>= λ x. give (f a x)) ≡ goes c e → Both o b s at w v f c e
 unfolding see
 both {A} {B} {C} o b s at w v f {c} {e} h =
     let k : A → Walk C = λ a. v a >>= λ x. give (f a x) in
@@ -78,9 +79,11 @@ module _ (o : Order) (b : ℕ) (s : List ℕ) where
   numbers-bare w (suc n) at h =
       let v : ℕ = number_at o w s (at - b) in
       let y = went-first o b s (at + w) (number_list w n) (λ r. give (v ∷ r)) h in
-      rw (← (goes_same y.kept).0) (ap (λ (t : List Event). numeral w v ∷ t) (bare-give o b s (at + w) (number_list w n) (λ r. v ∷ r) ∙ numbers-bare w n (at + w) y.is))
+      rw (← (goes_same y.kept).0) (ap (λ (t : List Event). numeral w v ∷ t)
+      (bare-give o b s (at + w) (number_list w n) (λ r. v ∷ r) ∙ numbers-bare w n (at + w) y.is))
 
-  pub samples-bare : (t : ℕ) (cs : List Channel) (at : ℕ) {ss : List (List ℕ)} {e : ℕ} → see o b s at (samples t cs) ≡ goes ss e → bare o b s at (samples t cs) ≡ sample_events cs ss
+  pub samples-bare : (t : ℕ) (cs : List Channel) (at : ℕ) {ss : List (List ℕ)} {e : ℕ} → see o b s at (samples t cs) ≡ goes ss e →
+      bare o b s at (samples t cs) ≡ sample_events cs ss
   unfolding samples sample_events see trace cleared
   samples-bare t [] at h = refl
   samples-bare t (c ∷ cs) at h =
@@ -88,7 +91,8 @@ module _ (o : Order) (b : ℕ) (s : List ℕ) where
       rw (← x.is) (x.events ∙ rw (numbers-bare (width c.format) (samples_in t c) at x.first, samples-bare t cs x.mid x.second))
 
   pub filling-bare : (t : ℕ) (cs : List Channel) {ss : List (List ℕ)} {e : ℕ} → 8 ≤ length s → see o b s (b + 8) (samples t cs) ≡ goes ss e →
-      bare o b s b (filling t cs) ≡ numeral 2 (number_at o 2 s 0) ∷ numeral 2 (number_at o 2 s 2) ∷ numeral 2 (number_at o 2 s 4) ∷ blanks 2 ∷ sample_events cs ss
+      bare o b s b (filling t cs) ≡ numeral 2 (number_at o 2 s 0) ∷ numeral 2 (number_at o 2 s 2) ∷ numeral 2 (number_at o 2 s 4) ∷ blanks 2 ∷ sample_events cs
+      ss
   unfolding filling number_list trace cleared ◌>>=◌ ◌>>◌
   filling-bare t cs l h =
       let z₀ : b - b ≡ 0 = omega arith in
@@ -104,8 +108,10 @@ module _ {A : Type 0} (o : Order) (b c a : ℕ) (s : List ℕ) (stands : c ≡ b
   see-behind (give x) at g = refl
   see-behind (refuse n p) at g = refl
   see-behind (check k n p w) at g = ap (λ (v : Verdict A). gate k v n (at - p)) (see-behind w at g)
-  see-behind (number n f) at g = let d : a + (at - c) ≡ at - b = omega arith in rw (drop-drop (at - c) a s, d) (see-behind (f (number_at o n s (at - b))) (at + n) (omega arith))
-  see-behind (read k n f) at g = let d : a + (at - c) ≡ at - b = omega arith in rw (drop-drop (at - c) a s, d) (see-behind (f (laid o k (bytes_at n s (at - b)))) (at + n) (omega arith))
+  see-behind (number n f) at g = let d : a + (at - c) ≡ at - b = omega arith in
+      rw (drop-drop (at - c) a s, d) (see-behind (f (number_at o n s (at - b))) (at + n) (omega arith))
+  see-behind (read k n f) at g = let d : a + (at - c) ≡ at - b = omega arith in
+      rw (drop-drop (at - c) a s, d) (see-behind (f (laid o k (bytes_at n s (at - b)))) (at + n) (omega arith))
   see-behind (skip n w) at g = see-behind w (at + n) (omega arith)
   see-behind (list p l x y w) at g = see-behind w at g
 
@@ -119,5 +125,6 @@ pub frame-bare : (o : Order) (b t : ℕ) (cs : List Channel) (s p : List ℕ) (f
 frame-bare o b t cs s p f i l x =
     let k : 8 ≤ length p = rw (i, length-drop) (omega arith) in
     let z : b + 16 + 8 ≡ b + 24 = omega arith in
-    let h = ap (λ (y : List ℕ). see o (b + 16) y (b + 16 + 8) (samples t cs)) i ∙ see-behind o b (b + 16) 16 s refl (samples t cs) (b + 16 + 8) (omega arith) ∙ ap (λ (y : ℕ). see o b s y (samples t cs)) z ∙ x.samples b in
+    let h = ap (λ (y : List ℕ). see o (b + 16) y (b + 16 + 8) (samples t cs)) i ∙ see-behind o b (b + 16) 16 s refl (samples t cs) (b + 16 + 8)
+    (omega arith) ∙ ap (λ (y : ℕ). see o b s y (samples t cs)) z ∙ x.samples b in
     filling-bare o (b + 16) p t cs k h ∙ rw (i, number_behind o 2 16 0 s, number_behind o 2 16 2 s, number_behind o 2 16 4 s, x.hour, x.minute, x.second)

@@ -85,12 +85,15 @@ module _ (at end last seconds size filled count : ℕ) where
   unfolding measured_for
   measure-long h = rw (measured_for, lt-leb frames most_served h)
 
-  pub measure-over : (s : Sized) → s ≡ sized_for frames → frames ≤ most_served → most_served < 16 + (at + s.length + (last - end)) → None ≡ measured_for at end last seconds size filled count
+  pub measure-over : (s : Sized) → s ≡ sized_for frames → frames ≤ most_served → most_served < 16 + (at + s.length + (last - end)) →
+      None ≡ measured_for at end last seconds size filled count
   unfolding measured_for
   measure-over s e h k = rw (measured_for, le-leb frames most_served h, lt-leb whole most_served (rw e at k))
 
-  pub measure-on : (s w : Sized) → s ≡ sized_for frames → w ≡ sized_for (16 + (at + s.length + (last - end))) → frames ≤ most_served → 16 + (at + s.length + (last - end)) ≤ most_served →
-      Some (record { at = at; end = end; last = last; seconds = seconds; size = size; filled = filled; count = count; signals = s; whole = w }) ≡ measured_for at end last seconds size filled count
+  pub measure-on : (s w : Sized) → s ≡ sized_for frames → w ≡ sized_for (16 + (at + s.length + (last - end))) → frames ≤ most_served →
+      16 + (at + s.length + (last - end)) ≤ most_served →
+      Some (record { at = at; end = end; last = last; seconds = seconds; size = size; filled = filled; count = count; signals = s; whole = w }) ≡
+      measured_for at end last seconds size filled count
   unfolding measured_for
   measure-on s w e g h k = rw (measured_for, g, e, le-leb frames most_served h, le-leb whole most_served (rw e at k))
 
@@ -104,11 +107,23 @@ module _ (at end last seconds size filled count : ℕ) where
       go true true p q =
           let w = sized whole in
           let l = leb-true whole most_served q in
-          rw (measured_for, p, q) (record { seconds = h₁; low = h₂; fits = h₃; small = h₄; frames = h₅; end = h₆; last = h₇; signals = (sized frames).serves; whole = w.serves; most = omega (arith, l, w.close, w.low 128 l) })
+          rw (measured_for, p, q) (record {
+            seconds = h₁;
+            low = h₂;
+            fits = h₃;
+            small = h₄;
+            frames = h₅;
+            end = h₆;
+            last = h₇;
+            signals = (sized frames).serves;
+            whole = w.serves;
+            most = omega (arith, l, w.close, w.low 128 l);
+          })
       go true false p q = rw (measured_for, p, q) tt
       go false y p q = rw (measured_for, p) tt
 
-  pub measure-each : (P : Measure → Type 0) → P (measure_for at end last seconds size filled count) → Each (measured_for at end last seconds size filled count) P
+  pub measure-each : (P : Measure → Type 0) → P (measure_for at end last seconds size filled count) →
+      Each (measured_for at end last seconds size filled count) P
   unfolding measured_for
   measure-each P p = go (leb frames most_served && leb whole most_served) refl
     where
@@ -116,12 +131,14 @@ module _ (at end last seconds size filled count : ℕ) where
       go true e = rw (measured_for, e) p
       go false e = rw (measured_for, e) tt
 
-  pub measure-given : (P : Measure → Type 0) → frames ≤ most_served → whole ≤ most_served → P (measure_for at end last seconds size filled count) → Given (measured_for at end last seconds size filled count) P
+  pub measure-given : (P : Measure → Type 0) → frames ≤ most_served → whole ≤ most_served → P (measure_for at end last seconds size filled count) →
+      Given (measured_for at end last seconds size filled count) P
   unfolding measured_for
   measure-given P h k p = rw (measured_for, le-leb frames most_served h, le-leb whole most_served k) p
 
 -- what the three numbers say of a 140 whose body is s
-fields_told : (o : Order) (label : Label) (b : ℕ) (s : List ℕ) (c : R.Basic) (cs : List R.Channel) (h : R.Head) {f : R.Frames} {e : ℕ} → see o b s b (R.frames_body label c cs h) ≡ goes f e → Fields (number_at o 4 s 0) (number_at o 4 s 4) (number_at o 4 s 8) cs c f (R.span h)
+fields_told : (o : Order) (label : Label) (b : ℕ) (s : List ℕ) (c : R.Basic) (cs : List R.Channel) (h : R.Head) {f : R.Frames} {e : ℕ} →
+    see o b s b (R.frames_body label c cs h) ≡ goes f e → Fields (number_at o 4 s 0) (number_at o 4 s 4) (number_at o 4 s 8) cs c f (R.span h)
 fields_told o label b s c cs h g =
     let z₀ : b - b ≡ 0 = omega arith in
     let z₁ : b + 4 - b ≡ 4 = omega arith in
@@ -142,11 +159,13 @@ module _ {o : Order} {label : Label} {base : ℕ} {s : List ℕ} {x : R.Placed} 
     same_head : v.top ≡ head_of h
     same_head = (goes_same (sym stands ∙ found)).0
 
-    went : see o base s (base + (h.at + 16)) (R.frames label v.before.basic v.own x.recording.channels v.back (length s - h.at) (head_of h)) ≡ goes v.value (base + (h.at + R.span (head_of h)))
+    went : see o base s (base + (h.at + 16)) (R.frames label v.before.basic v.own x.recording.channels v.back (length s - h.at) (head_of h)) ≡ goes v.value
+        (base + (h.at + R.span (head_of h)))
     went = let e : v.at ≡ h.at = omega (arith, v.place) in rw (e, same_head) at v.went
 
     -- it is admitted
-    pub measure-refused : {n p : ℕ} → see o base s (base + (h.at + 16)) (R.admit (length s - h.at) (R.most_of label) (leb 32) (eqb 0) (head_of h)) ≡ stops n p → ⊥
+    pub measure-refused : {n p : ℕ} → see o base s (base + (h.at + 16)) (R.admit (length s - h.at) (R.most_of label) (leb 32) (eqb 0) (head_of h)) ≡ stops n
+        p → ⊥
     measure-refused g = frames-refused o label base s v.before.basic v.own x.recording.channels v.back (base + (h.at + 16)) (length s - h.at) (head_of h) g went
 
     -- the 140 stops at q, and another head follows
@@ -159,35 +178,43 @@ module _ {o : Order} {label : Label} {base : ℕ} {s : List ℕ} {x : R.Placed} 
       enough : length s < q + v.fuel
       enough = omega (arith, v.enough, v.place, ap (λ (t : R.Head). R.span t) same_head)
 
-      pub measure-alone : {n p : ℕ} → ((fuel : ℕ) → length s < q + fuel → over headroom (see o base s (base + q) (R.next label fuel (length s - q))) ≡ stops n p) → ⊥
+      pub measure-alone : {n p : ℕ} → ((fuel : ℕ) → length s < q + fuel →
+          over headroom (see o base s (base + q) (R.next label fuel (length s - q))) ≡ stops n p) → ⊥
       measure-alone g = stops-goes (sym (g v.fuel enough) ∙ behind)
 
       module _ (inside : q ≤ length s) (least : 32 ≤ R.span (head_of h)) where
         abbrev body : List ℕ
         body = take (q - (at + 16)) (drop (at + 16) s)
 
-        pub in_body : see o (base + at + 16) body (base + at + 16) (R.frames_body label v.before.basic x.recording.channels (head_of h)) ≡ goes v.value (base + q)
+        pub in_body : see o (base + at + 16) body (base + at + 16) (R.frames_body label v.before.basic x.recording.channels (head_of h)) ≡ goes v.value
+            (base + q)
         unfolding R.frames
         in_body =
             let w : Walk R.Frames = R.frames_body label v.before.basic x.recording.channels (head_of h) in
-            let d = admit-went o base s (base + (h.at + 16)) (length s - h.at) (R.most_of label) (leb 32) (eqb 0) (head_of h) (require (v.own || eqb (length x.recording.channels) v.before.basic.channels) 14 v.back >> w) went in
+            let d = admit-went o base s (base + (h.at + 16)) (length s - h.at) (R.most_of label) (leb 32) (eqb 0) (head_of h)
+            (require (v.own || eqb (length x.recording.channels) v.before.basic.channels) 14 v.back >> w) went in
             let t = require-went o base s (base + (h.at + 16)) (v.own || eqb (length x.recording.channels) v.before.basic.channels) 14 v.back w d.rest in
             let z : base + at + 16 + (R.span (head_of h) - 16) ≡ base + q = omega arith in
-            see-body o base at q s w _ (omega arith) inside (rw z at (stays-frames_body label v.before.basic x.recording.channels (head_of h) (base + at + 16) least)) ∙ (ap (λ (y : ℕ). see o base s (base + (y + 16)) w) (sym here) ∙ (t.1 ∙ ap (λ (y : ℕ). goes v.value (base + y)) (sym stop)))
+            see-body o base at q s w _ (omega arith) inside (rw z at
+            (stays-frames_body label v.before.basic x.recording.channels (head_of h) (base + at + 16) least)) ∙
+            (ap (λ (y : ℕ). see o base s (base + (y + 16)) w) (sym here) ∙ (t.1 ∙ ap (λ (y : ℕ). goes v.value (base + y)) (sym stop)))
 
         module _ (t size n : ℕ) (e₁ : t ≡ number_at o 4 body 0) (e₂ : size ≡ number_at o 4 body 4) (e₃ : n ≡ number_at o 4 body 8) where
           pub measure-fields : Fields t size n x.recording.channels v.before.basic v.value (R.span (head_of h))
           measure-fields = rw (e₁, e₂, e₃) (fields_told o label (base + at + 16) body v.before.basic x.recording.channels (head_of h) in_body)
 
           -- the code's test of these numbers passes
-          pub measure-fits : (bytes : ℕ) (r : Bool) → bytes ≡ R.sample_bytes t x.recording.channels → r ≡ leb (24 + bytes) size && leb (16 + size * n) (length body) → r ≡ false → ⊥
+          pub measure-fits : (bytes : ℕ) (r : Bool) → bytes ≡ R.sample_bytes t x.recording.channels →
+              r ≡ leb (24 + bytes) size && leb (16 + size * n) (length body) → r ≡ false → ⊥
           measure-fits bytes r i e f₀ =
               let f = measure-fields in
               let l : 16 + length body ≡ q - at = body-length at q s (omega arith) inside in
               both_false (24 + bytes) size (16 + size * n) (length body) r e f₀ (rw i f.long) (omega (arith, f.fits, mul_comm n size))
 
           -- and what is measured is the recording's measure; d: the head that follows
-          module _ (d : At.Head) (follows : (fuel : ℕ) → length s < q + fuel → over headroom (see o base s (base + q) (R.next label fuel (length s - q))) ≡ goes (record { head = head_of d; room = length s - d.at }) (base + (d.at + 16))) (last : d.at + 16 ≤ length s) (bytes : ℕ) (many : bytes ≡ R.sample_bytes t x.recording.channels) where
+          module _ (d : At.Head) (follows : (fuel : ℕ) → length s < q + fuel →
+              over headroom (see o base s (base + q) (R.next label fuel (length s - q))) ≡ goes (record { head = head_of d; room = length s - d.at })
+              (base + (d.at + 16))) (last : d.at + 16 ≤ length s) (bytes : ℕ) (many : bytes ≡ R.sample_bytes t x.recording.channels) where
             abbrev frames-bytes : ℕ
             frames-bytes = C.frames_bytes x.recording.seconds x.recording.channels x.recording.frames
 
@@ -208,4 +235,11 @@ module _ {o : Order} {label : Label} {base : ℕ} {s : List ℕ} {x : R.Placed} 
             pub measure-told : Given (measured_for at q (d.at + 16) t size (24 + bytes) n) (λ f. MeasureOf label f x)
             measure-told =
                 measure-given at q (d.at + 16) t size (24 + bytes) n (λ f. MeasureOf label f x) (rw frames-is v.few) (rw whole_is v.total)
-                (record { at = is; seconds = sym seconds-is; count = measure-fields.count ∙ sym v.count; filled = rw (seconds-is, many); signals = ap sized_for frames-is; whole = ap sized_for whole_is })
+                (record {
+                  at = is;
+                  seconds = sym seconds-is;
+                  count = measure-fields.count ∙ sym v.count;
+                  filled = rw (seconds-is, many);
+                  signals = ap sized_for frames-is;
+                  whole = ap sized_for whole_is;
+                })

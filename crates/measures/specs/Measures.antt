@@ -54,11 +54,22 @@ pub record InOrder (at end last filled : ℕ) : Type 0 where
 
 abbrev pub measure_for : ℕ → ℕ → ℕ → ℕ → ℕ → ℕ → ℕ → Measure
 measure_for at end last seconds size filled count =
-    record { at = at; end = end; last = last; seconds = seconds; size = size; filled = filled; count = count; signals = sized_for (32 + filled * count); whole = sized_for (16 + (at + (sized_for (32 + filled * count)).length + (last - end))) }
+    record {
+      at = at;
+      end = end;
+      last = last;
+      seconds = seconds;
+      size = size;
+      filled = filled;
+      count = count;
+      signals = sized_for (32 + filled * count);
+      whole = sized_for (16 + (at + (sized_for (32 + filled * count)).length + (last - end)));
+    }
 
 unfoldable pub measured_for : ℕ → ℕ → ℕ → ℕ → ℕ → ℕ → ℕ → Std.Option Measure
 measured_for at end last seconds size filled count =
-    pick (leb (32 + filled * count) most_served && leb (16 + (at + (sized_for (32 + filled * count)).length + (last - end))) most_served) (Some (measure_for at end last seconds size filled count)) None
+    pick (leb (32 + filled * count) most_served && leb (16 + (at + (sized_for (32 + filled * count)).length + (last - end))) most_served)
+    (Some (measure_for at end last seconds size filled count)) None
 
 -- what a measure says of a recording in a file with this label: its 140's own fields, and the sizes of its canonical form
 pub record MeasureOf (label : Label) (f : Measure) (x : R.Placed) : Type 0 where

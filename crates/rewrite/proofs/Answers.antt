@@ -68,7 +68,9 @@ module _ (s : List ℕ) (b : Bytes s) (h : FileHeader) (x : AcceptedAs s h) wher
     pub length-anew : length (C.rewritten to s) ≡ need
     length-anew =
         let e = length-append (render to (C.header_events (heading_of h.heading) h.count)) (render to (C.recording_events h.heading.label 1 recorded)) in
-        let f : length (render to (C.header_events (heading_of h.heading) h.count)) ≡ 32 = length-render to (C.header_events (heading_of h.heading) h.count) ∙ header-size (heading_of h.heading) h.count (rw (x.heading, ← counted) ok.header) in
+        let f : length (render to (C.header_events (heading_of h.heading) h.count)) ≡ 32 =
+        length-render to (C.header_events (heading_of h.heading) h.count) ∙ header-size (heading_of h.heading) h.count
+        (rw (x.heading, ← counted) ok.header) in
         omega (arith, ap length (anew to), e, f, length-render to (C.recording_events h.heading.label 1 recorded), long)
 
     -- leave to write is the answer
@@ -81,4 +83,5 @@ module _ (s : List ℕ) (b : Bytes s) (h : FileHeader) (x : AcceptedAs s h) wher
     pub rewrites-room : (n : ℕ) (out' : List ℕ) → meaning (Ok n) ≡ permitted m need (length out) →
         out' ≡ pasted out 0 (file_anew to h.heading h.count x.file.recordings) → Rewrites s order out out' (Ok n)
     rewrites-room n out' e w =
-        wrote (answer_of s order (length out)) (rewritten_in (lettered order) s) out out' (Ok n) (answers e) refl (w ∙ ap (pasted out 0) (anew to ∙ rw names refl))
+        wrote (answer_of s order (length out)) (rewritten_in (lettered order) s) out out' (Ok n) (answers e) refl
+        (w ∙ ap (pasted out 0) (anew to ∙ rw names refl))

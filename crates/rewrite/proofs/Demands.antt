@@ -1,4 +1,5 @@
--- One answer and one buffer meet the contract of `rewrite`; and what `rewrite` answers and writes of an accepted file, on which demands 2 and 3 (crate `demands`) rest.
+-- One answer and one buffer meet the contract of `rewrite`; and what `rewrite` answers and writes of an accepted file, on which demands 2 and 3
+-- (crate `demands`) rest.
 -- Assumes nothing.
 use Rattle.std.proofs.Common.{Result, Ok, Some}
 use Rattle.rules.specs.declared.Refusal.{Refusal}
@@ -26,11 +27,13 @@ use Rattle.turn.specs.Turn.{Turns}
 use Rattle.turn.proofs.Demands.{turn-answers}
 use Rattle.rewrite.specs.Rewrite.{barrier, answer_of, rewritten_in, Rewrites}
 
-pub rewrite-unique : (s : List ℕ) (order : ℕ) (out out₁ out₂ : List ℕ) (a b : Result ℕ Refusal) → Rewrites s order out out₁ a → Rewrites s order out out₂ b → (a ≡ b) × (out₁ ≡ out₂)
+pub rewrite-unique : (s : List ℕ) (order : ℕ) (out out₁ out₂ : List ℕ) (a b : Result ℕ Refusal) → Rewrites s order out out₁ a → Rewrites s order out out₂ b →
+    (a ≡ b) × (out₁ ≡ out₂)
 rewrite-unique s order out out₁ out₂ a b x y = writes-unique (answer_of s order (length out)) (rewritten_in (lettered order) s) out out₁ out₂ a b x y
 
 -- a file that is accepted, a letter that names an order, nothing in the way, and a buffer with room
-module _ (s : List ℕ) {v : File} {t : List Event} (h : judge s ≡ passed v [] t) (order : ℕ) (to : Order) (names : lettered order ≡ Some to) (free : barrier (order_of s) to (first_maker (rows 0 t)) ≡ none) where
+module _ (s : List ℕ) {v : File} {t : List Event} (h : judge s ≡ passed v [] t) (order : ℕ) (to : Order) (names : lettered order ≡ Some to)
+    (free : barrier (order_of s) to (first_maker (rows 0 t)) ≡ none) where
   abbrev need : ℕ
   need = length (rewritten to s)
 

@@ -20,9 +20,11 @@ use Rattle.walk.specs.Walk.{laid, Event, numeral, render, Walk, give, ◌>>=◌,
 use Rattle.walk.proofs.Seen.{part-number, part-numbers, stays-goes, and_left}
 use Rattle.walk.proofs.Tracing.{render-append}
 use Rattle.walk.proofs.Went.{gate-went, went-first, goes_same}
-use Rattle.rules.specs.Canonical.{blanks, zeroes, numerals, row_of, plain_head, record_of, sample_events, frame_written, frame_size, frame_events, frames_bytes, frames_head, frames_written}
+use Rattle.rules.specs.Canonical.{blanks, zeroes, numerals, row_of, plain_head, record_of}
+use Rattle.rules.specs.Canonical.{sample_events, frame_written, frame_size, frame_events, frames_bytes, frames_head, frames_written}
 use Rattle.rules.specs.declared.Label.{Label}
-use Rattle.rules.specs.Rules.{most_of, Head, head, span, admit, coded, between, pad_ok, padding, series, Basic, Channel, width, samples_in, sample_bytes, number_list, samples, Frame, frame_body, frame, Frames, frames_body}
+use Rattle.rules.specs.Rules.{most_of, Head, head, span, admit, coded, between, pad_ok, padding, series, Basic}
+use Rattle.rules.specs.Rules.{Channel, width, samples_in, sample_bytes, number_list, samples, Frame, frame_body, frame, Frames, frames_body}
 use Rattle.rules.specs.declared.Channels.{Channels}
 use Rattle.rules.proofs.Room.{stays-frame}
 use Rattle.records.specs.Says.{ChannelsStand}
@@ -52,7 +54,8 @@ module _ (o : Order) where
         let v : ℕ → Walk (List ℕ) = λ x. number_list w n >>= λ l. give (number_at o w s x ∷ l) in
         ap (λ (x : ℕ). see o b s (b + k + w) (v x)) i
         ∙ (ap (λ (x : ℕ). see o b s x (v k)) j
-        ∙ (bind_goes o b s (b + (k + w)) (number_list w n) (λ l. give (number_at o w s k ∷ l)) (sees-numbers w n (k + w)) ∙ ap (λ (x : ℕ). goes (numbers_at o w (suc n) s k) (b + x)) l))
+        ∙ (bind_goes o b s (b + (k + w)) (number_list w n) (λ l. give (number_at o w s k ∷ l)) (sees-numbers w n (k + w)) ∙ ap
+        (λ (x : ℕ). goes (numbers_at o w (suc n) s k) (b + x)) l))
 
     sees-samples : (t : ℕ) (cs : List Channel) (k : ℕ) → see o b s (b + k) (samples t cs) ≡ goes (samples_at t cs s k) (b + (k + sample_bytes t cs))
     unfolding samples sample_bytes see
@@ -91,7 +94,8 @@ padded-events o t n = render-append o t (zeroes n ∷ []) ∙ rw (render-zeroes 
 
 -- One frame
 
-module _ (w : Way) (t : ℕ) (ch : List Channel) (s : List ℕ) (f : Frame) (clear : w.keep ≡ false) (whole : length s ≡ 24 + sample_bytes t ch) (stands : FrameIn w.from t ch s f) where
+module _ (w : Way) (t : ℕ) (ch : List Channel) (s : List ℕ) (f : Frame) (clear : w.keep ≡ false) (whole : length s ≡ 24 + sample_bytes t ch)
+    (stands : FrameIn w.from t ch s f) where
   body-written : copy w 16 (take (length s - 16) (drop 16 s)) 16 (filling t ch) ≡ render w.to (frame_written ch f)
   unfolding frame_written
   body-written =
@@ -136,16 +140,29 @@ module _ (o : Order) (label : Label) (b : ℕ) (s : List ℕ) (t : ℕ) (ch : Li
       let z₂ : b + q + 2 + 2 - b ≡ q + 4 = omega arith in
       let z₃ : b + q + 2 + 2 + 2 + 2 ≡ b + (q + 8) = omega arith in
       let n : ℕ = size - (24 + sample_bytes t ch) in
-      let made : List (List ℕ) → Frame = λ ss. record { hour = number_at o 2 s q; minute = number_at o 2 s (q + 2); second = number_at o 2 s (q + 4); channels = ss } in
+      let made : List (List ℕ) → Frame = λ ss. record {
+        hour = number_at o 2 s q;
+        minute = number_at o 2 s (q + 2);
+        second =
+            number_at o 2 s (q + 4);
+        channels = ss;
+      } in
       let g₁ = gate-went _ _ _ _ (rw (z₀, z₁, z₂, z₃) at g) in
       let g₂ = gate-went _ _ _ _ g₁.1 in
       let g₃ = gate-went _ _ _ _ g₂.1 in
       let x = sym (bind_goes o b s (b + (q + 8)) (samples t ch) (λ ss. padding n >> give (made ss)) (sees-samples o b s t ch (q + 8))) ∙ g₃.1 in
       let i : f ≡ made (samples_at o t ch s (q + 8)) = gives-padded o b s (b + (q + 8 + sample_bytes t ch)) n (made (samples_at o t ch s (q + 8))) x in
-      record { hour = ap (λ (z : Frame). z.hour) i; minute = ap (λ (z : Frame). z.minute) i; second = ap (λ (z : Frame). z.second) i; channels = ap (λ (z : Frame). z.channels) i }
+      record {
+        hour = ap (λ (z : Frame). z.hour) i;
+        minute = ap (λ (z : Frame). z.minute) i;
+        second = ap (λ (z : Frame). z.second) i;
+        channels =
+            ap (λ (z : Frame). z.channels) i;
+      }
 
   module _ (filled size : ℕ) (is : filled ≡ 24 + sample_bytes t ch) (fits : filled ≤ size) where
-    frame-in : (p room i : ℕ) {f : Frame} {e : ℕ} → p + room ≤ length s → see o b s (b + p) (frame label size t ch room i) ≡ goes f e → FrameIn o t ch (take filled (drop p s)) f
+    frame-in : (p room i : ℕ) {f : Frame} {e : ℕ} → p + room ≤ length s → see o b s (b + p) (frame label size t ch room i) ≡ goes f e →
+        FrameIn o t ch (take filled (drop p s)) f
     unfolding frame
     frame-in p room i l g =
         let ok : Head → ℕ → Bool = λ h n. eqb n size && pad_ok h (n - (24 + sample_bytes t ch)) in
@@ -165,20 +182,24 @@ module _ (o : Order) (label : Label) (b : ℕ) (s : List ℕ) (t : ℕ) (ch : Li
           samples = λ c. sees-samples o c (take filled (drop p s)) t ch 24 ∙ rw (n, part-samples o s p filled t ch 24 (omega arith), y.channels, a, is);
         }
 
-    frames-in : (n i room p : ℕ) {fs : List Frame} {e : ℕ} → p + room ≤ length s → see o b s (b + p) (series n i size room (frame label size t ch)) ≡ goes fs e → (length fs ≡ n) × FramesIn o t ch filled size s p fs
+    frames-in : (n i room p : ℕ) {fs : List Frame} {e : ℕ} → p + room ≤ length s →
+        see o b s (b + p) (series n i size room (frame label size t ch)) ≡ goes fs e → (length fs ≡ n) × FramesIn o t ch filled size s p fs
     unfolding series see
     frames-in zero i room p l g = rw (← (goes_same g).0) (refl, tt)
     frames-in (suc n) i room p l g =
         let v : Walk (List Frame) = series n (suc i) size (room - size) (frame label size t ch) in
         let x = went-first o b s (b + p) (frame label size t ch room i) (λ a. v >>= λ r. give (a ∷ r)) g in
-        let z : (x.end ≡ b + p + size) × (x.end ≤ b + p + room) = stays-goes o b s (b + p + room) (omega arith) (frame label size t ch room i) (b + p) _ (omega arith) (stays-frame label size t ch (omega arith) i (b + p) room) x.is in
+        let z : (x.end ≡ b + p + size) × (x.end ≤ b + p + room) =
+        stays-goes o b s (b + p + room) (omega arith) (frame label size t ch room i) (b + p) _ (omega arith)
+        (stays-frame label size t ch (omega arith) i (b + p) room) x.is in
         let y = went-first o b s x.end v (λ r. give (x.value ∷ r)) x.kept in
         let j : x.end ≡ b + (p + size) = omega (arith, z.0) in
         let r = frames-in n (suc i) (room - size) (p + size) (omega (arith, z.0, z.1)) (ap (λ (q : ℕ). see o b s q v) (sym j) ∙ y.is) in
         rw (← (goes_same y.kept).0) (ap suc r.0, (frame-in p room i l x.is, r.1))
 
   -- the body of a 140 whose three numbers are known, in a part that it fills
-  frames-stand : (filled size count : ℕ) (c : Basic) (hd : Head) (f : Frames) (e : ℕ) → filled ≡ 24 + sample_bytes t ch → FramesSay o s t size count → span hd ≡ 16 + length s →
+  frames-stand : (filled size count : ℕ) (c : Basic) (hd : Head) (f : Frames) (e : ℕ) → filled ≡ 24 + sample_bytes t ch → FramesSay o s t size count →
+      span hd ≡ 16 + length s →
       see o b s b (frames_body label c ch hd) ≡ goes f e → (length f.frames ≡ count) × FramesIn o t ch filled size s 16 f.frames
   unfolding frames_body between see ◌>>=◌ ◌>>◌
   frames-stand filled size count c hd f e i says whole g =
@@ -187,7 +208,13 @@ module _ (o : Order) (label : Label) (b : ℕ) (s : List ℕ) (t : ℕ) (ch : Li
       let z₂ : b + 4 + 4 - b ≡ 8 = omega arith in
       let z₃ : b + 4 + 4 + 4 + 4 ≡ b + 16 = omega arith in
       let v : Walk (List Frame) = series count 1 size (span hd - 32) (frame label size t ch) in
-      let made : List Frame → Frames = λ fs. record { seconds = t; frames = fs; size = size; padded = count * (size - (24 + sample_bytes t ch)) + (span hd - (32 + count * size)) } in
+      let made : List Frame → Frames = λ fs. record {
+        seconds = t;
+        frames = fs;
+        size = size;
+        padded =
+            count * (size - (24 + sample_bytes t ch)) + (span hd - (32 + count * size));
+      } in
       let g₁ = gate-went _ _ _ _ (rw (z₀, z₁, z₂, z₃, says.seconds, says.size, says.count) at g) in
       let g₂ = gate-went _ _ _ _ g₁.1 in
       let g₃ = gate-went _ _ _ _ g₂.1 in
@@ -196,7 +223,8 @@ module _ (o : Order) (label : Label) (b : ℕ) (s : List ℕ) (t : ℕ) (ch : Li
       let x = went-first o b s (b + 16) v (λ fs. padding (span hd - (32 + count * size)) >> give (made fs)) g₅.1 in
       let l : 24 + sample_bytes t ch ≤ size = leb-true _ _ (and_left _ _ (and_left _ _ g₃.0)) in
       let k : 32 + count * size ≤ span hd = leb-true _ _ (and_left _ _ g₅.0) in
-      rw (gives-padded o b s x.end (span hd - (32 + count * size)) (made x.value) x.kept) (frames-in filled size i (omega arith) count 1 (span hd - 32) 16 {fs = x.value} {e = x.end} (omega arith) x.is)
+      rw (gives-padded o b s x.end (span hd - (32 + count * size)) (made x.value) x.kept)
+      (frames-in filled size i (omega arith) count 1 (span hd - 32) 16 {fs = x.value} {e = x.end} (omega arith) x.is)
 
 -- The frames that are written, and those that are still to write
 
@@ -205,7 +233,8 @@ abbrev pub opened : ℕ → List Channel → List Frame → List Event
 opened t ch fs = numeral 4 t ∷ numeral 4 (frame_size t ch) ∷ numeral 4 (length fs) ∷ blanks 4 ∷ frame_events t ch 1 fs
 
 events-more : (o : Order) (t : ℕ) (ch : List Channel) (i : ℕ) (f : Frame) (fs : List Frame) →
-    render o (frame_events t ch i (f ∷ fs)) ≡ render o (record_of (plain_head (frame_size t ch) 145 i) (frame_written ch f)) ++ render o (frame_events t ch (i + 1) fs)
+    render o (frame_events t ch i (f ∷ fs)) ≡ render o (record_of (plain_head (frame_size t ch) 145 i) (frame_written ch f)) ++ render o
+    (frame_events t ch (i + 1) fs)
 unfolding frame_events
 events-more o t ch i f fs = render-append o (record_of (plain_head (frame_size t ch) 145 i) (frame_written ch f)) (frame_events t ch (suc i) fs) ∙ rw add-one
 
@@ -233,26 +262,38 @@ module _ (w : Way) (file : List ℕ) (cs : Channels) (t filled size count : ℕ)
     pub left : (ch : List Channel) (fs : List Frame) → w.keep ≡ false → ChannelsStand w.from file cs ch → filled ≡ 24 + sample_bytes t ch →
         length fs ≡ count → FramesIn w.from t ch filled size s 16 fs → Rest ch fs d from k i
 
-  opens : (ch : List Channel) (fs : List Frame) (y₁ y₂ y₃ y₄ front : List ℕ) → filled ≡ 24 + sample_bytes t ch → length fs ≡ count → front ≡ ((y₁ ++ y₂) ++ y₃) ++ y₄ →
-      y₁ ≡ bytes_in w.to 4 t → y₂ ≡ bytes_in w.to 4 filled → y₃ ≡ bytes_in w.to 4 count → y₄ ≡ replicate 4 0 → front ++ render w.to (frame_events t ch 1 fs) ≡ render w.to (opened t ch fs)
+  opens : (ch : List Channel) (fs : List Frame) (y₁ y₂ y₃ y₄ front : List ℕ) → filled ≡ 24 + sample_bytes t ch → length fs ≡ count →
+      front ≡ ((y₁ ++ y₂) ++ y₃) ++ y₄ →
+      y₁ ≡ bytes_in w.to 4 t → y₂ ≡ bytes_in w.to 4 filled → y₃ ≡ bytes_in w.to 4 count → y₄ ≡ replicate 4 0 →
+      front ++ render w.to (frame_events t ch 1 fs) ≡ render w.to (opened t ch fs)
   unfolding render
   opens ch fs y₁ y₂ y₃ y₄ front is n x e₁ e₂ e₃ e₄ = rw (x, e₁, e₂, e₃, e₄, ← is, n) (simp append_assoc)
 
   pub framing-start : (d y₁ y₂ y₃ y₄ : List ℕ) → let d₁ = put 0 4 d y₁ in let d₂ = put 4 4 d₁ y₂ in let d₃ = put 8 4 d₂ y₃ in let d₄ = put 12 4 d₃ y₄ in
-      16 + size * count ≤ length s → 16 + filled * count ≤ length d → length d₁ ≡ length d → length d₂ ≡ length d₁ → length d₃ ≡ length d₂ → length d₄ ≡ length d₃ →
-      y₁ ≡ bytes_in w.to 4 t → y₂ ≡ bytes_in w.to 4 filled → y₃ ≡ bytes_in w.to 4 count → y₄ ≡ replicate (length (take 4 (drop 12 d₃))) 0 → Framing (length d₄) d₄ 16 16 0
+      16 + size * count ≤ length s → 16 + filled * count ≤ length d → length d₁ ≡ length d → length d₂ ≡ length d₁ → length d₃ ≡ length d₂ →
+      length d₄ ≡ length d₃ →
+      y₁ ≡ bytes_in w.to 4 t → y₂ ≡ bytes_in w.to 4 filled → y₃ ≡ bytes_in w.to 4 count → y₄ ≡ replicate (length (take 4 (drop 12 d₃))) 0 →
+      Framing (length d₄) d₄ 16 16 0
   framing-start d y₁ y₂ y₃ y₄ f g l₁ l₂ l₃ l₄ e₁ e₂ e₃ e₄ =
       let d₁ = put 0 4 d y₁ in
       let d₂ = put 4 4 d₁ y₂ in
       let d₃ = put 8 4 d₂ y₃ in
       let z : length (take 4 (drop 12 d₃)) ≡ 4 = length-take-le 4 (drop 12 d₃) (rw length-drop (omega arith)) in
-      let x : take 16 (put 12 4 d₃ y₄) ≡ ((y₁ ++ y₂) ++ y₃) ++ y₄ = front-more d₃ y₄ ((y₁ ++ y₂) ++ y₃) 12 4 (omega arith) l₄ (front-more d₂ y₃ (y₁ ++ y₂) 8 4 (omega arith) l₃ (front-more d₁ y₂ y₁ 4 4 (omega arith) l₂ (front-more d y₁ [] 0 4 (omega arith) l₁ refl))) in
+      let x : take 16 (put 12 4 d₃ y₄) ≡ ((y₁ ++ y₂) ++ y₃) ++ y₄ =
+      front-more d₃ y₄ ((y₁ ++ y₂) ++ y₃) 12 4 (omega arith) l₄
+      (front-more d₂ y₃ (y₁ ++ y₂) 8 4 (omega arith) l₃ (front-more d₁ y₂ y₁ 4 4 (omega arith) l₂ (front-more d y₁ [] 0 4 (omega arith) l₁ refl))) in
       record {
         source = rw sub-zero f;
         target = rw (sub-zero, l₄, l₃, l₂, l₁) g;
         place = omega arith;
         long = refl;
-        left = λ ch fs _ _ is n stands. record { rest = fs; many = omega arith; stands = stands; is = opens ch fs y₁ y₂ y₃ y₄ (take 16 (put 12 4 d₃ y₄)) is n x e₁ e₂ e₃ (e₄ ∙ ap (λ (x : ℕ). replicate x 0) z) };
+        left = λ ch fs _ _ is n stands. record {
+          rest = fs;
+          many = omega arith;
+          stands = stands;
+          is =
+              opens ch fs y₁ y₂ y₃ y₄ (take 16 (put 12 4 d₃ y₄)) is n x e₁ e₂ e₃ (e₄ ∙ ap (λ (x : ℕ). replicate x 0) z);
+        };
       }
 
   module _ {n : ℕ} {d : List ℕ} {from k i : ℕ} (q : Framing n d from k i) where
@@ -264,7 +305,8 @@ module _ (w : Way) (file : List ℕ) (cs : Channels) (t filled size count : ℕ)
         let a = room-more from size count i (length s) f q.source in
         let b = room-more k filled count i n f q.target in
         let z : length (take filled (drop from s)) ≡ filled = length-take-le filled (drop from s) (rw length-drop (omega (arith, a.0))) in
-        let p : take (k + filled) (put k m' d ys) ≡ take k d ++ ys = rw e' (front-more d ys (take k d) k filled (omega (arith, b.0, q.long)) (rw e' at l) refl) in
+        let p : take (k + filled) (put k m' d ys) ≡ take k d ++ ys =
+        rw e' (front-more d ys (take k d) k filled (omega (arith, b.0, q.long)) (rw e' at l) refl) in
         record {
           source = a.1;
           target = b.1;
@@ -275,19 +317,23 @@ module _ (w : Way) (file : List ℕ) (cs : Channels) (t filled size count : ℕ)
               one ch fs (put k m' d ys) ys x.rest x.many x.stands x.is p (λ r h. rw (e, z, is) at (writes clear ch r here (rw (e, z) is) (rw e h)));
         }
       where
-        one : (ch : List Channel) (fs : List Frame) (d' ys : List ℕ) (rest : List Frame) → i + length rest ≡ count → FramesIn w.from t ch filled size s from rest →
+        one : (ch : List Channel) (fs : List Frame) (d' ys : List ℕ) (rest : List Frame) → i + length rest ≡ count →
+            FramesIn w.from t ch filled size s from rest →
             take k d ++ render w.to (frame_events t ch (i + 1) rest) ≡ render w.to (opened t ch fs) → take (k + filled) d' ≡ take k d ++ ys →
-            ((f : Frame) → FrameIn w.from t ch (take filled (drop from s)) f → ys ≡ render w.to (record_of (plain_head (frame_size t ch) 145 (i + 1)) (frame_written ch f))) → Rest ch fs d' (from + size) (k + filled) (i + 1)
+            ((f : Frame) → FrameIn w.from t ch (take filled (drop from s)) f →
+            ys ≡ render w.to (record_of (plain_head (frame_size t ch) 145 (i + 1)) (frame_written ch f))) → Rest ch fs d' (from + size) (k + filled) (i + 1)
         one ch fs d' ys [] c h x p v = absurd (omega arith)
         one ch fs d' ys (r ∷ rs) c h x p v =
             record { rest = rs; many = omega arith; stands = h.1; is = rw (p, append_assoc, v r h.0, ← events-more w.to t ch (i + 1) r rs) x }
 
-    all_there : (ch : List Channel) (all : List ℕ) (rest : List Frame) → i + length rest ≡ count → count ≤ i → take k d ++ render w.to (frame_events t ch (i + 1) rest) ≡ all → (i ≡ count) × (take k d ≡ all)
+    all_there : (ch : List Channel) (all : List ℕ) (rest : List Frame) → i + length rest ≡ count → count ≤ i →
+        take k d ++ render w.to (frame_events t ch (i + 1) rest) ≡ all → (i ≡ count) × (take k d ≡ all)
     unfolding frame_events render
     all_there ch all [] c g x = (omega arith, sym (append-nil (take k d)) ∙ x)
     all_there ch all (r ∷ rs) c g x = absurd (omega arith)
 
-    pub framing-end : (d₀ zs : List ℕ) → count ≤ i → length (put k (length d - k) d zs) ≡ length d → zs ≡ replicate (length (take (length d - k) (drop k d))) 0 →
+    pub framing-end : (d₀ zs : List ℕ) → count ≤ i → length (put k (length d - k) d zs) ≡ length d →
+        zs ≡ replicate (length (take (length d - k) (drop k d))) 0 →
         length d₀ ≡ n → FramesAnew w file s d₀ (put k (length d - k) d zs) cs t filled size count
     unfolding frames_written
     framing-end d₀ zs g l h long clear b c ch hd f e here is says whole went z =
@@ -295,6 +341,7 @@ module _ (w : Way) (file : List ℕ) (cs : Channels) (t filled size count : ℕ)
         let x = q.left ch f.frames clear here is y.0 y.1 in
         let u = all_there ch (render w.to (opened t ch f.frames)) x.rest x.many g x.is in
         let v : length f.frames * frame_size t ch ≡ filled * i = rw (y.0, ← is, u.0) (mul_comm count filled) in
-        let j : length (take (length d - k) (drop k d)) ≡ span (frames_head t ch f.frames) - frames_bytes t ch f.frames = length-take-le (length d - k) (drop k d) (rw length-drop (omega arith)) ∙ omega (arith, v, z, long, q.place, q.long) in
+        let j : length (take (length d - k) (drop k d)) ≡ span (frames_head t ch f.frames) - frames_bytes t ch f.frames =
+        length-take-le (length d - k) (drop k d) (rw length-drop (omega arith)) ∙ omega (arith, v, z, long, q.place, q.long) in
         front-all d zs (render w.to (opened t ch f.frames)) k (length d - k) (omega (arith, q.target, q.long)) l u.1
         ∙ (rw (h, j) (sym (padded-events w.to (opened t ch f.frames) (span (frames_head t ch f.frames) - frames_bytes t ch f.frames))))

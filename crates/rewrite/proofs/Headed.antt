@@ -18,7 +18,8 @@ use Rattle.rules.proofs.Canon.{one-digit, two_digits}
 use Rattle.rules.proofs.Named.{spells, versions, forms}
 
 -- a text comes next
-begun-text : {m : ℕ} {all : List ℕ} (o : Order) (d : List ℕ) (n k : ℕ) (xs ys rest : List ℕ) → ys ≡ xs → length xs ≡ k → n + k ≤ m → Begun m all d n (laid o Text xs ++ rest) → Begun m all (put n k d ys) (n + k) rest
+begun-text : {m : ℕ} {all : List ℕ} (o : Order) (d : List ℕ) (n k : ℕ) (xs ys rest : List ℕ) → ys ≡ xs → length xs ≡ k → n + k ≤ m →
+    Begun m all d n (laid o Text xs ++ rest) → Begun m all (put n k d ys) (n + k) rest
 begun-text o d n k xs ys rest e h f b = begun_more d n k (laid o Text xs) ys rest (e ∙ sym (laid-text o xs)) (length-laid o Text xs ∙ h) f b
 
 -- the digits of a number
@@ -31,7 +32,8 @@ length_digits k = go (ltb k 10) refl
     go false e = ap length (two_digits k (ltb-false k 10 e))
 
 pub header-written : (o : Order) (g : R.Heading) (count letter : ℕ) (d y₁ y₂ y₃ y₄ y₅ : List ℕ) → length d ≡ 32 →
-    y₁ ≡ R.spelled g.spelling → y₂ ≡ R.versioned g.label.version → y₃ ≡ R.formed g.label.form → laid o Letter (76 ∷ []) ≡ letter ∷ [] → y₄ ≡ C.digits count → y₅ ≡ replicate 10 32 →
+    y₁ ≡ R.spelled g.spelling → y₂ ≡ R.versioned g.label.version → y₃ ≡ R.formed g.label.form → laid o Letter (76 ∷ []) ≡ letter ∷ [] → y₄ ≡ C.digits count →
+    y₅ ≡ replicate 10 32 →
     let d₆ = put 18 4 (set (set (put 14 2 (put 8 6 (put 0 8 d y₁) y₂) y₃) 16 letter) 17 g.script) y₄ in
     put 22 (length d₆ - 22) d₆ y₅ ≡ render o (C.header_events g count)
 unfolding render C.header_events

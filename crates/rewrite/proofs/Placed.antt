@@ -1,4 +1,5 @@
--- A recording that is written anew: its canonical form is its head and what stands behind it, as long as its measure says, and it stands where the code wrote the two.
+-- A recording that is written anew: its canonical form is its head and what stands behind it, as long as its measure says, and it stands where the code wrote
+-- the two.
 -- Assumes nothing.
 use Rattle.std.proofs.Common.{Some}
 use mathlib.Core.Path.{◌≡◌, sym, ap, ◌∙◌}
@@ -36,7 +37,8 @@ unfolding size
 head-length o h = length-render o (C.numerals h)
 
 -- a record that the code wrote in two, one behind the other: its head, and what stands behind it
-pub record-placed : (o : Order) (h : R.Head) (t : List Event) (out ys zs : List ℕ) (k n m long : ℕ) → n ≡ 16 → 16 + m ≡ long → k ≤ length out → length (render o t) ≡ m → ys ≡ render o (C.numerals h) → zs ≡ render o t →
+pub record-placed : (o : Order) (h : R.Head) (t : List Event) (out ys zs : List ℕ) (k n m long : ℕ) → n ≡ 16 → 16 + m ≡ long → k ≤ length out →
+    length (render o t) ≡ m → ys ≡ render o (C.numerals h) → zs ≡ render o t →
     Pastes out (put (k + 16) m (put k n out ys) zs) k (k + long) (render o (C.numerals h) ++ render o t)
 record-placed o h t out ys zs k n m long f g l u p q =
     let first : length ys ≡ 16 = ap length p ∙ head-length o h in
@@ -51,13 +53,20 @@ record-placed o h t out ys zs k n m long f g l u p q =
 
 -- what stands behind it fills the record
 behind-length : (o : Order) (label : Label) (r : R.Recording) → 16 + length (render o (behind_head label r)) ≡ R.span (C.recording_head label 0 r)
-behind-length o label r = omega (arith, length-render o (behind_head label r), recording-size label 0 r, record-size (C.recording_head label 0 r) (behind_head label r))
+behind-length o label r = omega (
+  arith,
+  length-render o (behind_head label r),
+  recording-size label 0 r,
+  record-size (C.recording_head label 0 r)
+      (behind_head label r),
+)
 
 module _ (o : Order) (label : Label) (i : ℕ) (r : R.Recording) where
   -- the two are the canonical form
   in_two : render o (C.recording_events label i (r ∷ [])) ≡ render o (C.numerals (C.recording_head label i r)) ++ render o (behind_head label r)
   unfolding C.recording_events
-  in_two = ap (render o) (append-nil (C.record_of (C.recording_head label i r) (behind_head label r))) ∙ render-record o (C.recording_head label i r) (behind_head label r)
+  in_two = ap (render o) (append-nil (C.record_of (C.recording_head label i r) (behind_head label r))) ∙ render-record o (C.recording_head label i r)
+      (behind_head label r)
 
   module _ (w : Sized) (e : w ≡ sized_for (16 + size (C.content label r))) where
     -- it is as long as the size says
@@ -72,7 +81,8 @@ module _ (o : Order) (label : Label) (i : ℕ) (r : R.Recording) where
         ys ≡ render o (C.numerals (record { size = w.size; code = 10; serial = i; multiplier = w.multiplier })) → zs ≡ render o (behind_head label r) →
         Pastes out (put (k + 16) m (put k n out ys) zs) k (k + w.length) (render o (C.recording_events label i (r ∷ [])))
     recording-placed out ys zs k n m f g l p q =
-        rw in_two (record-placed o _ _ out ys zs k n m w.length f g l (omega (arith, behind-length o label r, ap (λ (x : Sized). x.length) e)) (p ∙ ap (λ (x : Sized). render o (C.numerals (record { size = x.size; code = 10; serial = i; multiplier = x.multiplier }))) e) q)
+        rw in_two (record-placed o _ _ out ys zs k n m w.length f g l (omega (arith, behind-length o label r, ap (λ (x : Sized). x.length) e))
+        (p ∙ ap (λ (x : Sized). render o (C.numerals (record { size = x.size; code = 10; serial = i; multiplier = x.multiplier }))) e) q)
 
 -- the recording from byte p of the file on, of the measure f: the code wrote its head, and its body as a part of the file
 module _ (w : Way) (file : List ℕ) (p i : ℕ) (q : Places) (f : Measure) where
@@ -84,4 +94,16 @@ module _ (w : Way) (file : List ℕ) (p i : ℕ) (q : Places) (f : Measure) wher
   recording-written out ys zs k n m e₁ e₂ l t first later clear held x y =
       let v = within w.from w.label file p q.end held i y.went in
       let s = t.told held i x y in
-      recording-placed w.to w.label i x.recording f.whole s.whole out ys zs k n m e₁ e₂ l first (later x (record { clear = clear; head = v.top; held = held; end = q.end; fills = v.fills; went = v.body; channels = y.channels; reads = t.reads; is = s }))
+      recording-placed w.to w.label i x.recording f.whole s.whole out ys zs k n m e₁ e₂ l first
+      (later x (record {
+        clear = clear;
+        head = v.top;
+        held = held;
+        end = q.end;
+        fills = v.fills;
+        went = v.body;
+        channels = y.channels;
+        reads =
+            t.reads;
+        is = s;
+      }))

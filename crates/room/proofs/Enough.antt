@@ -47,7 +47,8 @@ module _ (s : List ℕ) (room : ℕ) (enough : (to : Order) → length (rewritte
   answer-enough (passed v r t) e a n p l h = asked-enough a t n p l h
 
   -- a rewrite with this room is not refused by 17
-  pub rewrite-enough : (order : ℕ) (out out' : List ℕ) (a : Result ℕ Refusal) → room ≤ length out → Rewrites s order out out' a → (r : Refusal) → a ≡ Err r → number_of r.0 ≡ 17 → ⊥
+  pub rewrite-enough : (order : ℕ) (out out' : List ℕ) (a : Result ℕ Refusal) → room ≤ length out → Rewrites s order out out' a → (r : Refusal) → a ≡ Err r →
+      number_of r.0 ≡ 17 → ⊥
   rewrite-enough order out out' a l x r i e = answer-enough (judge s) refl (lettered order) (length out) r.1 l (rw e at (sym (ap meaning i) ∙ x.answer))
 
 -- an accepted file: what `room` answers of it, which is enough

@@ -24,7 +24,8 @@ use Rattle.room.specs.Room.{canonical_length, Each, ShortAnew}
 
 -- the canonical length of a recording of which this holds is at most d more than its length was
 abbrev pub Longer : ℕ → (Label → Recording → Type 0) → Type 0
-Longer d P = (label : Label) (held : Option Held) (room i : ℕ) (t : List Event) (x : Placed) → Plays t (recording label held room i) x → P label x.recording → canonical_length label x.recording ≤ x.layout.bytes + d
+Longer d P = (label : Label) (held : Option Held) (room i : ℕ) (t : List Event) (x : Placed) → Plays t (recording label held room i) x → P label x.recording →
+    canonical_length label x.recording ≤ x.layout.bytes + d
 
 -- where a multiplier of k serves a recording, it serves its 140 too, and each has less than k bytes of padding
 served : (k : ℕ) → 1 ≤ k → Longer (2 * (k - 1)) (λ label r. 16 + size (content label r) ≤ k * most)
@@ -45,7 +46,8 @@ recording-longer label held room i t x p _ =
 
 -- 1 serves one that needs no multiplier
 pub recording-no-longer : Longer 0 (λ label r. canonical_length label r ≤ most)
-recording-no-longer label held room i t x p short = served 1 (omega arith) label held room i t x p (omega (arith, short, (sized (16 + size (content label x.recording))).serves))
+recording-no-longer label held room i t x p short = served 1 (omega arith) label held room i t x p
+    (omega (arith, short, (sized (16 + size (content label x.recording))).serves))
 
 each_all : (ps : List Placed) → Each (λ _. Unit {0}) ps
 each_all [] = tt
@@ -57,7 +59,8 @@ header-room n p = by-check p λ h _. leb-true 32 n h
 
 -- the recordings of a file, and the file
 module _ (d : ℕ) (P : Label → Recording → Type 0) (longer : Longer d P) where
-  recordings-longer : (label : Label) (n : ℕ) (held : Option Held) (room i j : ℕ) {t : List Event} {ps : List Placed} → Plays t (recordings label n held room i) ps → Each (P label) ps →
+  recordings-longer : (label : Label) (n : ℕ) (held : Option Held) (room i j : ℕ) {t : List Event} {ps : List Placed} →
+      Plays t (recordings label n held room i) ps → Each (P label) ps →
       size (recording_events label j (readings ps)) ≤ room + d * length ps
   unfolding recordings recording_events size
   recordings-longer label zero held room i j p = rw (plays-gave p) (λ _. omega arith)
@@ -70,14 +73,16 @@ module _ (d : ℕ) (P : Label → Recording → Type 0) (longer : Longer d P) wh
       let m = recordings-longer label n _ _ (suc i) (suc j) q₀ k.1 in
       rw (size-append, recording-size) (omega (arith, w.inside, l, m)))
 
-  file-longer : (n : ℕ) {t : List Event} {v : File} → Plays t (file n) v → Each (P v.heading.label) v.recordings → 32 + size (recording_events v.heading.label 1 (contents v).recordings) ≤ n + d * length v.recordings
+  file-longer : (n : ℕ) {t : List Event} {v : File} → Plays t (file n) v → Each (P v.heading.label) v.recordings →
+      32 + size (recording_events v.heading.label 1 (contents v).recordings) ≤ n + d * length v.recordings
   unfolding file
   file-longer n p =
       by-split (file_header n) _ p λ f _ _ f₀ p.
       by-split (recordings f.heading.label f.count none (n - 32) 1) _ p λ ps _ _ r₀ p.
       rw (plays-gave p) (λ k. omega (arith, header-room n f₀, recordings-longer f.heading.label f.count none (n - 32) 1 1 r₀ k))
 
-  anew-longer : (n : ℕ) {t : List Event} {v : File} → Plays t (file n) v → Each (P v.heading.label) v.recordings → size (anew (contents v)) ≤ n + d * length v.recordings
+  anew-longer : (n : ℕ) {t : List Event} {v : File} → Plays t (file n) v → Each (P v.heading.label) v.recordings →
+      size (anew (contents v)) ≤ n + d * length v.recordings
   unfolding anew
   anew-longer n {v} p k =
       let c = file-ok n p in
@@ -85,7 +90,8 @@ module _ (d : ℕ) (P : Label → Recording → Type 0) (longer : Longer d P) wh
       let f = header-size v.heading (length (contents v).recordings) c.header in
       omega (arith, e, f, file-longer n p k)
 
-  rewritten-longer : (s : List ℕ) → Bytes s → {v : File} {r : List ℕ} {t : List Event} → judge s ≡ passed v r t → Each (P v.heading.label) v.recordings → (o : Order) → length (rewritten o s) ≤ length s + d * length v.recordings
+  rewritten-longer : (s : List ℕ) → Bytes s → {v : File} {r : List ℕ} {t : List Event} → judge s ≡ passed v r t → Each (P v.heading.label) v.recordings →
+      (o : Order) → length (rewritten o s) ≤ length s + d * length v.recordings
   rewritten-longer s b h k o = rw (rewrite-length s b h o, reading-words s b h) (anew-longer (length s) (accepted s b h).plays k)
 
 module _ (s : List ℕ) (b : Bytes s) {v : File} {r : List ℕ} {t : List Event} (h : judge s ≡ passed v r t) (o : Order) where

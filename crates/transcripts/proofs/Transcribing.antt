@@ -1,5 +1,6 @@
 -- What is written of the records of a recording, one after the other, from what each of the code's steps wrote.
 -- Assumes nothing.
+use mathlib.Core.Logic.{◌⊎◌, inl, inr}
 use mathlib.Core.Path.{◌≡◌, refl, sym, ap, ◌∙◌}
 use mathlib.Core.Bool.{Bool, true, false}
 use mathlib.Core.List.{List, [], ◌∷◌, ◌++◌, append_assoc, append-nil}
@@ -17,7 +18,8 @@ use Rattle.walk.proofs.Apart.{false-true}
 use Rattle.walk.proofs.Laid.{laid-padding}
 use Rattle.walk.proofs.Seen.{and_left, stays-goes, see-body, body-length}
 use Rattle.walk.proofs.Tracing.{written-append, written_none, written_row, written-piece}
-use Rattle.rules.specs.Rules.{most_of, Head, Group, Channel, head, admit, span, zeros, padding, number_list, basic_body, channels, channels_body, items, items_body, patient_code, event_code, frames, maker_code, delimiter}
+use Rattle.rules.specs.Rules.{most_of, Head, Group, Channel, head, admit, span, zeros, padding, number_list}
+use Rattle.rules.specs.Rules.{basic_body, channels, channels_body, items, items_body, patient_code, event_code, frames, maker_code, delimiter}
 use Rattle.rules.specs.declared.Head as At
 use Rattle.rules.proofs.Room.{stays-basic_body, stays-channels_body, stays-items_body}
 use Rattle.records.specs.Says.{head_of, is_group, shape_of, HasShape}
@@ -43,11 +45,13 @@ module _ (w : Way) (b : ℕ) (s : List ℕ) (p room : ℕ) (fit : p + 16 ≤ len
   head-length : length (copy w b s (b + p) (head room)) ≡ 16
   head-length = length-within w b s 16 (head room) (takes-head room) (b + p) (omega arith) (omega arith)
 
-  pub head-written : (ys : List ℕ) → ys ≡ copy w (b + p) (take (p + 16 - p) (drop p s)) (b + p) (number_list 4 4) → Pastes out (take k out ++ (ys ++ drop (k + 16 - k) (drop k out))) k (k + 16) (copy w b s (b + p) (head room))
+  pub head-written : (ys : List ℕ) → ys ≡ copy w (b + p) (take (p + 16 - p) (drop p s)) (b + p) (number_list 4 4) →
+      Pastes out (take k out ++ (ys ++ drop (k + 16 - k) (drop k out))) k (k + 16) (copy w b s (b + p) (head room))
   unfolding head number_list trace ◌>>=◌ ◌>>◌
   head-written ys same =
       let n : p + 16 - p ≡ 16 = omega arith in
-      pastes-whole out ys _ k (k + 16) (same ∙ (ap (λ (m : ℕ). copy w (b + p) (take m (drop p s)) (b + p) (number_list 4 4)) n ∙ copy_within w b s 16 (head room) (takes-head room) p)) (ap (λ (n : ℕ). k + n) (sym head-length))
+      pastes-whole out ys _ k (k + 16) (same ∙ (ap (λ (m : ℕ). copy w (b + p) (take m (drop p s)) (b + p) (number_list 4 4)) n ∙ copy_within w b s 16
+      (head room) (takes-head room) p)) (ap (λ (n : ℕ). k + n) (sym head-length))
 
   pub head-full : length out - k < 16 → Pastes out out k k (copy w b s (b + p) (head room))
   head-full full = pastes-full out out k k _ (rw head-length full)
@@ -66,7 +70,8 @@ module _ (w : Way) (b : ℕ) (s : List ℕ) (p q : ℕ) (h : Head) (stop : q ≡
   body = take (q - (p + 16)) (drop (p + 16) s)
 
   -- a head that is admitted, and the walk v
-  pub behind : {A : Type 0} (most : ℕ) (fits serial : ℕ → Bool) (v : Walk A) → (fits (span h) ≡ true → (at : ℕ) → Stays (at + (span h - 16)) at v (λ _ e. e ≡ at + (span h - 16))) →
+  pub behind : {A : Type 0} (most : ℕ) (fits serial : ℕ → Bool) (v : Walk A) →
+      (fits (span h) ≡ true → (at : ℕ) → Stays (at + (span h - 16)) at v (λ _ e. e ≡ at + (span h - 16))) →
       {l : Said} (r : Reads w.from b s p (admit (length s - p) most fits serial h >> v) l) → Behind w b s p q v l r.value r.end
   unfolding said
   behind most fits serial v stays {l} r =
@@ -81,7 +86,8 @@ module _ (w : Way) (b : ℕ) (s : List ℕ) (p q : ℕ) (h : Head) (stop : q ≡
       let c : copy w from body from v ≡ copy w b s at v = copy_body w b p q s v _ least inside t d.rest in
       record {
         reads = see-body w.from b p q s v _ least inside t ∙ d.rest;
-        is = ap (anew w) r.says ∙ (anew-then w _ _ ∙ ap (λ (l : List ℕ). copy w b s (b + p) (head (length s - p)) ++ l) (copy-admit w b s at (length s - p) most fits serial h v ∙ sym c));
+        is = ap (anew w) r.says ∙ (anew-then w _ _ ∙ ap (λ (l : List ℕ). copy w b s (b + p) (head (length s - p)) ++ l)
+            (copy-admit w b s at (length s - p) most fits serial h v ∙ sym c));
         long = ap length c ∙ (ap (λ (x : ℕ). length (copy w b s x v)) i ∙ omega (arith, n, u));
       }
 
@@ -92,13 +98,15 @@ module _ (w : Way) (b : ℕ) (s : List ℕ) (p q : ℕ) (h : Head) (stop : q ≡
     pub long : length bytes ≡ q - (p + 16)
     pub body : (d : List ℕ) → Bodied w h.code body d → d ≡ bytes
 
-  told : {A : Type 0} {v : Walk A} {l : Said} {a : A} {e : ℕ} → Behind w b s p q v l a e → ((d : List ℕ) → Bodied w h.code body d → d ≡ copy w from body from v) → Told l
+  told : {A : Type 0} {v : Walk A} {l : Said} {a : A} {e : ℕ} → Behind w b s p q v l a e →
+      ((d : List ℕ) → Bodied w h.code body d → d ≡ copy w from body from v) → Told l
   told z f = record { bytes = _; is = z.is; long = z.long; body = f }
 
   body-span : 16 + length body ≡ span h
   body-span = body-length p q s least inside ∙ omega arith
 
-  items-told : (ok : ℕ → Bool) {l : Said} → ((d : List ℕ) → Bodied w h.code body d → Itemized w body d) → Reads w.from b s p (items ok (length s - p) h) l → Told l
+  items-told : (ok : ℕ → Bool) {l : Said} → ((d : List ℕ) → Bodied w h.code body d → Itemized w body d) → Reads w.from b s p (items ok (length s - p) h) l →
+      Told l
   unfolding items
   items-told ok f r =
       let n = leb-true 24 (span h) (admit-went w.from b s (b + (p + 16)) (length s - p) 0 (leb 24) (eqb 0) h (items_body ok (span h)) r.is).length in
@@ -138,7 +146,8 @@ group-low code h = go (eqb code 120) (eqb code 320) (eqb code 350) refl refl ref
     go false false false e f g = false-true (rw (is_group, e, f, g) at h)
 
 -- one that is a 140
-pub inner-140 : {o : Order} {b : ℕ} {s : List ℕ} {p : ℕ} {k : Known} {h : Head} {l : Said} → Inner o b s p k h l → h.code ≡ 140 → Reads o b s p (frames k.label k.basic k.own k.channels k.back (length s - p) h) l
+pub inner-140 : {o : Order} {b : ℕ} {s : List ℕ} {p : ℕ} {k : Known} {h : Head} {l : Said} → Inner o b s p k h l → h.code ≡ 140 →
+    Reads o b s p (frames k.label k.basic k.own k.channels k.back (length s - p) h) l
 unfolding is_group
 inner-140 (is100 c r) e = absurd (omega arith)
 inner-140 (is_subs g t c r) e = false-true (sym (ap is_group (sym c ∙ e)) ∙ t.group)
@@ -151,7 +160,14 @@ inner-140 {h} (is_maker c r) e = absurd (omega (arith, maker-high h.code c))
 module _ (w : Way) (code : ℕ) (s d : List ℕ) where
   pub bodied-100 : code ≡ 100 → (length s ≡ 112 → Anew w s d basic_body) → Bodied w code s d
   unfolding is_group
-  bodied-100 q y = record { basic = λ _. y; channels = λ z. false-true (sym (ap is_group q) ∙ z); patient = λ z. absurd (omega arith); events = λ z. absurd (omega arith); maker = λ z. absurd (omega (arith, maker-high code z)) }
+  bodied-100 q y = record {
+    basic = λ _. y;
+    channels = λ z. false-true (sym (ap is_group q) ∙ z);
+    patient = λ z. absurd (omega arith);
+    events = λ z.
+        absurd (omega arith);
+    maker = λ z. absurd (omega (arith, maker-high code z));
+  }
 
   pub bodied-subs : is_group code ≡ true → ((g : Group) → HasShape g.sub (shape_of code) → Anew w s d (channels_body g (16 + length s))) → Bodied w code s d
   unfolding is_group
@@ -163,11 +179,23 @@ module _ (w : Way) (code : ℕ) (s d : List ℕ) where
     maker = λ z. absurd (omega (arith, maker-high code z, group-low code q));
   }
 
-  pub bodied-items : (code ≡ 100 → ⊥) → is_group code ≡ false → code < 1024 → Itemized w s d → Bodied w code s d
-  bodied-items n₁ n₂ l y = record { basic = λ z. absurd (n₁ z); channels = λ z. false-true (sym n₂ ∙ z); patient = λ _. y; events = λ _. y; maker = λ z. absurd (omega (arith, maker-high code z)) }
+  pub bodied-items : code ≡ 130 ⊎ code ≡ 200 → Itemized w s d → Bodied w code s d
+  unfolding is_group
+  bodied-items q y = record {
+    basic = λ z. absurd (omega (arith, q));
+    channels = λ z. false-true (sym (ungrouped q) ∙ z);
+    patient = λ _. y;
+    events = λ _. y;
+    maker = λ z. absurd (omega (arith, q, maker-high code z));
+  }
+    where
+      ungrouped : code ≡ 130 ⊎ code ≡ 200 → is_group code ≡ false
+      ungrouped (inl e) = ap is_group e
+      ungrouped (inr e) = ap is_group e
 
 -- a 120, 320 or 350 has the length that its count of subs asks for
-pub channels-counted : (o : Order) (b : ℕ) (s : List ℕ) (c : Group) (n : ℕ) {l : List Channel} {e : ℕ} → see o b s b (channels_body c n) ≡ goes l e → n ≡ 32 + 256 * number_at o 4 s 0
+pub channels-counted : (o : Order) (b : ℕ) (s : List ℕ) (c : Group) (n : ℕ) {l : List Channel} {e : ℕ} → see o b s b (channels_body c n) ≡ goes l e →
+    n ≡ 32 + 256 * number_at o 4 s 0
 channels-counted o b s c n g =
     let i : b + 0 ≡ b = omega arith in
     (channels_body-lists o b s 0 c n (ap (λ (at : ℕ). see o b s at (channels_body c n)) i ∙ g)).0
@@ -191,7 +219,8 @@ module _ (w : Way) (s : List ℕ) (h : At.Head) (q : ℕ) (least : h.at + 16 ≤
         inside = omega arith;
         wrote = λ b known l stop other i.
             let z = inner-told w b s h.at q (head_of h) stop least inside i other in
-            rw z.is (pastes-join out out₁ _ k k₁ _ _ _ (headed b (length s - h.at)) (pastes-whole out₁ ys z.bytes k₁ _ (z.body ys y) (ap (λ (n : ℕ). k₁ + n) (sym z.long))));
+            rw z.is (pastes-join out out₁ _ k k₁ _ _ _ (headed b (length s - h.at))
+            (pastes-whole out₁ ys z.bytes k₁ _ (z.body ys y) (ap (λ (n : ℕ). k₁ + n) (sym z.long))));
       }
 
 -- of all bytes, those of the records up to byte p are written; the links C are those from there on, and each comes to some bytes
@@ -206,8 +235,10 @@ pub copying-none : {X : Type 0} {bytes : X → List ℕ} {C : ℕ → X → Type
 copying-none {out} {k} x c = record { done = []; left = x; links = c; is = refl; wrote = pastes-nothing out k }
 
 -- one record more, with the head h and up to q
-module _ {o : Order} {b : ℕ} {s : List ℕ} {X : Type 0} {bytes : X → List ℕ} {join : X → X → X} {I : ℕ → Head → X → Type 0} {E : ℕ → X → Type 0} {out out₁ : List ℕ} {k k₁ p : ℕ} {all : List ℕ} where
-  pub copying-more : (g : Copying bytes (Links o b s join I E) out out₁ k k₁ p all) → ((x y : X) → bytes (join x y) ≡ bytes x ++ bytes y) → {h : Head} {q : ℕ} (d : Parted o b s join I E p h q g.left) →
+module _ {o : Order} {b : ℕ} {s : List ℕ} {X : Type 0} {bytes : X → List ℕ} {join : X → X → X} {I : ℕ → Head → X → Type 0} {E : ℕ → X → Type 0}
+    {out out₁ : List ℕ} {k k₁ p : ℕ} {all : List ℕ} where
+  pub copying-more : (g : Copying bytes (Links o b s join I E) out out₁ k k₁ p all) → ((x y : X) → bytes (join x y) ≡ bytes x ++ bytes y) →
+      {h : Head} {q : ℕ} (d : Parted o b s join I E p h q g.left) →
       (out₂ : List ℕ) (k₂ : ℕ) → Pastes out₁ out₂ k₁ k₂ (bytes d.own) → Copying bytes (Links o b s join I E) out out₂ k k₂ q all
   copying-more g joined d out₂ k₂ wrote =
       record {
@@ -236,7 +267,8 @@ module _ (w : Way) (b : ℕ) (s : List ℕ) where
       let bs : List ℕ = laid w.from Padding (bytes_at n s (at - b)) in
       rw (trace-zeros w.from b s (at + n) bs, written-piece w.keep w.to Padding bs [], written_none, append-nil, laid-padding w.to, laid-padding w.from)
 
-  pub closed-bytes : (p : ℕ) {l : Said} → p ≤ length s → Closed w.from b s p l → anew w l ≡ copy w b s (b + p) (head (length s - p)) ++ take (length s - (p + 16)) (drop (p + 16) s)
+  pub closed-bytes : (p : ℕ) {l : Said} → p ≤ length s → Closed w.from b s p l →
+      anew w l ≡ copy w b s (b + p) (head (length s - p)) ++ take (length s - (p + 16)) (drop (p + 16) s)
   unfolding said bytes_at
   closed-bytes p {l} fit c =
       let hs : List ℕ = copy w b s (b + p) (head (length s - p)) in

@@ -53,4 +53,5 @@ Copied w l out out' k k' = Pastes out out' k k' (anew w l)
 -- the record with the code's head h, which ends at byte q, if it stands in a recording and is no 140
 pub record Transcribed (w : Way) (s : List ℕ) (h : Head) (q : ℕ) (out out' : List ℕ) (k k' : ℕ) : Type 0 where
   pub inside : k' ≤ length out
-  pub wrote : (b : ℕ) (known : Known) (l : Said) → q ≡ h.at + span (head_of h) → (h.code ≡ 140 → ⊥) → Inner w.from b s h.at known (head_of h) l → Copied w l out out' k k'
+  pub wrote : (b : ℕ) (known : Known) (l : Said) → q ≡ h.at + span (head_of h) → (h.code ≡ 140 → ⊥) → Inner w.from b s h.at known (head_of h) l →
+      Copied w l out out' k k'

@@ -90,23 +90,12 @@ fn body(w: Way, code: u32, s: &[u8], d: &mut [u8])
     requires { length d.old ≡ length s.now }
     ensures { Bodied w code s.now d.new }
 {
-    if code == Basic::CODE {
-        sized_basic(w, s, d);
-        return;
+    match code {
+        Basic::CODE => sized_basic(w, s, d),
+        Patient::CODE | Events::CODE => sized_items(w, s, d),
+        _ if is_group(code) => sized_channels(w, shape_of(code), s, d),
+        _ => copy_run(s, d),
     }
-    if is_group(code) {
-        sized_channels(w, shape_of(code), s, d);
-        return;
-    }
-    if code == Patient::CODE {
-        sized_items(w, s, d);
-        return;
-    }
-    if code == Events::CODE {
-        sized_items(w, s, d);
-        return;
-    }
-    copy_run(s, d);
 }
 
 // A record of a recording, but no 140, with the head h and up to byte `end` of the part s: where the next bytes go.

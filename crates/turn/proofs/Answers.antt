@@ -51,8 +51,12 @@ module _ (s : List ℕ) (h : FileHeader) (x : AcceptedAs s h) where
         let o : Order = h.order in
         let t : List Event = trace o 0 s 0 (file_header (length s)) in
         let e : x.events ≡ t ++ trace o 0 s 32 (walked s h x) =
-        rw x.order (judge-trace s x.judged) ∙ (trace-bind o 0 s 0 (file_header (length s)) (behind_header (length s)) (opens s h x) ∙ ap (λ (u : List Event). t ++ u) (trace-give {B = R.File} o 0 s 32 (walked s h x) (λ l. record { heading = (headed s h x).heading; recordings = l }))) in
+        rw x.order (judge-trace s x.judged) ∙ (trace-bind o 0 s 0 (file_header (length s)) (behind_header (length s)) (opens s h x) ∙ ap
+        (λ (u : List Event). t ++ u) (trace-give {B = R.File} o 0 s 32 (walked s h x) (λ l. record { heading = (headed s h x).heading; recordings = l })))
+        in
         sym (turned-of s x.judged ∙ rw (← x.order, e) (render-append (other o) t (trace o 0 s 32 (walked s h x))))
 
-    pub turns-room : (n : ℕ) (out' : List ℕ) → meaning (Ok n) ≡ permitted m (length s) (length out) → out' ≡ pasted out 0 (copy (turning h.order h.heading.label) 0 s 0 (file_header (length s)) ++ copy (turning h.order h.heading.label) 0 s 32 (walked s h x)) → Turns s out out' (Ok n)
+    pub turns-room : (n : ℕ) (out' : List ℕ) → meaning (Ok n) ≡ permitted m (length s) (length out) →
+        out' ≡ pasted out 0 (copy (turning h.order h.heading.label) 0 s 0 (file_header (length s)) ++ copy (turning h.order h.heading.label) 0 s 32
+        (walked s h x)) → Turns s out out' (Ok n)
     turns-room n out' e w = wrote (answer_of s (length out)) (T.turned s) out out' (Ok n) (answers e) refl (w ∙ ap (pasted out 0) sent)

@@ -22,7 +22,8 @@ use Rattle.walk.proofs.Seen.{went, when-then, stays-weaken, stays-goes, stays-re
 use Rattle.walk.proofs.Tracing.{trace-bind, trace-give, written-append, written_none, written_row}
 use Rattle.walk.proofs.Went.{gate-went, went-first, goes_same}
 use Rattle.rules.specs.declared.Label.{Label}
-use Rattle.rules.specs.Rules.{most_of, Head, head, coded, admit, span, padding, series, Basic, Channel, sample_bytes, number_list, samples, Frame, frame, frame_body, Frames, frames, frames_body, pad_ok}
+use Rattle.rules.specs.Rules.{most_of, Head, head, coded, admit, span, padding, series, Basic, Channel}
+use Rattle.rules.specs.Rules.{sample_bytes, number_list, samples, Frame, frame, frame_body, Frames, frames, frames_body, pad_ok}
 use Rattle.rules.specs.declared.Channels.{Channels}
 use Rattle.rules.proofs.Room.{stays-series, stays-frame, stays-frame_body, stays-frames_body}
 use Rattle.records.specs.Says.{ChannelsStand}
@@ -43,16 +44,19 @@ pub filled-first : (d₀ ys : List ℕ) (m : ℕ) → length ys ≡ m → ys ++ 
 unfolding pasted
 filled-first d₀ ys m h = rw (zero-add, h)
 
-pub filled_more : (d₀ d xs ys : List ℕ) (at m : ℕ) → d ≡ pasted d₀ 0 xs → at ≡ length xs → length ys ≡ m → take at d ++ (ys ++ drop m (drop at d)) ≡ pasted d₀ 0 (xs ++ ys)
+pub filled_more : (d₀ d xs ys : List ℕ) (at m : ℕ) → d ≡ pasted d₀ 0 xs → at ≡ length xs → length ys ≡ m →
+    take at d ++ (ys ++ drop m (drop at d)) ≡ pasted d₀ 0 (xs ++ ys)
 filled_more d₀ d xs ys at m e h l = part-pasted d ys at m l ∙ more-written d₀ d xs ys at e h
 
 -- and the last part
-pub filled-last : (d₀ d xs ys : List ℕ) (at : ℕ) → d ≡ pasted d₀ 0 xs → at ≡ length xs → at + length ys ≡ length d₀ → take at d ++ (ys ++ drop (length d - at) (drop at d)) ≡ xs ++ ys
+pub filled-last : (d₀ d xs ys : List ℕ) (at : ℕ) → d ≡ pasted d₀ 0 xs → at ≡ length xs → at + length ys ≡ length d₀ →
+    take at d ++ (ys ++ drop (length d - at) (drop at d)) ≡ xs ++ ys
 filled-last d₀ d xs ys at e h l =
     let m : length d ≡ length d₀ = ap length e ∙ length-pasted d₀ 0 xs (omega arith) in
     all-written d₀ _ (xs ++ ys) (filled_more d₀ d xs ys at (length d - at) e h (omega arith)) (omega (arith, length-append xs ys))
 
-written-four : (keep : Bool) (o : Order) (t u v x : List Event) → written keep o (t ++ (u ++ (v ++ x))) ≡ written keep o t ++ (written keep o u ++ (written keep o v ++ written keep o x))
+written-four : (keep : Bool) (o : Order) (t u v x : List Event) →
+    written keep o (t ++ (u ++ (v ++ x))) ≡ written keep o t ++ (written keep o u ++ (written keep o v ++ written keep o x))
 written-four keep o t u v x = written-append keep o t (u ++ (v ++ x)) ∙ rw (written-append keep o u (v ++ x), written-append keep o v x)
 
 module _ {A : Type 0} (w : Way) (b : ℕ) (s : List ℕ) (at : ℕ) where
@@ -68,12 +72,14 @@ module _ {A : Type 0} (w : Way) (b : ℕ) (s : List ℕ) (at : ℕ) where
 
   -- a record: its head, and its body
   pub copy-record : (room code most : ℕ) (fits : Head → ℕ → Bool) (serial : ℕ → Bool) (body : Walk A) →
-      copy w b s at (head room >>= λ h. coded h code >> (admit room most (fits h) serial h >> body)) ≡ copy w b s at (number_list 4 4) ++ copy w b s (at + 16) body
+      copy w b s at (head room >>= λ h. coded h code >> (admit room most (fits h) serial h >> body)) ≡ copy w b s at (number_list 4 4) ++ copy w b s (at + 16)
+      body
   unfolding head admit number_list trace ◌>>=◌ ◌>>◌
   copy-record room code most fits serial body =
       let z : at + 4 + 4 + 4 + 4 ≡ at + 16 = omega arith in
       written-append w.keep w.to (trace w.from b s at (number_list 4 4)) (row _ _ _ _ ∷ trace w.from b s (at + 4 + 4 + 4 + 4) body)
-      ∙ ap (λ (l : List ℕ). written w.keep w.to (trace w.from b s at (number_list 4 4)) ++ l) (written_row w.keep w.to _ _ _ _ (trace w.from b s (at + 4 + 4 + 4 + 4) body))
+      ∙ ap (λ (l : List ℕ). written w.keep w.to (trace w.from b s at (number_list 4 4)) ++ l)
+      (written_row w.keep w.to _ _ _ _ (trace w.from b s (at + 4 + 4 + 4 + 4) body))
       ∙ rw z
 
 -- the first of two walks stays where both do
@@ -106,38 +112,54 @@ module _ (t : ℕ) (cs : List Channel) where
       subst (λ (n : ℕ). Stays (at + n) at (filling t cs) (λ _ _. Unit {0})) z
       (h.0, λ _. (h₁.0, λ _. (h₂.0, λ _. (h₃.0, stays-first (samples t cs) _ (at + (24 + sample_bytes t cs - 16)) (at + 2 + 2 + 2 + 2) _ h₃.1))))
 
-  copy-frame_body : (w : Way) (b : ℕ) (s : List ℕ) (at size : ℕ) → copy w b s at (frame_body size t cs) ≡ copy w b s at (filling t cs) ++ bytes_at (size - (24 + sample_bytes t cs)) s (at + 8 + sample_bytes t cs - b)
+  copy-frame_body : (w : Way) (b : ℕ) (s : List ℕ) (at size : ℕ) →
+      copy w b s at (frame_body size t cs) ≡ copy w b s at (filling t cs) ++ bytes_at (size - (24 + sample_bytes t cs)) s (at + 8 + sample_bytes t cs - b)
   unfolding filling number_list frame_body trace ◌>>=◌ ◌>>◌
   copy-frame_body w b s at size =
       let n : ℕ = size - (24 + sample_bytes t cs) in
       let g = went (λ _. tt) (see w.from b s (at + 2 + 2 + 2 + 2) (samples t cs)) (ends-samples w.from b s t cs (at + 2 + 2 + 2 + 2)) in
-      let k : List (List ℕ) → Walk Frame = λ ss. padding n >> give (record { hour = number_at w.from 2 s (at - b); minute = number_at w.from 2 s (at + 2 - b); second = number_at w.from 2 s (at + 2 + 2 - b); channels = ss }) in
+      let k : List (List ℕ) → Walk Frame = λ ss. padding n >> give
+      (record {
+        hour = number_at w.from 2 s (at - b);
+        minute = number_at w.from 2 s (at + 2 - b);
+        second =
+            number_at w.from 2 s (at + 2 + 2 - b);
+        channels = ss;
+      }) in
       let e : g.end ≡ at + 8 + sample_bytes t cs = omega (arith, g.kept.1) in
       let u : List Event = trace w.from b s g.end (k g.value) in
       rw (trace-bind w.from b s (at + 2 + 2 + 2 + 2) (samples t cs) k g.is)
       (written-append w.keep w.to (trace w.from b s at (filling t cs)) u
-      ∙ ap (λ (l : List ℕ). written w.keep w.to (trace w.from b s at (filling t cs)) ++ l) (copy-padding w b s g.end n _ ∙ ap (λ (x : ℕ). bytes_at n s (x - b)) e))
+      ∙ ap (λ (l : List ℕ). written w.keep w.to (trace w.from b s at (filling t cs)) ++ l)
+      (copy-padding w b s g.end n _ ∙ ap (λ (x : ℕ). bytes_at n s (x - b)) e))
 
-  copy-frame : (w : Way) (b : ℕ) (s : List ℕ) (at size room i : ℕ) → copy w b s at (frame w.label size t cs room i) ≡ copy w b s at (number_list 4 4) ++ (copy w b s (at + 16) (filling t cs) ++ bytes_at (size - (24 + sample_bytes t cs)) s (at + 24 + sample_bytes t cs - b))
+  copy-frame : (w : Way) (b : ℕ) (s : List ℕ) (at size room i : ℕ) →
+      copy w b s at (frame w.label size t cs room i) ≡ copy w b
+      s at (number_list 4 4) ++ (copy w b s (at + 16) (filling t cs) ++ bytes_at (size - (24 + sample_bytes t cs)) s (at + 24 + sample_bytes t cs - b))
   unfolding frame
   copy-frame w b s at size room i =
       let z : at + 16 + 8 ≡ at + 24 = omega arith in
-      copy-record w b s at room 145 (most_of w.label) (λ h n. eqb n size && pad_ok h (n - (24 + sample_bytes t cs))) (eqb i) (frame_body size t cs) ∙ rw (copy-frame_body w b s (at + 16) size, z)
+      copy-record w b s at room 145 (most_of w.label) (λ h n. eqb n size && pad_ok h (n - (24 + sample_bytes t cs))) (eqb i)
+      (frame_body size t cs) ∙ rw (copy-frame_body w b s (at + 16) size, z)
 
 -- a part of s, which stands at c, read to its end: the bytes are those of the whole there, and so many
-pub read-part : {A : Type 0} (w : Way) (b c a m : ℕ) (s : List ℕ) (v : Walk A) → c ≡ b + a → a + m ≤ length s → Stays (c + m) c v (λ _ _. Unit {0}) → {x : A} {e : ℕ} → see w.from b s c v ≡ goes x e → e ≡ c + m →
+pub read-part : {A : Type 0} (w : Way) (b c a m : ℕ) (s : List ℕ) (v : Walk A) → c ≡ b + a → a + m ≤ length s → Stays (c + m) c v (λ _ _. Unit {0}) →
+    {x : A} {e : ℕ} → see w.from b s c v ≡ goes x e → e ≡ c + m →
     (copy w c (take m (drop a s)) c v ≡ copy w b s c v) × (length (copy w b s c v) ≡ m)
 read-part w b c a m s v i l h g e =
     let j = length-copy w b s (c + m) (omega arith) v c (λ _ _. Unit {0}) (omega arith) h g in
     (copy-part w b c a m s i l v c (λ _ _. Unit {0}) (omega arith) h g, omega (arith, j))
 
 -- the four numbers of a head
-read_head : (w : Way) (b : ℕ) (s : List ℕ) → 16 ≤ length s → (copy w b (take 16 s) b (number_list 4 4) ≡ copy w b s b (number_list 4 4)) × (length (copy w b s b (number_list 4 4)) ≡ 16)
+read_head : (w : Way) (b : ℕ) (s : List ℕ) → 16 ≤ length s →
+    (copy w b (take 16 s) b (number_list 4 4) ≡ copy w b s b (number_list 4 4)) × (length (copy w b s b (number_list 4 4)) ≡ 16)
 unfolding number_list see ◌>>=◌
-read_head w b s l = read-part w b b 0 16 s (number_list 4 4) (omega arith) l (omega arith, λ _. (omega arith, λ _. (omega arith, λ _. (omega arith, λ _. tt)))) refl (omega arith)
+read_head w b s l = read-part w b b 0 16 s (number_list 4 4) (omega arith) l (omega arith, λ _. (omega arith, λ _. (omega arith, λ _. (omega arith, λ _. tt))))
+    refl (omega arith)
 
 -- a 145 into d: the code wrote its head, what fills it, and the bytes behind that
-pub frame-copied : (w : Way) (b : ℕ) (s d : List ℕ) (t filled room i : ℕ) (cs : List Channel) (d₁ d₂ ys₁ ys₂ ys₃ : List ℕ) → 24 ≤ filled → filled ≤ length s → length d ≡ length s → filled ≡ 24 + sample_bytes t cs →
+pub frame-copied : (w : Way) (b : ℕ) (s d : List ℕ) (t filled room i : ℕ) (cs : List Channel) (d₁ d₂ ys₁ ys₂ ys₃ : List ℕ) → 24 ≤ filled → filled ≤ length s →
+    length d ≡ length s → filled ≡ 24 + sample_bytes t cs →
     ys₁ ≡ copy w b (take 16 s) b (number_list 4 4) → d₁ ≡ ys₁ ++ drop 16 d →
     ys₂ ≡ copy w (b + 16) (take (filled - 16) (drop 16 s)) (b + 16) (filling t cs) → d₂ ≡ take 16 d₁ ++ (ys₂ ++ drop (filled - 16) (drop 16 d₁)) →
     ys₃ ≡ take (length s - filled) (drop filled s) →
@@ -157,10 +179,12 @@ frame-copied w b s d t filled room i cs d₁ d₂ ys₁ ys₂ ys₃ h₁ h₂ h�
     let a₁ : d₁ ≡ pasted d 0 ys₁ = p₁ ∙ filled-first d ys₁ 16 l₁ in
     let a₂ : d₂ ≡ pasted d 0 (ys₁ ++ ys₂) = p₂ ∙ filled_more d d₁ ys₁ ys₂ 16 (filled - 16) a₁ (sym l₁) l₂ in
     let y : b + 24 + sample_bytes t cs - b ≡ filled = omega arith in
-    filled-last d d₂ (ys₁ ++ ys₂) ys₃ filled a₂ (sym n₂) (omega (arith, l₃)) ∙ append_assoc ys₁ ys₂ ys₃ ∙ rw (x₁, x₂, f₃, copy-frame t cs w b s b (length s) room i, y, ← e)
+    filled-last d d₂ (ys₁ ++ ys₂) ys₃ filled a₂ (sym n₂) (omega (arith, l₃)) ∙ append_assoc ys₁ ys₂
+    ys₃ ∙ rw (x₁, x₂, f₃, copy-frame t cs w b s b (length s) room i, y, ← e)
 
 -- walks of one length, one after the other: the first of them, and the others
-module _ {A : Type 0} (o : Order) (b : ℕ) (s : List ℕ) (step : ℕ) (v : ℕ → ℕ → Walk A) (stays : (i at room : ℕ) → Stays (at + room) at (v room i) (λ _ e. (e ≡ at + step) × (e ≤ at + room))) where
+module _ {A : Type 0} (o : Order) (b : ℕ) (s : List ℕ) (step : ℕ) (v : ℕ → ℕ → Walk A)
+    (stays : (i at room : ℕ) → Stays (at + room) at (v room i) (λ _ e. (e ≡ at + step) × (e ≤ at + room))) where
   record FirstOf (n i room at e : ℕ) : Type 0 where
     one : A
     others : List A
@@ -169,7 +193,8 @@ module _ {A : Type 0} (o : Order) (b : ℕ) (s : List ℕ) (step : ℕ) (v : ℕ
     on : see o b s (at + step) (series n (suc i) step (room - step) v) ≡ goes others e
     events : trace o b s at (series (suc n) i step room v) ≡ trace o b s at (v room i) ++ trace o b s (at + step) (series n (suc i) step (room - step) v)
 
-  first_of : (n i room at : ℕ) {l : List A} {e : ℕ} → b ≤ at → at + room ≤ b + length s → see o b s at (series (suc n) i step room v) ≡ goes l e → FirstOf n i room at e
+  first_of : (n i room at : ℕ) {l : List A} {e : ℕ} → b ≤ at → at + room ≤ b + length s → see o b s at (series (suc n) i step room v) ≡ goes l e →
+      FirstOf n i room at e
   unfolding series see
   first_of n i room at {l} {e} g f h =
       let k : A → Walk (List A) = λ a. series n (suc i) step (room - step) v >>= λ r. give (a ∷ r) in
@@ -187,11 +212,25 @@ module _ {A : Type 0} (o : Order) (b : ℕ) (s : List ℕ) (step : ℕ) (v : ℕ
       }
 
 -- a frame stays in its own length, whatever room it is given
-stays-sized : (label : Label) (size t : ℕ) (cs : List Channel) (room i at : ℕ) → 24 + sample_bytes t cs ≤ size → Stays (at + size) at (frame label size t cs room i) (λ _ _. Unit {0})
+stays-sized : (label : Label) (size t : ℕ) (cs : List Channel) (room i at : ℕ) → 24 + sample_bytes t cs ≤ size →
+    Stays (at + size) at (frame label size t cs room i) (λ _ _. Unit {0})
 unfolding frame head admit ◌>>=◌ ◌>>◌
 stays-sized label size t cs room i at h =
     let z : at + 4 + 4 + 4 + 4 + (size - 16) ≡ at + size = omega arith in
-    λ _. (omega arith, λ _. (omega arith, λ _. (omega arith, λ _. (omega arith, λ _ _ _ _ _. stays-weaken (frame_body size t cs) _ (at + size) (at + 4 + 4 + 4 + 4) _ (λ _ _. Unit {0}) (omega arith) (λ _ _ _. tt) (stays-frame_body size t cs (at + 4 + 4 + 4 + 4) h)))))
+    λ _. (
+      omega arith,
+      λ _. (
+        omega arith,
+        λ _. (
+          omega arith,
+          λ _. (
+            omega arith,
+            λ _ _ _ _ _. stays-weaken (frame_body size t cs) _ (at + size) (at + 4 + 4 + 4 + 4) _ (λ _ _. Unit {0}) (omega arith) (λ _ _ _. tt)
+                (stays-frame_body size t cs (at + 4 + 4 + 4 + 4) h),
+          ),
+        ),
+      ),
+    )
 
 -- the body of a 140 that the walk accepted: its three numbers t, size and n, what they say, and what is written of it
 pub record FramesTurned (w : Way) (b : ℕ) (s : List ℕ) (cs : List Channel) (t size n : ℕ) (all : List ℕ) : Type 0 where
@@ -201,10 +240,14 @@ pub record FramesTurned (w : Way) (b : ℕ) (s : List ℕ) (cs : List Channel) (
   pub value : List Frame
   pub end : ℕ
   pub went : see w.from b s (b + 16) (series n 1 size (length s - 16) (frame w.label size t cs)) ≡ goes value end
-  pub bytes : all ≡ copy w b s b (number_list 4 3) ++ (copy w b s (b + 12) (reserve 4) ++ (copy w b s (b + 16) (series n 1 size (length s - 16) (frame w.label size t cs)) ++ bytes_at (length s - (16 + size * n)) s (16 + size * n)))
+  pub bytes : all ≡ copy w b s b (number_list 4 3) ++ (copy w b s (b + 12)
+      (reserve 4) ++ (copy w b s (b + 16) (series n 1 size (length s - 16) (frame w.label size t cs)) ++ bytes_at (length s - (16 + size * n)) s
+      (16 + size * n)))
 
-module _ (w : Way) (b : ℕ) (s : List ℕ) (c : Basic) (cs : List Channel) (h : Head) (fills : span h ≡ 16 + length s) {f : Frames} {e : ℕ} (g : see w.from b s b (frames_body w.label c cs h) ≡ goes f e) where
-  framed-as-read : FramesTurned w b s cs (number_at w.from 4 s (b - b)) (number_at w.from 4 s (b + 4 - b)) (number_at w.from 4 s (b + 4 + 4 - b)) (copy w b s b (frames_body w.label c cs h))
+module _ (w : Way) (b : ℕ) (s : List ℕ) (c : Basic) (cs : List Channel) (h : Head) (fills : span h ≡ 16 + length s) {f : Frames} {e : ℕ}
+    (g : see w.from b s b (frames_body w.label c cs h) ≡ goes f e) where
+  framed-as-read : FramesTurned w b s cs (number_at w.from 4 s (b - b)) (number_at w.from 4 s (b + 4 - b)) (number_at w.from 4 s (b + 4 + 4 - b))
+      (copy w b s b (frames_body w.label c cs h))
   unfolding frames_body number_list see trace ◌>>=◌ ◌>>◌
   framed-as-read =
       let o : Order = w.from in
@@ -212,7 +255,8 @@ module _ (w : Way) (b : ℕ) (s : List ℕ) (c : Basic) (cs : List Channel) (h :
       let size : ℕ = number_at o 4 s (b + 4 - b) in
       let n : ℕ = number_at o 4 s (b + 4 + 4 - b) in
       let v : Walk (List Frame) = series n 1 size (span h - 32) (frame w.label size t cs) in
-      let k : List Frame → Walk Frames = λ fs. padding (span h - (32 + n * size)) >> give (record { seconds = t; frames = fs; size = size; padded = n * (size - (24 + sample_bytes t cs)) + (span h - (32 + n * size)) }) in
+      let k : List Frame → Walk Frames = λ fs. padding (span h - (32 + n * size)) >> give
+      (record { seconds = t; frames = fs; size = size; padded = n * (size - (24 + sample_bytes t cs)) + (span h - (32 + n * size)) }) in
       let g₁ = gate-went _ _ _ _ g in
       let g₂ = gate-went _ _ _ _ g₁.1 in
       let g₃ = gate-went _ _ _ _ g₂.1 in
@@ -225,7 +269,9 @@ module _ (w : Way) (b : ℕ) (s : List ℕ) (c : Basic) (cs : List Channel) (h :
       let y : b + 4 + 4 + 4 ≡ b + 12 = omega arith in
       let r : span h - 32 ≡ length s - 16 = omega arith in
       let j : n * size ≡ size * n = mul_comm n size in
-      let d : x.end ≡ b + 4 + 4 + 4 + 4 + n * size = stays-goes o b s (b + 16 + (span h - 32)) (omega arith) v (b + 4 + 4 + 4 + 4) _ (omega arith) (stays-series size (frame w.label size t cs) (stays-frame w.label size t cs m) n 1 (span h - 32) (b + 16 + (span h - 32)) (b + 4 + 4 + 4 + 4) (omega arith) (omega arith)) x.is in
+      let d : x.end ≡ b + 4 + 4 + 4 + 4 + n * size = stays-goes o b s (b + 16 + (span h - 32)) (omega arith) v (b + 4 + 4 + 4 + 4) _ (omega arith)
+      (stays-series size (frame w.label size t cs) (stays-frame w.label size t cs m) n 1 (span h - 32) (b + 16 + (span h - 32)) (b + 4 + 4 + 4 + 4)
+      (omega arith) (omega arith)) x.is in
       let i : x.end - b ≡ 16 + size * n = omega (arith, d, j) in
       let u : span h - (32 + n * size) ≡ length s - (16 + size * n) = omega (arith, j) in
       record {
@@ -237,11 +283,13 @@ module _ (w : Way) (b : ℕ) (s : List ℕ) (c : Basic) (cs : List Channel) (h :
         went = rw (← z, ← r) x.is;
         bytes =
             rw (trace-bind o b s (b + 4 + 4 + 4 + 4) v k x.is)
-            (written-four w.keep w.to (trace o b s b (number_list 4 3)) (trace o b s (b + 4 + 4 + 4) (reserve 4)) (trace o b s (b + 4 + 4 + 4 + 4) v) (trace o b s x.end (k x.value))
+            (written-four w.keep w.to (trace o b s b (number_list 4 3)) (trace o b s (b + 4 + 4 + 4) (reserve 4)) (trace o b s (b + 4 + 4 + 4 + 4) v)
+            (trace o b s x.end (k x.value))
             ∙ rw (copy-padding w b s x.end (span h - (32 + n * size)) _, i, z, y, r, u));
       }
 
-  pub framed : (t size n : ℕ) → number_at w.from 4 s 0 ≡ t → number_at w.from 4 s 4 ≡ size → number_at w.from 4 s 8 ≡ n → FramesTurned w b s cs t size n (copy w b s b (frames_body w.label c cs h))
+  pub framed : (t size n : ℕ) → number_at w.from 4 s 0 ≡ t → number_at w.from 4 s 4 ≡ size → number_at w.from 4 s 8 ≡ n →
+      FramesTurned w b s cs t size n (copy w b s b (frames_body w.label c cs h))
   framed t size n e₁ e₂ e₃ =
       let z₁ : b - b ≡ 0 = omega arith in
       let z₂ : b + 4 - b ≡ 4 = omega arith in
@@ -258,11 +306,14 @@ module _ (w : Way) (b : ℕ) (s : List ℕ) (c : Basic) (cs : List Channel) (h :
       omega (arith, i, j)
 
 -- the three numbers of a 140, and the reserve behind them
-read-numbers : (w : Way) (b : ℕ) (s : List ℕ) → 12 ≤ length s → (copy w b (take 12 s) b (number_list 4 3) ≡ copy w b s b (number_list 4 3)) × (length (copy w b s b (number_list 4 3)) ≡ 12)
+read-numbers : (w : Way) (b : ℕ) (s : List ℕ) → 12 ≤ length s →
+    (copy w b (take 12 s) b (number_list 4 3) ≡ copy w b s b (number_list 4 3)) × (length (copy w b s b (number_list 4 3)) ≡ 12)
 unfolding number_list see ◌>>=◌
-read-numbers w b s l = read-part w b b 0 12 s (number_list 4 3) (omega arith) l (omega arith, λ _. (omega arith, λ _. (omega arith, λ _. tt))) refl (omega arith)
+read-numbers w b s l = read-part w b b 0 12 s (number_list 4 3) (omega arith) l (omega arith, λ _. (omega arith, λ _. (omega arith, λ _. tt))) refl
+    (omega arith)
 
-read-reserve : (w : Way) (b a n : ℕ) (s : List ℕ) → a + n ≤ length s → (copy w (b + a) (take n (drop a s)) (b + a) (reserve n) ≡ copy w b s (b + a) (reserve n)) × (length (copy w b s (b + a) (reserve n)) ≡ n)
+read-reserve : (w : Way) (b a n : ℕ) (s : List ℕ) → a + n ≤ length s →
+    (copy w (b + a) (take n (drop a s)) (b + a) (reserve n) ≡ copy w b s (b + a) (reserve n)) × (length (copy w b s (b + a) (reserve n)) ≡ n)
 unfolding see
 read-reserve w b a n s l = read-part w b (b + a) a n s (reserve n) refl l (omega arith, tt) refl refl
 
@@ -277,14 +328,17 @@ pub record Framing (w : Way) (b : ℕ) (s d : List ℕ) (cs : List Channel) (t s
   pub done : List ℕ
   pub place : at ≡ length done
   pub wrote : d ≡ pasted under 0 done
-  pub rest : all ≡ done ++ (copy w b s (b + at) (series (n - i) (i + 1) size (length s - at) (frame w.label size t cs)) ++ bytes_at (length s - (16 + size * n)) s (16 + size * n))
+  pub rest : all ≡ done ++ (copy w b s (b + at) (series (n - i) (i + 1) size (length s - at) (frame w.label size t cs)) ++ bytes_at
+      (length s - (16 + size * n)) s (16 + size * n))
 
 module _ {w : Way} {b : ℕ} {s : List ℕ} {cs : List Channel} {t size n : ℕ} {all : List ℕ} where
   -- the code's test r of the three numbers passes
-  pub framed-fits : FramesTurned w b s cs t size n all → (bytes : ℕ) (r : Bool) → bytes ≡ sample_bytes t cs → r ≡ leb (24 + bytes) size && leb (16 + size * n) (length s) → r ≡ false → ⊥
+  pub framed-fits : FramesTurned w b s cs t size n all → (bytes : ℕ) (r : Bool) → bytes ≡ sample_bytes t cs →
+      r ≡ leb (24 + bytes) size && leb (16 + size * n) (length s) → r ≡ false → ⊥
   framed-fits x bytes r i j u = both_false (24 + bytes) size (16 + size * n) (length s) r j u (rw i x.long) x.fits
 
-  pub framing-start : FramesTurned w b s cs t size n all → (d₀ d₁ ys₁ ys₂ : List ℕ) → length d₀ ≡ length s → ys₁ ≡ copy w b (take 12 s) b (number_list 4 3) → d₁ ≡ ys₁ ++ drop 12 d₀ → ys₂ ≡ copy w (b + 12) (take 4 (drop 12 s)) (b + 12) (reserve (length (take 4 (drop 12 s)))) →
+  pub framing-start : FramesTurned w b s cs t size n all → (d₀ d₁ ys₁ ys₂ : List ℕ) → length d₀ ≡ length s → ys₁ ≡ copy w b (take 12 s) b (number_list 4 3) →
+      d₁ ≡ ys₁ ++ drop 12 d₀ → ys₂ ≡ copy w (b + 12) (take 4 (drop 12 s)) (b + 12) (reserve (length (take 4 (drop 12 s)))) →
       Framing w b s (take 12 d₁ ++ (ys₂ ++ drop 4 (drop 12 d₁))) cs t size n all 16 0
   framing-start x d₀ d₁ ys₁ ys₂ l₀ f₁ p₁ f₂ =
       let m : length (take 4 (drop 12 s)) ≡ 4 = length-take-le 4 (drop 12 s) (rw length-drop (omega (arith, x.fits))) in
@@ -316,15 +370,19 @@ module _ {w : Way} {b : ℕ} {s : List ℕ} {cs : List Channel} {t size n : ℕ}
         let o : Order = w.from in
         let v : Walk Frame = frame w.label size t cs (length s - at) (i + 1) in
         let a : n - i ≡ suc (n - (i + 1)) = omega arith in
-        let g = first_of o b s size (frame w.label size t cs) (stays-frame w.label size t cs x.long) (n - (i + 1)) (i + 1) (length s - at) (b + at) (omega arith) (omega arith) (rw a at x.on) in
+        let g = first_of o b s size (frame w.label size t cs) (stays-frame w.label size t cs x.long) (n - (i + 1)) (i + 1) (length s - at) (b + at)
+        (omega arith) (omega arith) (rw a at x.on) in
         let j : length (take size (drop at s)) ≡ size = length-take-le size (drop at s) (rw length-drop (omega arith)) in
         let r = read-part w b (b + at) at size s v refl f (stays-sized w.label size t cs (length s - at) (i + 1) (b + at) x.long) {x = g.one} g.first refl in
         let y : ys ≡ copy w b s (b + at) v = rw (e, j) at q ∙ r.0 in
         let k : length ys ≡ size = ap length y ∙ r.1 in
         let p : b + at + size ≡ b + (at + size) = omega arith in
         let u : length s - at - size ≡ length s - (at + size) = omega arith in
-        let c : copy w b s (b + at) (series (suc (n - (i + 1))) (i + 1) size (length s - at) (frame w.label size t cs)) ≡ ys ++ copy w b s (b + (at + size)) (series (n - (i + 1)) (i + 1 + 1) size (length s - (at + size)) (frame w.label size t cs)) =
-        ap (written w.keep w.to) g.events ∙ (written-append w.keep w.to (trace o b s (b + at) v) (trace o b s (b + at + size) (series (n - (i + 1)) (suc (i + 1)) size (length s - at - size) (frame w.label size t cs))) ∙ rw (y, add-one (i + 1), p, u)) in
+        let c : copy w b s (b + at) (series (suc (n - (i + 1))) (i + 1) size (length s - at) (frame w.label size t cs)) ≡ ys ++ copy w b s (b + (at + size))
+        (series (n - (i + 1)) (i + 1 + 1) size (length s - (at + size)) (frame w.label size t cs)) =
+        ap (written w.keep w.to) g.events ∙ (written-append w.keep w.to (trace o b s (b + at) v)
+        (trace o b s (b + at + size) (series (n - (i + 1)) (suc (i + 1)) size (length s - at - size) (frame w.label size t cs))) ∙ rw
+        (y, add-one (i + 1), p, u)) in
         record {
           long = x.long;
           value = g.others;
@@ -338,7 +396,8 @@ module _ {w : Way} {b : ℕ} {s : List ℕ} {cs : List Channel} {t size n : ℕ}
           rest = x.rest ∙ rw (a, c) (simp append_assoc);
         }
 
-    pub framing-end : (ys : List ℕ) → n ≤ i → at ≡ 16 + size * n → at ≤ length s → ys ≡ take (length s - at) (drop at s) → take at d ++ (ys ++ drop (length d - at) (drop at d)) ≡ all
+    pub framing-end : (ys : List ℕ) → n ≤ i → at ≡ 16 + size * n → at ≤ length s → ys ≡ take (length s - at) (drop at s) →
+        take at d ++ (ys ++ drop (length d - at) (drop at d)) ≡ all
     unfolding bytes_at series trace
     framing-end ys l e f q =
         let a : n - i ≡ 0 = omega arith in
@@ -346,7 +405,8 @@ module _ {w : Way} {b : ℕ} {s : List ℕ} {cs : List Channel} {t size n : ℕ}
         filled-last x.under d x.done ys at x.wrote x.place (omega (arith, k, x.same)) ∙ sym (x.rest ∙ rw (a, written_none, ← e, q))
 
 -- a 140 at byte p, which ends at q: its body is a part of s
-module _ (w : Way) (b : ℕ) (s : List ℕ) (p q : ℕ) (h : Head) (stop : q ≡ p + span h) (least : p + 16 ≤ q) (inside : q ≤ length s) (c : Basic) (own : Bool) (cs : List Channel) (back : ℕ) where
+module _ (w : Way) (b : ℕ) (s : List ℕ) (p q : ℕ) (h : Head) (stop : q ≡ p + span h) (least : p + 16 ≤ q) (inside : q ≤ length s) (c : Basic) (own : Bool)
+    (cs : List Channel) (back : ℕ) where
   abbrev from : ℕ
   from = b + p + 16
 
@@ -360,26 +420,40 @@ module _ (w : Way) (b : ℕ) (s : List ℕ) (p q : ℕ) (h : Head) (stop : q ≡
   pub frames-least : {l : Said} → Reads w.from b s p (frames w.label c own cs back (length s - p) h) l → 32 ≤ q - p
   unfolding frames
   frames-least r =
-      let f = leb-true 32 (span h) (admit-went w.from b s (b + (p + 16)) (length s - p) (most_of w.label) (leb 32) (eqb 0) h (require counted 14 back >> frames_body w.label c cs h) r.is).length in
+      let f = leb-true 32 (span h) (admit-went w.from b s (b + (p + 16)) (length s - p) (most_of w.label) (leb 32) (eqb 0) h
+      (require counted 14 back >> frames_body w.label c cs h) r.is).length in
       omega arith
 
   pub frames-in : {l : Said} (r : Reads w.from b s p (frames w.label c own cs back (length s - p) h) l) →
-      (span h ≡ 16 + length body) × (see w.from from body from (frames_body w.label c cs h) ≡ goes r.value r.end) × (anew w l ≡ copy w b s (b + p) (head (length s - p)) ++ copy w from body from (frames_body w.label c cs h))
+      (span h ≡ 16 + length body) × (see w.from from body from (frames_body w.label c cs h) ≡ goes r.value r.end) ×
+      (anew w l ≡ copy w b s (b + p) (head (length s - p)) ++ copy w from body from (frames_body w.label c cs h))
   unfolding frames
   frames-in r =
       let v : Walk Frames = require counted 14 back >> frames_body w.label c cs h in
-      let z = behind w b s p q h stop least inside (most_of w.label) (leb 32) (eqb 0) v (λ e at. stays-require counted 14 back (frames_body w.label c cs h) _ at _ refl (λ _. stays-frames_body w.label c cs h at (leb-true 32 (span h) e))) r in
-      let t = require-went w.from from body from counted 14 back (frames_body w.label c cs h) z.reads in
-      (omega (arith, body-length p q s least inside), t.1, z.is ∙ ap (λ (l : List ℕ). copy w b s (b + p) (head (length s - p)) ++ l) (copy-require w from body from counted 14 back (frames_body w.label c cs h)))
+      let z = behind w b s p q h stop least inside (most_of w.label) (leb 32) (eqb 0) v
+      (λ e at. stays-require counted 14 back (frames_body w.label c cs h) _ at _ refl (λ _. stays-frames_body w.label c cs h at (leb-true 32 (span h) e)))
+      r in
+      let t = require-went w.from from body from counted 14 back (frames_body w.label c cs h) z.reads in (
+        omega (arith, body-length p q s least inside),
+        t.1,
+        z.is ∙ ap (λ (l : List ℕ). copy w b s (b + p) (head (length s - p)) ++ l)
+            (copy-require w from body from counted 14 back (frames_body w.label c cs h)),
+      )
 
 -- the code's part in it: a record that is too short, or its head and then its body
 module _ (w : Way) (file : List ℕ) (at : Channels) (s : List ℕ) (p q : ℕ) (least : p + 16 ≤ q) (inside : q ≤ length s) (out : List ℕ) (k : ℕ) where
   pub frames-short : k ≤ length out → q - p < 32 → FramesSent w file at s p q out out k k
-  frames-short fit short = record { inside = fit; wrote = λ b c own cs back h l stop subs r. absurd (omega (arith, short, frames-least w b s p q h stop least inside c own cs back r)) }
+  frames-short fit short = record {
+    inside = fit;
+    wrote = λ b c own cs back h l stop subs r.
+        absurd (omega (arith, short, frames-least w b s p q h stop least inside c own cs back r));
+  }
 
   pub frames-sent : (out₁ out₂ : List ℕ) (k₁ k₂ : ℕ) → ((b room : ℕ) → Pastes out out₁ k k₁ (copy w b s (b + p) (head room))) → k₂ ≤ length out →
-      ((b : ℕ) (c : Basic) (cs : List Channel) (h : Head) (f : Frames) (e : ℕ) → ChannelsStand w.from file at cs → span h ≡ 16 + length (take (q - (p + 16)) (drop (p + 16) s)) →
-      see w.from b (take (q - (p + 16)) (drop (p + 16) s)) b (frames_body w.label c cs h) ≡ goes f e → Pastes out₁ out₂ k₁ k₂ (copy w b (take (q - (p + 16)) (drop (p + 16) s)) b (frames_body w.label c cs h))) → FramesSent w file at s p q out out₂ k k₂
+      ((b : ℕ) (c : Basic) (cs : List Channel) (h : Head) (f : Frames) (e : ℕ) → ChannelsStand w.from file at cs →
+      span h ≡ 16 + length (take (q - (p + 16)) (drop (p + 16) s)) →
+      see w.from b (take (q - (p + 16)) (drop (p + 16) s)) b (frames_body w.label c cs h) ≡ goes f e →
+      Pastes out₁ out₂ k₁ k₂ (copy w b (take (q - (p + 16)) (drop (p + 16) s)) b (frames_body w.label c cs h))) → FramesSent w file at s p q out out₂ k k₂
   frames-sent out₁ out₂ k₁ k₂ headed fit body =
       record {
         inside = fit;

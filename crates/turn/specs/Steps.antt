@@ -100,7 +100,8 @@ pub record FramesPasted (w : Way) (file : List ℕ) (cs : Channels) (s out out' 
   pub wrote : (b : ℕ) (c : R.Basic) (ch : List R.Channel) (hd : R.Head) (f : R.Frames) (e : ℕ) → ChannelsStand w.from file cs ch → R.span hd ≡ 16 + length s →
       see w.from b s b (R.frames_body w.label c ch hd) ≡ goes f e → Pastes out out' k k' (copy w b s b (R.frames_body w.label c ch hd))
 
--- the 140 at byte p of the part s, which ends at byte q: where the walk reads it with these channels, its head and its rest are written from k on, and the next bytes go at k'
+-- the 140 at byte p of the part s, which ends at byte q: where the walk reads it with these channels, its head and its rest are written from k on, and the
+-- next bytes go at k'
 pub record FramesSent (w : Way) (file : List ℕ) (cs : Channels) (s : List ℕ) (p q : ℕ) (out out' : List ℕ) (k k' : ℕ) : Type 0 where
   pub inside : k' ≤ length out
   pub wrote : (b : ℕ) (c : R.Basic) (own : Bool) (ch : List R.Channel) (back : ℕ) (h : R.Head) (l : Said) → q ≡ p + R.span h → ChannelsStand w.from file cs ch →
@@ -114,7 +115,8 @@ pub record ChildSent (w : Way) (file : List ℕ) (cs : Channels) (s : List ℕ) 
 
 -- the delimiter at byte p and the bytes behind it, as they stand
 abbrev pub LastSent : Way → List ℕ → ℕ → List ℕ → List ℕ → ℕ → Type 0
-LastSent w s p out out' k = p + 16 ≤ length s → (b room : ℕ) → HoldsFrom out out' k (copy w b s (b + p) (R.head room) ++ take (length s - (p + 16)) (drop (p + 16) s))
+LastSent w s p out out' k = p + 16 ≤ length s → (b room : ℕ) →
+    HoldsFrom out out' k (copy w b s (b + p) (R.head room) ++ take (length s - (p + 16)) (drop (p + 16) s))
 
 -- a recording's body, where the walk accepts it
 abbrev pub BodySent : Way → List ℕ → Channels → List ℕ → ℕ → List ℕ → List ℕ → ℕ → Type 0

@@ -13,7 +13,11 @@ pub slice_bounds-numbers-end-3 : goal.slice_bounds-numbers-end-3
 slice_bounds-numbers-end-3 c = simp length-take (omega arith)
 
 pub numbers-requires : goal.numbers-requires
-numbers-requires c = record { wide = record { least = omega arith; most = omega arith }; run = record { source = simp length-take (omega arith); room = simp length-take (omega arith) } }
+numbers-requires c = record {
+  wide = record { least = omega arith; most = omega arith };
+  run =
+      record { source = simp length-take (omega arith); room = simp length-take (omega arith) };
+}
 
 pub returns : goal.returns
 returns c =

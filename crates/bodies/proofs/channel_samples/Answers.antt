@@ -9,9 +9,16 @@ use Rattle.bodies.proofs.channel_samples.Goals as goal
 
 pub numbers-requires : goal.numbers-requires
 numbers-requires c =
-    record { wide = record { least = rw c.width-width.ensures.0 (sample-wide _).0; most = c.width-width.ensures.1 }; run = record { source = simp (length-take, length-drop) (omega arith); room = simp (length-take, length-drop) (omega arith) } }
+    record {
+      wide = record { least = rw c.width-width.ensures.0 (sample-wide _).0; most = c.width-width.ensures.1 };
+      run =
+          record { source = simp (length-take, length-drop) (omega arith); room = simp (length-take, length-drop) (omega arith) };
+    }
 
 pub returns : goal.returns
 returns c =
-    let a = c.args in
-    (search rules, λ b x cs k _. samples-copied a.w _ a.q a.t _ _ _ _ _ c.number-flags.ensures.0 c.number-format.ensures.0 c.number-rate.ensures.0 c.width-width.ensures.0 c.samples_in-n.ensures.0 a.s.now a.d.now a.p x cs k _ _ (add-sub_cancel_left _ _) (omega arith) c.numbers.ensures b)
+    let a = c.args in (
+      search rules,
+      λ b x cs k _. samples-copied a.w _ a.q a.t _ _ _ _ _ c.number-flags.ensures.0 c.number-format.ensures.0 c.number-rate.ensures.0
+          c.width-width.ensures.0 c.samples_in-n.ensures.0 a.s.now a.d.now a.p x cs k _ _ (add-sub_cancel_left _ _) (omega arith) c.numbers.ensures b,
+    )

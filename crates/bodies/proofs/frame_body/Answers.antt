@@ -1,4 +1,5 @@
--- `bodies::frame_body` meets its contract: the samples are one run; or after each turn what stands before p is written, and the channels that are left stand in the file from q on.
+-- `bodies::frame_body` meets its contract: the samples are one run; or after each turn what stands before p is written, and the channels that are left
+-- stand in the file from q on.
 -- Assumes nothing.
 use mathlib.Core.Path.{◌∙◌, sym}
 use native.Mathlib.Nat.{sub-zero}
@@ -20,8 +21,14 @@ returns-in-Some c =
 
 pub loop-i-init : goal.loop-i-init
 loop-i-init c =
-    let a = c.args in
-    (search rules, search rules, search rules, search rules, λ b ch e k l. samples-begun a.w a.file.now a.t a.s.now _ a.d.now _ _ c.requires.clock.room c.numbers.ensures c.reserved.ensures b ch _ (e ∙ sym (sub-zero _)) k l)
+    let a = c.args in (
+      search rules,
+      search rules,
+      search rules,
+      search rules,
+      λ b ch e k l.
+          samples-begun a.w a.file.now a.t a.s.now _ a.d.now _ _ c.requires.clock.room c.numbers.ensures c.reserved.ensures b ch _ (e ∙ sym (sub-zero _)) k l,
+    )
 
 pub loop-i-preserved : goal.loop-i-preserved
 loop-i-preserved c =

@@ -25,5 +25,8 @@ returns-then-left-size c =
 pub returns : goal.returns
 returns c =
     let a = c.args in
-    let n = c.number-size in
-    (search rules, item-copied a.w a.s.now a.d.now a.p n.result _ _ c.requires.room n.ensures.0 (omega (arith, c.if-size-lt-LEAST.false)) (omega (arith, c.if-left-size.false)) (add-sub_cancel_left a.p 8) (add-sub-add a.p n.result 8) _ _ c.numbers.ensures c.copy_run.ensures)
+    let n = c.number-size in (
+      search rules,
+      item-copied a.w a.s.now a.d.now a.p n.result _ _ c.requires.room n.ensures.0 (omega (arith, c.if-size-lt-LEAST.false))
+          (omega (arith, c.if-left-size.false)) (add-sub_cancel_left a.p 8) (add-sub-add a.p n.result 8) _ _ c.numbers.ensures c.copy_run.ensures,
+    )

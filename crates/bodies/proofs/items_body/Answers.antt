@@ -9,8 +9,13 @@ use Rattle.bodies.proofs.items_body.Goals as goal
 
 pub loop-i-init : goal.loop-i-init
 loop-i-init c =
-    let a = c.args in
-    (search rules, search rules, search rules, items-begun a.w a.s.now _ a.d.now _ _ (sub-zero _ ∙ c.number-count.ensures.0) c.requires.least c.requires.room c.numbers.ensures c.reserved.ensures)
+    let a = c.args in (
+      search rules,
+      search rules,
+      search rules,
+      items-begun a.w a.s.now _ a.d.now _ _ (sub-zero _ ∙ c.number-count.ensures.0) c.requires.least c.requires.room
+          c.numbers.ensures c.reserved.ensures,
+    )
 
 pub loop-i-preserved : goal.loop-i-preserved
 loop-i-preserved c =

@@ -13,4 +13,5 @@ use Rattle.bodies.proofs.items_body.Given as goal
 abbrev pub invariant-loop-i : goal.invariant-loop-i
 invariant-loop-i m =
     (m._i ≤ m.count) × (m.p ≤ length m.s) × (length m.d ≡ length m.s) ×
-    ((b : ℕ) (ok : ℕ → Bool) (l : List Item) (e : ℕ) → see m.w.from b m.s b (items_body ok (16 + length m.s)) ≡ goes l e → Items m.w b m.s ok (m.count - m._i) m.p m.d)
+    ((b : ℕ) (ok : ℕ → Bool) (l : List Item) (e : ℕ) → see m.w.from b m.s b (items_body ok (16 + length m.s)) ≡ goes l e →
+    Items m.w b m.s ok (m.count - m._i) m.p m.d)

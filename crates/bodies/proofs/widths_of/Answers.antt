@@ -14,7 +14,9 @@ returns-then-cs-eq0 c = widths-none _ _ _ _ c.if-cs-eq0.true
 pub returns-then-width : goal.returns-then-width
 returns-then-width c =
     let l = c.loop-i in
-    widths-several _ _ _ _ _ (c.args.cs.count - 1) (omega arith) l.invariant.3 (l.invariant.4 ∙ wide-other _ _ _ _ _ (c.args.cs.count - l._i - 1) (omega arith) (λ e. c.if-width.true (c.width.ensures.0 ∙ (ap R.width c.number-in-loop-i.ensures.0 ∙ e))))
+    widths-several _ _ _ _ _ (c.args.cs.count - 1) (omega arith) l.invariant.3
+    (l.invariant.4 ∙ wide-other _ _ _ _ _ (c.args.cs.count - l._i - 1) (omega arith)
+    (λ e. c.if-width.true (c.width.ensures.0 ∙ (ap R.width c.number-in-loop-i.ensures.0 ∙ e))))
 
 pub loop-i-preserved : goal.loop-i-preserved
 loop-i-preserved c =

@@ -5,9 +5,9 @@ use Rattle.std.proofs.Common.{Ok}
 use Rattle.measures.proofs.Gone.{kept, lost}
 use mathlib.Core.Path.{◌≡◌, sym, ap, ◌∙◌}
 use mathlib.Core.Option.{Option}
-use Prim.Native.Nat.{ℕ, ◌+◌, ◌≤◌}
+use Prim.Native.Nat.{ℕ, ◌+◌, ◌-◌, ◌*◌, ◌≤◌}
 use native.Mathlib.Omega.{arith}
-use lib.ListN.{length}
+use lib.ListN.{length, take, drop}
 use Rattle.words.proofs.Words.{bytes}
 use Rattle.walk.specs.See.{goes, see}
 use Rattle.walk.proofs.Seen.{body-length}
@@ -122,7 +122,9 @@ returns c =
     let q = stop y.In_ok-end in
     let a = follows y.In_ok-d in
     let b = c.sample_bytes-bytes in
-    let w = both_true _ _ _ _ _ c.fits.ensures c.if-not-fits.false in
+    let body = take (c.in_ok-end.end - (p.at + 16)) (drop (p.at + 16) p.s.now) in
+    let w : (24 + b.result ≤ c.field-size.result) × (16 + c.field-size.result * c.field-count.result ≤ length body) =
+    both_true _ _ _ _ _ c.fits.ensures c.if-not-fits.false in
     let l = body-length p.at c.in_ok-end.end p.s.now (omega (arith, h.stands, q)) q.1 in
     let span : R.Head → ℕ = λ z. p.at + R.span z in
     rw c.measure_for.ensures (record {

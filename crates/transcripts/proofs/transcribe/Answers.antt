@@ -14,4 +14,5 @@ pub returns : goal.returns
 returns c =
     let a = c.args in
     let y = c.head-at in
-    transcribed a.w a.s.now a.h a.end c.requires.headed c.requires.inside a.out.now _ a.k y.result y.ensures.1 c.out-1.given _ (omega (arith, c.if-out-at.false, c.out-1.given, y.ensures.0)) c.body.ensures
+    transcribed a.w a.s.now a.h a.end c.requires.headed c.requires.inside a.out.now _ a.k y.result y.ensures.1 c.out-1.given _
+    (omega (arith, c.if-out-at.false, c.out-1.given, y.ensures.0)) c.body.ensures

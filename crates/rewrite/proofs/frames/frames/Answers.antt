@@ -17,5 +17,7 @@ returns-then-out-k c = signals-full _ _ _ _ _ _ _ (is-bytes (goal.at.returns-the
 pub returns : goal.returns
 returns c =
     let a = c.args in
-    signals-written a.w a.file.now a.s.now a.cs a.f a.out.now _ _ a.k (a.k + 16 - a.k) (a.k + a.f.signals.length - (a.k + 16)) (is-bytes (goal.at.returns c).After-struct_known-1) (omega arith) (omega (arith, c.requires.bounds.signals)) (omega (arith, c.if-out-k.false, c.requires.target))
+    signals-written a.w a.file.now a.s.now a.cs a.f a.out.now _ _ a.k (a.k + 16 - a.k) (a.k + a.f.signals.length - (a.k + 16))
+    (is-bytes (goal.at.returns c).After-struct_known-1) (omega arith) (omega (arith, c.requires.bounds.signals))
+    (omega (arith, c.if-out-k.false, c.requires.target))
     c.out-1.given.1 c.put_head.ensures c.frames_body.ensures

@@ -1,4 +1,5 @@
--- `rewrite::recordings::body` meets its contract. The loop's invariant: the records up to byte p are written, and take the first k bytes. The measure is what is left of the part.
+-- `rewrite::recordings::body` meets its contract. The loop's invariant: the records up to byte p are written, and take the first k bytes.
+-- The measure is what is left of the part.
 -- Assumes nothing.
 use mathlib.Core.Path.{refl}
 use native.Mathlib.Omega.{arith}

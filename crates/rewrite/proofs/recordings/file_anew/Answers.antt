@@ -14,7 +14,12 @@ use Rattle.rewrite.proofs.recordings.file_anew.Goals as goal
 pub loop-i-init : goal.loop-i-init
 unfolding size render C.recording_events
 loop-i-init c =
-    record { fits = omega (arith, c.out-1.given.1, c.requires.header); same = refl; along = along-start c.requires.counts.file.header (record { is = pastes-nothing _ 32 }) }
+    record {
+      fits = omega (arith, c.out-1.given.1, c.requires.header);
+      same = refl;
+      along =
+          along-start c.requires.counts.file.header (record { is = pastes-nothing _ 32 });
+    }
 
 pub returns-in_default : goal.returns-in_default
 returns-in_default c =
@@ -33,4 +38,5 @@ loop-i-preserved c =
 
 pub returns : goal.returns
 returns c =
-    λ ps e g room. whole-file (along-end c.loop-i.invariant.along c.loop-i-test.false ps e g) c.args.out.now _ _ c.requires.header c.header.ensures c.out-1.given.1 refl (omega (arith, room, length-render c.args.into (events_of c.args.heading.label 1 ps)))
+    λ ps e g room. whole-file (along-end c.loop-i.invariant.along c.loop-i-test.false ps e g) c.args.out.now _ _ c.requires.header c.header.ensures
+    c.out-1.given.1 refl (omega (arith, room, length-render c.args.into (events_of c.args.heading.label 1 ps)))

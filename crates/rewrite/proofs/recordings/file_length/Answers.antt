@@ -24,7 +24,8 @@ loop-i-preserved c =
     let a = c.measure_at in
     record {
       most = omega (arith, l.invariant.most, c.measured_length-sum.ensures, length_most (c.in-Ok.q.end - (l.p + 16)) a.result a.ensures.bounds);
-      along = along-next l.invariant.along c.loop-i-test.true _ r.ensures c.in-Ok.is (λ held done _ x many n h. counted_next done many n _ a.result a.ensures c.measured_length-sum.ensures h);
+      along = along-next l.invariant.along c.loop-i-test.true _ r.ensures c.in-Ok.is
+          (λ held done _ x many n h. counted_next done many n _ a.result a.ensures c.measured_length-sum.ensures h);
     }
 
 pub returns : goal.returns

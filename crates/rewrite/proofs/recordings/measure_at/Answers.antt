@@ -19,7 +19,8 @@ use Rattle.rewrite.specs.RecordingsAnew.{StandsIn, AcceptedAt}
 use Rattle.rewrite.proofs.recordings.measure_at.Goals as goal
 
 -- an accepted recording's 140 stands inside it
-inside : (o : Order) (label : Label) (s : List ℕ) (p : ℕ) (q : Places) → StandsIn (length s) p q → Bytes s → (held : Option Held) (i : ℕ) (x : Placed) → AcceptedAt o label s p i q held x → (p + 16 ≤ q.frames) × (q.frames ≤ q.end)
+inside : (o : Order) (label : Label) (s : List ℕ) (p : ℕ) (q : Places) → StandsIn (length s) p q → Bytes s → (held : Option Held) (i : ℕ) (x : Placed) →
+    AcceptedAt o label s p i q held x → (p + 16 ≤ q.frames) × (q.frames ≤ q.end)
 inside o label s p q stands b held i x y = within-at b stands.end (within o label s p q.end held i y.went) q.frames y.frames
 
 pub returns-then-end-base : goal.returns-then-end-base

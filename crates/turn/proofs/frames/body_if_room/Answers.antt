@@ -17,7 +17,8 @@ use Rattle.turn.proofs.frames.body_if_room.Goals.{After-field-count, Else-out-k}
 told : (x : After-field-count) →
     let a = x.args in
     let s = a.s.now in
-    (b : ℕ) (c : R.Basic) (ch : List R.Channel) (hd : R.Head) (f : R.Frames) (e : ℕ) → R.span hd ≡ 16 + length s → see a.w.from b s b (R.frames_body a.w.label c ch hd) ≡ goes f e →
+    (b : ℕ) (c : R.Basic) (ch : List R.Channel) (hd : R.Head) (f : R.Frames) (e : ℕ) → R.span hd ≡ 16 + length s →
+    see a.w.from b s b (R.frames_body a.w.label c ch hd) ≡ goes f e →
     FramesTurned a.w b s ch x.field-t.result x.field-size.result x.field-count.result (copy a.w b s b (R.frames_body a.w.label c ch hd))
 told x b c ch hd f e fills g =
     let a = x.args in
@@ -26,7 +27,11 @@ told x b c ch hd f e fills g =
 pub returns-then-t-gt-MOST_SECONDS : goal.returns-then-t-gt-MOST_SECONDS
 returns-then-t-gt-MOST_SECONDS c = record {
   inside = c.requires.target;
-  wrote = λ b k ch hd f e st fills g. absurd (omega (arith, c.if-t-gt-MOST_SECONDS.true, (told (goal.at.returns-then-t-gt-MOST_SECONDS c).After-field-count b k ch hd f e fills g).short));
+  wrote = λ b k ch hd f e st fills g. absurd (omega (
+    arith,
+    c.if-t-gt-MOST_SECONDS.true,
+    (told (goal.at.returns-then-t-gt-MOST_SECONDS c).After-field-count b k ch hd f e fills g).short,
+  ));
 }
 
 pub returns-then-not-fits : goal.returns-then-not-fits
@@ -35,7 +40,8 @@ returns-then-not-fits c =
     let m = c.sample_bytes-bytes in
     record {
       inside = c.requires.target;
-      wrote = λ b k ch hd f e st fills g. absurd (framed-fits (told (goal.at.returns-then-not-fits c).After-field-count b k ch hd f e fills g) m.result r.result (m.ensures ch st.count st.kept) r.ensures (c.if-not-fits.true));
+      wrote = λ b k ch hd f e st fills g. absurd (framed-fits (told (goal.at.returns-then-not-fits c).After-field-count b k ch hd f e fills g) m.result
+          r.result (m.ensures ch st.count st.kept) r.ensures (c.if-not-fits.true));
     }
 
 pub returns-then-out-k : goal.returns-then-out-k
@@ -44,7 +50,8 @@ returns-then-out-k c =
     record {
       inside = c.requires.target;
       wrote = λ b k ch hd f e st fills g.
-          pastes-full a.out.now a.out.now a.k a.k (copy a.w b a.s.now b (R.frames_body a.w.label k ch hd)) (omega (arith, c.if-out-k.true, framed-length a.w b a.s.now k ch hd fills g c.requires.fields));
+          pastes-full a.out.now a.out.now a.k a.k (copy a.w b a.s.now b (R.frames_body a.w.label k ch hd))
+          (omega (arith, c.if-out-k.true, framed-length a.w b a.s.now k ch hd fills g c.requires.fields));
     }
 
 pub returns : goal.returns
@@ -56,6 +63,7 @@ returns c =
       inside = omega (arith, c.if-out-k.false, c.requires.target);
       wrote = λ b k ch hd f e st fills g.
           pastes-whole a.out.now _ (copy a.w b s b (R.frames_body a.w.label k ch hd)) a.k (a.k + length s)
-          (c.frames_body.ensures b k ch hd f e st (ap (λ (i : ℕ). 24 + i) (m.ensures ch st.count st.kept)) (sym c.field-t.ensures.0) (sym c.field-size.ensures.0) (sym c.field-count.ensures.0) fills g)
+          (c.frames_body.ensures b k ch hd f e st (ap (λ (i : ℕ). 24 + i) (m.ensures ch st.count st.kept)) (sym c.field-t.ensures.0)
+          (sym c.field-size.ensures.0) (sym c.field-count.ensures.0) fills g)
           (omega (arith, framed-length a.w b s k ch hd fills g c.requires.fields));
     }

@@ -14,4 +14,5 @@ returns c =
     let a = c.args in
     let y = c.body_if_room in
     let h = c.head-at in
-    frames-sent a.w a.file.now a.cs a.s.now a.p a.end c.requires.headed c.requires.inside a.out.now a.k _ _ h.result y.result h.ensures.1 (omega (arith, y.ensures.inside, c.out-1.given)) y.ensures.wrote
+    frames-sent a.w a.file.now a.cs a.s.now a.p a.end c.requires.headed c.requires.inside a.out.now a.k _ _ h.result y.result h.ensures.1
+    (omega (arith, y.ensures.inside, c.out-1.given)) y.ensures.wrote

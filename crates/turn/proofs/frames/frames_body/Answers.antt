@@ -1,4 +1,5 @@
--- `turn::frames::frames_body` meets its contract. The loop's invariant: what is written of the body is what stands before the next frame, which is read where it is written.
+-- `turn::frames::frames_body` meets its contract. The loop's invariant: what is written of the body is what stands before the next frame, which is read where
+-- it is written.
 -- Assumes nothing.
 use mathlib.Core.Path.{◌≡◌, refl, ap, ◌∙◌}
 use Prim.Native.Nat.{ℕ, ◌+◌, ◌-◌, ◌*◌, ◌≤◌}
@@ -27,7 +28,8 @@ loop-i-init c =
       search rules,
       c.d-2-1.given.1 ∙ (c.d-1.given.1 ∙ c.requires.part.room),
       refl,
-      λ b k ch hd f e st l e₁ e₂ e₃ q v. framing-start (framed a.w b a.s.now k ch hd q v a.t a.size a.count e₁ e₂ e₃) a.d.now _ _ _ c.requires.part.room (c.numbers.ensures b) refl (c.reserved.ensures (b + 12)),
+      λ b k ch hd f e st l e₁ e₂ e₃ q v. framing-start (framed a.w b a.s.now k ch hd q v a.t a.size a.count e₁ e₂ e₃) a.d.now _ _ _ c.requires.part.room
+          (c.numbers.ensures b) refl (c.reserved.ensures (b + 12)),
     )
 
 pub loop-i-preserved : goal.loop-i-preserved
@@ -41,7 +43,8 @@ loop-i-preserved c =
       c.d-in-loop-i-1.given.1 ∙ l.invariant.3,
       omega arith,
       λ b k ch hd f e st j e₁ e₂ e₃ q v.
-          framing-more (l.invariant.5 b k ch hd f e st j e₁ e₂ e₃ q v) (l.k + a.size - l.k) (l.k + a.size - l.k) _ c.loop-i-test.true (reach (goal.at.loop-i-preserved c).In-loop-i) m m
+          framing-more (l.invariant.5 b k ch hd f e st j e₁ e₂ e₃ q v) (l.k + a.size - l.k) (l.k + a.size - l.k) _ c.loop-i-test.true
+          (reach (goal.at.loop-i-preserved c).In-loop-i) m m
           (rw l.invariant.4 at (c.frame.ensures (b + l.k) (length a.s.now - l.k) (l._i + 1) ch st j)),
     )
 
@@ -49,4 +52,5 @@ pub returns : goal.returns
 returns c =
     let l = c.loop-i in
     let h : l._i ≡ c.args.count = omega arith in
-    λ b k ch hd f e st m e₁ e₂ e₃ q v. framing-end (l.invariant.5 b k ch hd f e st m e₁ e₂ e₃ q v) _ c.loop-i-test.false (l.invariant.1 ∙ ap (λ (n : ℕ). 16 + c.args.size * n) h) l.invariant.2 (rw l.invariant.4 at c.copy_run.ensures)
+    λ b k ch hd f e st m e₁ e₂ e₃ q v. framing-end (l.invariant.5 b k ch hd f e st m e₁ e₂ e₃ q v) _ c.loop-i-test.false
+    (l.invariant.1 ∙ ap (λ (n : ℕ). 16 + c.args.size * n) h) l.invariant.2 (rw l.invariant.4 at c.copy_run.ensures)

@@ -21,5 +21,10 @@ pub loop-h-preserved : goal.loop-h-preserved
 loop-h-preserved c =
     let w = c.loop-h.invariant in
     let v = recorded c.in-Some.is c.record_at.ensures in
-    let d = c.child-next.ensures in
-    (v.inside, omega (arith, d.inside), search rules, λ held h x e n m g. sent-more _ (w.3 held h x e n m g) _ v (λ l stop i. d.wrote _ (known_of _ x) refl l stop m i))
+    let d = c.child-next.ensures in (
+      v.inside,
+      omega (arith, d.inside),
+      search rules,
+      λ held h x e n m g.
+          sent-more _ (w.3 held h x e n m g) _ v (λ l stop i. d.wrote _ (known_of _ x) refl l stop m i),
+    )

@@ -14,7 +14,8 @@ use Rattle.turn.proofs.recordings.body.Given as goal
 
 abbrev pub invariant-loop-h : goal.invariant-loop-h
 invariant-loop-h l = (l.p ≤ length l.s) × (l.next ≤ length l.out) × (length l.out ≡ length l.initial.out) ×
-    ((held : Option Held) (h : Head) (x : Placed) (e : ℕ) → span h ≡ 16 + length l.s → ChannelsStand l.w.from l.file l.cs x.recording.channels → see l.w.from l.base l.s l.base (recording_body l.w.label held h) ≡ goes x e →
+    ((held : Option Held) (h : Head) (x : Placed) (e : ℕ) → span h ≡ 16 + length l.s → ChannelsStand l.w.from l.file l.cs x.recording.channels →
+    see l.w.from l.base l.s l.base (recording_body l.w.label held h) ≡ goes x e →
     SentUpTo l.w l.base l.s (known_of l.w.label x) l.initial.out l.out l.k l.next l.p (copy l.w l.base l.s l.base (recording_body l.w.label held h)))
 
 abbrev pub decreases-loop-h : goal.decreases-loop-h

@@ -24,7 +24,12 @@ header-requires c = record { source = length-take-le 32 c.args.file.now (omega a
 
 pub loop-i-init : goal.loop-i-init
 loop-i-init c =
-    record { room = omega (arith, c.out-1.given.1, c.requires.room); same = refl; along = along-start c.requires.headed.header (sent-first (way (goal.at.loop-i-init c).After-header) _) }
+    record {
+      room = omega (arith, c.out-1.given.1, c.requires.room);
+      same = refl;
+      along =
+          along-start c.requires.headed.header (sent-first (way (goal.at.loop-i-init c).After-header) _);
+    }
 
 pub returns-in_default : goal.returns-in_default
 returns-in_default c =
@@ -37,7 +42,8 @@ loop-i-preserved c =
     record {
       room = i.room;
       same = c.out-in-loop-i-1.given ∙ i.same;
-      along = along-next i.along c.loop-i-test.true _ r.ensures c.in-Ok.is (λ held done m x many n h. sent-next (way (goal.at.loop-i-preserved c).After-header) i.along.inside n m _ c.recording.ensures h);
+      along = along-next i.along c.loop-i-test.true _ r.ensures c.in-Ok.is
+          (λ held done m x many n h. sent-next (way (goal.at.loop-i-preserved c).After-header) i.along.inside n m _ c.recording.ensures h);
     }
 
 pub returns : goal.returns
@@ -45,5 +51,6 @@ unfolding said
 returns c =
     let s = c.args.file.now in
     λ f ps e h g. rw (← c.other.ensures)
-    (whole-file (along-end c.loop-i.invariant.along c.loop-i-test.false ps e g) c.args.out.now _ _ (omega (arith, c.requires.headed.header, c.requires.room)) (header-first (way (goal.at.returns c).After-header) s (length s) _ c.requires.headed.header h c.header.ensures) c.out-1.given.1 refl
+    (whole-file (along-end c.loop-i.invariant.along c.loop-i-test.false ps e g) c.args.out.now _ _ (omega (arith, c.requires.headed.header, c.requires.room))
+    (header-first (way (goal.at.returns c).After-header) s (length s) _ c.requires.headed.header h c.header.ensures) c.out-1.given.1 refl
     (omega (arith, c.requires.room, sent-length (way (goal.at.returns c).After-header) s c.args.count c.requires.headed.header g)))
