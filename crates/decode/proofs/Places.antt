@@ -20,7 +20,7 @@ module _ (o : Order) (s : List ℕ) where
       let e : at + 1 + 1 ≡ at + 2 = omega arith in
       number_step o 2 s at h ∙ ap (join o 65536 (get_or s at 0)) (rw e at (number-2 (at + 1) (omega arith)))
 
-  number-4 :
+  pub number-4 :
       (at : ℕ) → at + 4 ≤ length s →
       number_at o 4 s at ≡ join o 16777216 (get_or s at 0) (join o 65536 (get_or s (at + 1) 0) (join o 256 (get_or s (at + 2) 0) (get_or s (at + 3) 0)))
   number-4 at h =

@@ -1,10 +1,11 @@
-// The numbers of a run of bytes, decoded into a lent buffer: one loop for all formats, which is told what the bytes of a number mean.
+// The numbers of a run of bytes, decoded into a lent buffer: one loop for all formats but that of three bytes, told what the bytes of a number mean.
 // The order is a bool here and not an `Order`: a call that tells it as a constant is then made a loop of its own by the compiler.
 #![tactic(auto)]
 
 ghost use Rattle.std.specs.Prelude.{◌≡◌, ◌+◌, ◌*◌, ◌≤◌, ◌<◌, ℕ, pos, length, get_or};
 ghost use Rattle.words.specs.Numbers.{number_at};
 ghost use Rattle.words.specs.Values.{signed};
+ghost use Rattle.words.specs.declared.Order.TheVariants as Order;
 ghost use Rattle.rules.specs.Rules as R;
 ghost use Rattle.decode.specs.Decoded.{Decoded, itself};
 ghost use Rattle.decode.specs.Wide.{order_for, whole, NumberAt};
@@ -50,6 +51,35 @@ pub fn short_at(big: bool, s: &[u8], at: usize) -> i16
     short(big, [s[at], s[at + 1]])
 }
 
+// Four bytes at a place, by their order. A function for each order, since in one that uses the bytes once the compiler makes one load of them.
+fn little_at(s: &[u8], at: usize) -> i32
+    requires { at + 4 ≤ length s.now }
+    ensures { result ≡ signed 4 (number_at Order.Little 4 s.now at) }
+{
+    i32::from_le_bytes([s[at], s[at + 1], s[at + 2], s[at + 3]])
+}
+
+fn big_at(s: &[u8], at: usize) -> i32
+    requires { at + 4 ≤ length s.now }
+    ensures { result ≡ signed 4 (number_at Order.Big 4 s.now at) }
+{
+    i32::from_be_bytes([s[at], s[at + 1], s[at + 2], s[at + 3]])
+}
+
+// The signed number of three bytes at a place: where there is a byte before them, all four are one load, and the shifts leave that byte behind.
+fn triple_at(big: bool, s: &[u8], at: usize) -> i32
+    requires { at + 3 ≤ length s.now }
+    ensures { result ≡ signed 3 (number_at (order_for big) 3 s.now at) }
+{
+    if at == 0 {
+        return triple(big, [s[0], s[1], s[2]]);
+    }
+    if big {
+        return big_at(s, at - 1) << 8 >> 8;
+    }
+    little_at(s, at - 1) >> 8
+}
+
 // The signed number of so many bytes at a place, in 32 bits.
 pub fn long_at(big: bool, width: usize, s: &[u8], at: usize) -> i32
     requires { NumberAt width s.now at }
@@ -59,7 +89,7 @@ pub fn long_at(big: bool, width: usize, s: &[u8], at: usize) -> i32
         return i32::from(short_at(big, s, at));
     }
     if width == 3 {
-        return triple(big, [s[at], s[at + 1], s[at + 2]]);
+        return triple_at(big, s, at);
     }
     long(big, [s[at], s[at + 1], s[at + 2], s[at + 3]])
 }
@@ -72,6 +102,16 @@ fn fill<A: Copy, T: Copy, F: Fn(A) -> T>(places: &[A], d: &mut [T], means: F)
 {
     for (i, number) in d.iter_mut().enumerate() {
         *number = means(places[i]);
+    }
+}
+
+// The numbers of three bytes. A loop of its own, since no chunk of three has the byte before it.
+fn triples(big: bool, s: &[u8], d: &mut [i64])
+    requires { length s.now ≡ length d.old * 3 }
+    ensures { Decoded (pos 0) (signed 3) (order_for big) 3 s.now d.old d.new }
+{
+    for (i, number) in d.iter_mut().enumerate() {
+        *number = i64::from(triple_at(big, s, i * 3));
     }
 }
 
@@ -88,13 +128,7 @@ fn numbers_in(big: bool, format: u32, s: &[u8], d: &mut [i64])
                 ensures { result ≡ whole big 2 bytes }
             { i64::from(short(big, bytes)) },
         ),
-        Channel::TRIPLES => fill(
-            s.as_chunks().0,
-            d,
-            |bytes| -> i64
-                ensures { result ≡ whole big 3 bytes }
-            { i64::from(triple(big, bytes)) },
-        ),
+        Channel::TRIPLES => triples(big, s, d),
         _ => fill(
             s.as_chunks().0,
             d,

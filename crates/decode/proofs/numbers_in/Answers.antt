@@ -22,16 +22,11 @@ returns-in-1 c =
     let h : length c.args.s.now ≡ length c.args.d.now * 2 = rw w at c.requires in
     rw w (decoded h (omega arith) c.as_chunks.ensures.front c.fill.auto.d (λ q l _. c.fill.ensures [] (pos 0) q l))
 
-pub fill-requires-in-2-clause-room : goal.fill-requires-in-2-clause-room
-fill-requires-in-2-clause-room c =
-    let h : length c.args.s.now ≡ length c.args.d.now * 3 = rw (width-3 _ c.in-2.is) at c.requires in
-    omega (arith, c.as_chunks-in-2.ensures.front_len)
+pub triples-requires : goal.triples-requires
+triples-requires c = rw (width-3 _ c.in-2.is) at c.requires
 
 pub returns-in-2 : goal.returns-in-2
-returns-in-2 c =
-    let w : R.width c.args.format ≡ 3 = width-3 _ c.in-2.is in
-    let h : length c.args.s.now ≡ length c.args.d.now * 3 = rw w at c.requires in
-    rw w (decoded h (omega arith) c.as_chunks-in-2.ensures.front c.fill-in-2.auto.d (λ q l _. c.fill-in-2.ensures [] (pos 0) q l))
+returns-in-2 c = rw (width-3 _ c.in-2.is) c.triples.ensures
 
 pub fill-requires-in_default-clause-room : goal.fill-requires-in_default-clause-room
 fill-requires-in_default-clause-room c =

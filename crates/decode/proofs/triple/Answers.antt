@@ -10,9 +10,9 @@ use Rattle.decode.proofs.triple.Goals as goal
 pub returns-then-big : goal.returns-then-big
 returns-then-big c =
     let h = word-3 Big c.args.bytes (search rules) in
-    rw c.if-big.true (moved-is _ _ _ (record { sfits = c.from_be_bytes.type_inv }) c.from_be_bytes.ensures (omega arith))
+    rw c.if-big.true (moved-is _ (record { sfits = c.from_be_bytes.type_inv }) c.from_be_bytes.ensures (omega arith))
 
 pub returns : goal.returns
 returns c =
     let h = word-3 Little c.args.bytes (search rules) in
-    rw c.if-big.false (moved-is _ _ _ (record { sfits = c.from_le_bytes.type_inv }) c.from_le_bytes.ensures (omega arith))
+    rw c.if-big.false (moved-is _ (record { sfits = c.from_le_bytes.type_inv }) c.from_le_bytes.ensures (omega arith))

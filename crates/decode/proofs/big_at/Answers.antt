@@ -1,0 +1,14 @@
+-- `decode::big_at` meets its contract: the bits of the number at the place.
+-- Assumes nothing.
+use mathlib.Core.Path.{refl}
+use native.Mathlib.Omega.{arith}
+use mir.Syntax.{w32}
+use Rattle.words.specs.declared.Order.TheVariants.{Big}
+use Rattle.decode.proofs.Casts.{cast-is}
+use Rattle.decode.proofs.Places.{number-4}
+use Rattle.decode.proofs.big_at.Goals as goal
+
+pub returns : goal.returns
+returns c =
+    let h = number-4 Big c.args.s.now c.args.at c.requires in
+    cast-is w32 4 refl refl (record { sfits = c.from_be_bytes.type_inv }) c.from_be_bytes.ensures (omega arith)
