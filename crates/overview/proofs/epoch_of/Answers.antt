@@ -15,7 +15,7 @@ use Rattle.overview.proofs.Seconds.{seconds-low, started-few}
 use Rattle.overview.proofs.epoch_of.Goals as goal
 use Rattle.overview.proofs.epoch_of.Goals.{After-of_frames-x, Else-end-first}
 
-started : (c : goal.After-struct_known-4-1) → c.started_by-first.result ≡ started_by c.args.t (30 * c.args.epoch)
+started : (c : goal.After-struct_known-2-1) → c.started_by-first.result ≡ started_by c.args.t (30 * c.args.epoch)
 started c = c.started_by-first.ensures
 
 ended : (c : Else-end-first) → c.started_by-end.result ≡ started_by c.args.t (30 * c.args.epoch + 30)
@@ -27,7 +27,7 @@ samples c = omega (arith, c.if-place-eq0.false)
 last : (c : Else-end-first) → c.started_by-end.result ≤ c.args.t.frames
 last c = omega (arith, ended c, started-few c.args.t (30 * c.args.epoch + 30))
 
-frames-fit : (z : goal.After-struct_known-4-1) → z.args.t.frames < 2 ^ 32
+frames-fit : (z : goal.After-struct_known-2-1) → z.args.t.frames < 2 ^ 32
 frames-fit z = search rules
 
 -- the answer of the frames, in 64 bits
@@ -36,18 +36,6 @@ smallest-fits c = search rules
 
 largest-fits : (c : After-of_frames-x) → SFits w32 c.of_frames-x.result.largest
 largest-fits c = search rules
-
-pub overflow_mul-second : goal.overflow_mul-second
-overflow_mul-second c = record { fits = omega (arith, seconds-low c.args.t (search rules) (search rules), c.requires.there) }
-
-pub started_by-first-requires : goal.started_by-first-requires
-started_by-first-requires c = record { some = c.requires.tracked.some; low = omega (arith, c.requires.there) }
-
-pub overflow_add-second : goal.overflow_add-second
-overflow_add-second c = record { fits = omega (arith, seconds-low c.args.t (search rules) (search rules), c.requires.there) }
-
-pub started_by-end-requires : goal.started_by-end-requires
-started_by-end-requires c = record { some = c.requires.tracked.some; low = omega (arith, c.requires.there) }
 
 pub returns-then-place-eq0 : goal.returns-then-place-eq0
 returns-then-place-eq0 c =
@@ -64,12 +52,6 @@ returns-then-end-first c =
 
 pub of_frames-x-requires : goal.of_frames-x-requires
 of_frames-x-requires c = record { tracked = c.requires.tracked; samples = samples c; first = c.if-end-first.false; last = last c }
-
-pub overflow_cast-result : goal.overflow_cast-result
-overflow_cast-result c = let f = smallest-fits (goal.at.overflow_cast-result c).After-of_frames-x in rw (to_z-of_z f) (sfits_widen tt f)
-
-pub overflow_cast-result-2 : goal.overflow_cast-result-2
-overflow_cast-result-2 c = let f = largest-fits (goal.at.overflow_cast-result-2 c).After-of_frames-x in rw (to_z-of_z f) (sfits_widen tt f)
 
 pub overflow_mul-result : goal.overflow_mul-result
 overflow_mul-result c =

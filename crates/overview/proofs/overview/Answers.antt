@@ -1,5 +1,6 @@
 -- `overview::overview` meets its contract: from the track, by the laws of Told.
 -- Assumes nothing.
+use Rattle.rules.proofs.Handed.{handed}
 use mathlib.Core.Path.{◌≡◌, ◌∙◌}
 use Rattle.recordings.specs.Answers.{value}
 use Rattle.overview.specs.Overview.{envelope_of, overview_of}
@@ -7,19 +8,19 @@ use Rattle.overview.specs.Steps.{epoch_numbers, EpochsIn}
 use Rattle.overview.proofs.Epochs.{told_none, told-some}
 use Rattle.overview.proofs.Told.{epoch-there, tracked, one-refused, overview-told}
 use Rattle.overview.proofs.overview.Goals as goal
-use Rattle.overview.proofs.overview.Goals.{After-epoch_of-x, In-At}
+use Rattle.overview.proofs.overview.Goals.{After-epoch_of-x, In_ok-t}
 
-known : (x : In-At) → EpochsIn x.args.file.now x.args.recording x.args.channel x.args.epoch 1 x.in-At.t
-known x = rw x.in-At.is at x.epochs_asked-found.ensures
+known : (x : In_ok-t) → EpochsIn x.args.file.now x.args.recording x.args.channel x.args.epoch 1 x.in_ok-t.t
+known x = x.in_ok-t.ensures
 
 told : (x : After-epoch_of-x) →
-    value (envelope_of (epoch_numbers x.args.file.now x.in-At.t x.args.epoch)) ≡ overview_of x.args.file.now x.args.recording x.args.channel x.args.epoch
-told x = let y = known (goal.at.After-epoch_of-x x).In-At in overview-told _ y.bytes _ _ _ y.answer y.whole _ y.inside
+    value (envelope_of (epoch_numbers x.args.file.now x.in_ok-t.t x.args.epoch)) ≡ overview_of x.args.file.now x.args.recording x.args.channel x.args.epoch
+told x = let y = known (goal.at.After-epoch_of-x x).In_ok-t in overview-told _ y.bytes _ _ _ y.answer y.whole _ y.inside
 
-pub returns-in_default : goal.returns-in_default
-returns-in_default c =
-    let e = c.in_default.is in
-    rw (c.of_track.ensures, e) (one-refused _ _ _ _ (rw e at c.epochs_asked-found.ensures))
+pub returns-in_err-t : goal.returns-in_err-t
+returns-in_err-t c =
+    rw (handed _ c.from_residual.ensures)
+    (one-refused _ _ _ _ c.in_err-t.ensures)
 
 pub epoch_of-x-requires : goal.epoch_of-x-requires
 epoch_of-x-requires c = let y = known c in record { tracked = tracked _ y.bytes _ _ _ y.answer; there = epoch-there _ _ y.inside }
