@@ -111,7 +111,7 @@ module _ (s : List ℕ) {E A : Type 0} {meets : E → Type 0} {refuse : Refusal 
       }
 
 -- what an answer means: a value or a refusal
-data Either {M X : Type 0} (val : X → M) (ref : ℕ → ℕ → M) : M → Type 0 where
+pub data Either {M X : Type 0} (val : X → M) (ref : ℕ → ℕ → M) : M → Type 0 where
   a-value : (v : X) → Either val ref (val v)
   a-refusal : (n p : ℕ) → Either val ref (ref n p)
 

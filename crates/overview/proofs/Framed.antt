@@ -2,12 +2,11 @@
 -- Assumes nothing.
 use mathlib.Core.Path.{◌≡◌, refl, sym, ap, ◌∙◌}
 use mathlib.Core.List.{List, [], ◌∷◌, ◌++◌, append_assoc, append-nil}
-use Prim.Native.Nat.{ℕ, zero, suc, ◌+◌, ◌-◌, ◌*◌, ◌%◌, ◌≤◌, ◌<◌}
+use Prim.Native.Nat.{ℕ, zero, suc, ◌+◌, ◌-◌, ◌*◌, ◌≤◌, ◌<◌}
 use native.Mathlib.Omega.{arith}
 use lib.IntN.{ℤ}
 use lib.ListN.{length, take, drop, length-append, length-drop}
 use lib.Seq.{length-take-le}
-use Rattle.std.proofs.Math.Nat.{mod-add-div}
 use Rattle.words.specs.Numbers.{bytes_at}
 use Rattle.words.specs.declared.Order.{Order}
 use Rattle.samples.specs.declared.Track.{Track}
@@ -96,7 +95,7 @@ module _ (s : List ℕ) (t : Track) (some : 1 ≤ t.first.count) where
         let d : j + suc m ≡ suc j + m = omega arith in
         rw (e, d, append_assoc (frame_numbers s t j)) (ap (λ (zs : List ℤ). frame_numbers s t j ++ zs) (frames-split m (suc j) (omega arith)))
 
-    framing-first : (n : ℕ) → n < end → (x : Extremes) → x ≡ extremes_of (frame_numbers s t n) → Framing s t n end x (n + 1)
+    pub framing-first : (n : ℕ) → n < end → (x : Extremes) → x ≡ extremes_of (frame_numbers s t n) → Framing s t n end x (n + 1)
     framing-first n l x e = record {
       first = omega arith;
       last = omega arith;
@@ -104,7 +103,7 @@ module _ (s : List ℕ) (t : Track) (some : 1 ≤ t.first.count) where
     }
 
     module _ {n : ℕ} {x : Extremes} {j : ℕ} (f : Framing s t n end x j) where
-      framing-more : (m : ℕ) → 1 ≤ m → j + m ≤ end → (y r : Extremes) → y ≡ extremes_of (frames_numbers s t j m) → r ≡ both_of x y → Framing s t n end r (j + m)
+      pub framing-more : (m : ℕ) → 1 ≤ m → j + m ≤ end → (y r : Extremes) → y ≡ extremes_of (frames_numbers s t j m) → r ≡ both_of x y → Framing s t n end r (j + m)
       framing-more m k l y r e h =
           let g : r ≡ widened x (frames_numbers s t j m) = h ∙ (ap (both_of x) e ∙ extremes-both x (frames_numbers s t j m) (frames-some m j k)) in
           record {
@@ -113,34 +112,9 @@ module _ (s : List ℕ) (t : Track) (some : 1 ≤ t.first.count) where
             same = rw g (sym (widened-append x (frames_numbers s t j m) (frames_numbers s t (j + m) (end - (j + m)))) ∙ (ap (widened x) (sym (frames-split m j l)) ∙ f.same));
           }
 
-      framing-all : end ≤ j → x ≡ extremes_of (frames_numbers s t n (end - n))
+      pub framing-all : end ≤ j → x ≡ extremes_of (frames_numbers s t n (end - n))
       unfolding frames_numbers foremost
       framing-all l = let e : end - j ≡ 0 = omega arith in rw e at f.same
-
--- by two frames: k pairs are passed behind the first frame
-pub record Pairing (s : List ℕ) (t : Track) (n end : ℕ) (x : Extremes) (j : ℕ) : Type 0 where
-  pub framing : Framing s t n end x j
-  pub pairs : ℕ
-  pub behind : j ≡ n + 1 + 2 * pairs
-
-module _ (s : List ℕ) (t : Track) (some : 1 ≤ t.first.count) (end : ℕ) where
-  pub pairing-first : (n : ℕ) → n < end → (x : Extremes) → x ≡ extremes_of (frame_numbers s t n) → Pairing s t n end x (n + 1)
-  pairing-first n l x e = record { framing = framing-first s t some end n l x e; pairs = 0; behind = omega arith }
-
-  module _ {n : ℕ} {x : Extremes} {j : ℕ} (p : Pairing s t n end x j) where
-    pub pairing-more : j + 2 ≤ end → (y r : Extremes) → y ≡ extremes_of (frames_numbers s t j 2) → r ≡ both_of x y → Pairing s t n end r (j + 2)
-    pairing-more l y r e h = record { framing = framing-more s t some end p.framing 2 (omega arith) l y r e h; pairs = suc p.pairs; behind = omega (arith, p.behind) }
-
-    -- as many frames as pairs have, with the first: one is left; else none
-    module _ (l : end ≤ j + 1) where
-      pub pairing-last : (end - n) % 2 ≡ 0 → (y r : Extremes) → y ≡ extremes_of (frame_numbers s t (end - 1)) → r ≡ both_of x y → r ≡ extremes_of (frames_numbers s t n (end - n))
-      pairing-last z y r e h =
-          let k : end - 1 ≡ j = omega (arith, l, z, mod-add-div (end - n) 2, p.behind, p.framing.last, p.framing.first) in
-          let e' : y ≡ extremes_of (frames_numbers s t j 1) = rw frames-one (rw k at e) in
-          framing-all s t some end (framing-more s t some end p.framing 1 (omega arith) (omega (arith, k, p.framing.first)) y r e' h) (omega (arith, l))
-
-      pub pairing-all : ((end - n) % 2 ≡ 0 → ⊥) → x ≡ extremes_of (frames_numbers s t n (end - n))
-      pairing-all z = framing-all s t some end p.framing (omega (arith, l, z, mod-add-div (end - n) 2, p.behind, p.framing.last, p.framing.first))
 
 -- a frame and the next, as two parts of the file
 module _ (s : List ℕ) (t : Track) (j : ℕ) (some : 1 ≤ t.first.count) (inside : t.first.position + t.step * j + t.first.width * t.first.count ≤ length s) (after : t.first.position + t.step * suc j + t.first.width * t.first.count ≤ length s) (p q : List ℕ)

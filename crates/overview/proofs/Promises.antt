@@ -333,5 +333,5 @@ promises s b = record {
 }
   where
     -- the rules' refusal, as the code says it
-    told : {A : Type 0} {n p : ℕ} → R.judge s ≡ refused n p → refusal {A = A} (number_of (refusal_of n p).0) p ≡ refusal n p
-    told {_} {n} {p} h = ap (λ (m : ℕ). refusal m p) ((demand-2 s b).refuses n p h).named
+    told : {A : Type 0} {n p : ℕ} → R.judge s ≡ refused n p → ◌≡◌ {A = Answer A} (refusal (number_of (refusal_of n p).0) p) (refusal n p)
+    told {A} {n} {p} h = ap (λ (m : ℕ). refusal m p) ((demand-2 s b).refuses n p h).named

@@ -18,7 +18,7 @@ use Rattle.walk.specs.Walk.{pick, Event, Outcome, refused, passed}
 use Rattle.rules.specs.Reading.{ChannelReading, RecordingReading, Reading, reading}
 use Rattle.rules.specs.Rules as R
 use Rattle.rules.specs.declared.Refusal.{Refusal}
-use Rattle.recordings.specs.Answers.{Answer, value, refusal, meaning, ◌>>=◌, outside, numbered}
+use Rattle.recordings.specs.Answers.{Answer, value, refusal, ◌>>=◌, outside, numbered}
 use Rattle.samples.specs.declared.Track.{Track}
 use Rattle.questions.specs.Promised.{TrackAnswer}
 use Rattle.questions.specs.Tied.{recording_read, channel_read, format_in, TrackIs}
@@ -72,7 +72,9 @@ module _ (s : List ℕ) (b : Bytes s) (i k : ℕ) where
       go : (o : Outcome R.File) → R.judge s ≡ o → refusal (number_of r.0) r.1 ≡ by_reading o (λ g. whole_read g i k >>= f)
       go (refused n p) e =
           let h = (demand-2 s b).refuses n p e in
-          ap meaning (h.track i k (Err r) x) ∙ ap (λ (m : ℕ). refusal m p) h.named
+          let y : ◌≡◌ {A = Result Track Refusal} (Err r) (Err (refusal_of n p)) = h.track i k (Err r) x in
+          let same : r ≡ refusal_of n p = cc in
+          ap (λ (u : Refusal). refusal (number_of u.0) u.1) same ∙ ap (λ (m : ℕ). refusal m p) h.named
       go (passed v l u) e = unread (reading v) i k f (alike-refusal (((demand-2 s b).answers v u (judged s e)).track i k (Err r) x) refl)
 
   module _ (t : Track) (x : TrackAnswer s i k (Ok t)) where

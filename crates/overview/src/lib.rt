@@ -130,11 +130,12 @@ fn of_frames(file: &[u8], t: Track, n: u64, end: u64) -> Extremes
     ensures { result ≡ extremes_of (frames_numbers file.now t n (end - n)) }
 {
     let mut x = of_frame(file, t, n);
-    for j in (n + 1..end - 1).step_by(2) {
-        let y = of_two_frames(file, t, j);
+    for i in 0..(end - n - 1) / 2 {
+        let y = of_two_frames(file, t, n + 1 + 2 * i);
         x = of_both(x, y);
     }
-    if (end - n) % 2 == 0 {
+    let left = (end - n) % 2 == 0;
+    if left {
         let y = of_frame(file, t, end - 1);
         x = of_both(x, y);
     }

@@ -6,8 +6,9 @@ use native.Mathlib.Nat.{zero-mul, mul-zero}
 use native.Mathlib.Omega.{arith}
 use borrow.Author.Rules.{rules}
 use mir.Facts.{to_z-of_z, sfits_widen}
-use mir.Syntax.{w32}
-use mir.Val.{SFits}
+use lib.IntN.{ℤ}
+use mir.Syntax.{w32, w64}
+use mir.Val.{SFits, to_z, of_z}
 use Rattle.overview.specs.Steps.{started_by}
 use Rattle.overview.proofs.Epochs.{count_low, epoch-none, epoch-some}
 use Rattle.overview.proofs.Foremost.{recast}
@@ -62,4 +63,4 @@ pub returns : goal.returns
 returns c =
     let f = smallest-fits (goal.at.returns c).After-of_frames-x in
     let g = largest-fits (goal.at.returns c).After-of_frames-x in
-    epoch-some _ _ _ _ _ (started c) (ended (goal.at.returns c).Else-end-first) (samples (goal.at.returns c).Else-end-first) c.if-end-first.false c.requires.tracked.few (frames-fit c) c.of_frames-x.result c.of_frames-x.ensures _ (recast f) (recast g) refl
+    epoch-some _ _ _ _ _ (started c) (ended (goal.at.returns c).Else-end-first) (samples (goal.at.returns c).Else-end-first) c.if-end-first.false c.requires.tracked.few (frames-fit c) c.of_frames-x.result c.of_frames-x.ensures _ (ap (λ (z : ℤ). to_z w64 (of_z w64 z)) c.from.ensures ∙ recast f) (ap (λ (z : ℤ). to_z w64 (of_z w64 z)) c.from-2.ensures ∙ recast g) refl

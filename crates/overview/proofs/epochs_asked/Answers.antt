@@ -1,7 +1,6 @@
 -- `overview::epochs_asked` meets its contract: from the track, by the laws of Told.
 -- Assumes nothing.
 use Rattle.std.proofs.Common.{Ok}
-use Rattle.rules.proofs.Handed.{handed}
 use mathlib.Core.Path.{◌≡◌, sym, ◌∙◌}
 use mathlib.Core.Bool.{true}
 use Prim.Native.Nat.{◌^◌, ◌<◌}
@@ -9,6 +8,7 @@ use borrow.Author.Rules.{rules}
 use Rattle.words.specs.Numbers.{Bytes}
 use Rattle.rules.specs.Rules as R
 use Rattle.questions.specs.Promised.{TrackAnswer}
+use Rattle.demands.proofs.Answers.{handed}
 use Rattle.overview.proofs.Seconds.{seconds-low}
 use Rattle.overview.proofs.Told.{bytes, range-refused, range-unserved, range-outside}
 use Rattle.overview.proofs.epochs_asked.Goals as goal
@@ -25,10 +25,8 @@ whole c = sym c.is_whole.ensures ∙ c.if-not-is_whole.false
 
 pub returns-in_err-t : goal.returns-in_err-t
 returns-in_err-t c =
-    rw (handed _ c.from_residual.ensures)
-    (let e = c.in_err-t.was in
     let b = bytes c.args.file.now (λ i. (c.type_inv.file i).fits) in
-    rw e (sym (range-refused _ b _ _ c.args.first c.args.number _ (rw e at c.track.ensures))))
+    rw (handed _ c.from_residual.ensures) (sym (range-refused _ b _ _ c.args.first c.args.number _ c.in_err-t.ensures))
 
 pub returns-then-not-is_whole : goal.returns-then-not-is_whole
 returns-then-not-is_whole c =
