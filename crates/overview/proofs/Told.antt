@@ -160,10 +160,3 @@ one-range s i k e = go (R.judge s)
     go : (o : Outcome R.File) → by_reading o (λ g. range_read g i k e 1) ≡ (by_reading o (λ g. overview_read g i k e) >>= λ x. value (x ∷ []))
     go (refused n p) = refl
     go (passed v l u) = read (whole_read (reading v) i k)
-
-pub one-refused : (s : List ℕ) (i k e : ℕ) {n p : ℕ} → range_of s i k e 1 ≡ refusal n p → refusal n p ≡ overview_of s i k e
-one-refused s i k e {n} {p} h = go (overview_of s i k e) (sym (one-range s i k e) ∙ h)
-  where
-    go : (a : Answer (Option Envelope)) → (a >>= λ x. value (x ∷ [])) ≡ refusal n p → refusal n p ≡ a
-    go (value x) e = apart e
-    go (refusal m q) e = cc

@@ -26,13 +26,6 @@ pub or_empty : (r : Option Envelope) → unwrap_or r (record { smallest = pos 0;
 or_empty None = refl
 or_empty (Some x) = refl
 
--- three stores of the code
-pub three-set : (out : List ℤ) (at : ℕ) (x : Envelope) (a b c : ℤ) → a ≡ x.smallest → b ≡ x.largest → c ≡ pos x.count → set (set (set out at a) (at + 1) b) (at + 2) c ≡ sets out at (numbers_of x)
-three-set out at x a b c e f g =
-    let i : at + 1 ≡ suc at = omega arith in
-    let j : at + 2 ≡ suc (suc at) = omega arith in
-    rw (i, j, e, f, g)
-
 -- q epochs are written in front, and with those that are left they are all that is asked for
 pub record Writing (s : List ℕ) (t : Track) (first n : ℕ) (out₀ out : List ℤ) (q : ℕ) : Type 0 where
   pub front : List ℤ
@@ -43,18 +36,6 @@ pub record Writing (s : List ℕ) (t : Track) (first n : ℕ) (out₀ out : List
   pub same : front ++ epochs_numbers s t (first + q) (n - q) ≡ epochs_numbers s t first n
 
 module _ (s : List ℕ) (t : Track) (first n : ℕ) (out₀ : List ℤ) where
-  pub writing-none : 3 * n ≤ length out₀ → Writing s t first n out₀ out₀ 0
-  writing-none h =
-      let e : n - 0 ≡ n = omega arith in
-      record {
-        front = [];
-        long = refl;
-        within = omega arith;
-        room = h;
-        holds = refl;
-        same = rw (add-zero first, e);
-      }
-
   module _ {out : List ℤ} {q : ℕ} (w : Writing s t first n out₀ out q) where
     pub writing-long : length out ≡ length out₀
     writing-long = ap length w.holds ∙ rw (length-append, length-drop) (omega (arith, w.long, w.within, w.room))
@@ -101,9 +82,6 @@ module _ (s : List ℕ) (t : Track) (first n : ℕ) (out₀ : List ℤ) where
 -- The answer and the buffer of a range, by what the reading has of it
 
 module _ (s : List ℕ) (i k first n : ℕ) (out : List ℤ) where
-  pub range-stopped : (r : Refusal) → refusal (number_of r.0) r.1 ≡ range_of s i k first n → RangeAnswer s i k first n out out (Err r)
-  range-stopped r h = record { answer = rw (← h); buffer = rw (← h) }
-
   module _ {xs : List (Option Envelope)} (h : range_of s i k first n ≡ value xs) where
     pub range-short : length out < 3 * n → RangeAnswer s i k first n out out (Err (record { 0 = Reason.Room; 1 = 3 * n }))
     range-short l = record { answer = rw (h, lt-leb (3 * n) (length out) l); buffer = rw (h, lt-leb (3 * n) (length out) l) }
