@@ -111,11 +111,11 @@ module _ (s : List ℕ) {E A : Type 0} {meets : E → Type 0} {refuse : Refusal 
       }
 
 -- what an answer means: a value or a refusal
-data Either {M X : Type 0} (val : X → M) (ref : ℕ → ℕ → M) : M → Type 0 where
+pub data Either {M X : Type 0} (val : X → M) (ref : ℕ → ℕ → M) : M → Type 0 where
   a-value : (v : X) → Either val ref (val v)
   a-refusal : (n p : ℕ) → Either val ref (ref n p)
 
-either : {A : Type 0} (x : Answer A) → Either value refusal x
+pub either : {A : Type 0} (x : Answer A) → Either value refusal x
 either (value v) = a-value v
 either (refusal n p) = a-refusal n p
 
@@ -156,7 +156,7 @@ module _ {M X E A : Type 0} {val : X → M} {ref : ℕ → ℕ → M} (l : Meant
   told-kind (a-value v) e = is-value (ap (λ (y : A). (l.says y).0) e ∙ l.zero v)
   told-kind (a-refusal n p) e = is-refusal (refusal_of n p) refl
 
-  by-meaning : (s : List ℕ) {m : M} {meets : E → Type 0} {numbers : ℕ → Bool} {need : ℕ} {a : A} → Either val ref m → ((b : E) → l.meaning b ≡ m → meets b) → a ≡ l.flat m → ((n p : ℕ) → R.judge s ≡ refused n p → m ≡ ref n p) →
+  pub by-meaning : (s : List ℕ) {m : M} {meets : E → Type 0} {numbers : ℕ → Bool} {need : ℕ} {a : A} → Either val ref m → ((b : E) → l.meaning b ≡ m → meets b) → a ≡ l.flat m → ((n p : ℕ) → R.judge s ≡ refused n p → m ≡ ref n p) →
       ((n p : ℕ) → m ≡ ref n p → Refuses numbers (length s) need n p) → TakenApart s meets l.refuse (λ b. l.flat (l.meaning b)) numbers need (l.says a).0 (l.says a).1 a
   by-meaning s {m} x met e hand proper =
       let i = told-means x (λ n p j. (proper n p j).named) in

@@ -12,3 +12,4 @@ pub mod Boundary
 pub mod BoundaryTold
 pub mod Demands
 pub mod Periods
+pub mod Answers

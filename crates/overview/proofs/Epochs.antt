@@ -1,18 +1,17 @@
 -- The numbers of an epoch: none, or as many as its frames have, and the smallest and the largest of them.
 -- Assumes nothing.
+use Rattle.std.proofs.Common.{Some, None}
 use mathlib.Core.Path.{◌≡◌, refl, sym, ap, ◌∙◌}
 use mathlib.Core.List.{List, [], ◌∷◌}
-use mathlib.Core.Option.{none, some}
 use Prim.Native.Nat.{ℕ, zero, suc, ◌+◌, ◌-◌, ◌*◌, ◌^◌, ◌≤◌, ◌<◌}
 use native.Mathlib.Nat.{mul-zero, mul-suc, mul-le-mul_left, mul-le-mul_right}
 use native.Mathlib.Omega.{arith}
-use lib.IntN.{ℤ, pos}
+use lib.IntN.{ℤ}
 use lib.ListN.{length, length-append}
 use Rattle.words.specs.Numbers.{bytes_at}
-use Rattle.recordings.specs.Answers.{value}
 use Rattle.samples.specs.declared.Track.{Track}
 use Rattle.overview.specs.Overview.{envelope_of}
-use Rattle.overview.specs.Steps.{extremes_of, frames_numbers, started_by, epoch_numbers, shown, EpochIs}
+use Rattle.overview.specs.Steps.{extremes_of, frames_numbers, started_by, epoch_numbers, EpochIs}
 use Rattle.overview.specs.declared.Envelope.{Envelope}
 use Rattle.overview.specs.declared.extremes.Extremes.{Extremes}
 use Rattle.overview.proofs.Framed.{wholes-many}
@@ -27,11 +26,11 @@ module _ (s : List ℕ) (t : Track) where
       rw (length-append, w, frames-many (suc n) m) (omega (arith, mul-suc t.first.count m))
 
 -- an envelope by its numbers, and one of none
-envelope-some : (zs : List ℤ) → 1 ≤ length zs → shown (envelope_of zs) ≡ record { smallest = (extremes_of zs).smallest; largest = (extremes_of zs).largest; count = length zs }
+envelope-some : (zs : List ℤ) → 1 ≤ length zs → envelope_of zs ≡ Some (record { smallest = (extremes_of zs).smallest; largest = (extremes_of zs).largest; count = length zs })
 envelope-some [] h = absurd (omega arith)
 envelope-some (z ∷ zs) h = refl
 
-envelope-none : (zs : List ℤ) → length zs ≡ 0 → shown (envelope_of zs) ≡ record { smallest = pos 0; largest = pos 0; count = 0 }
+envelope-none : (zs : List ℤ) → length zs ≡ 0 → envelope_of zs ≡ None
 envelope-none [] h = refl
 envelope-none (z ∷ zs) h = absurd (omega (arith, h))
 
@@ -49,38 +48,18 @@ module _ (s : List ℕ) (t : Track) (e : ℕ) where
   end = started_by t (30 * e + 30)
 
   -- none where a frame has none, or no frame starts
-  pub epoch-none : t.first.count * (end - first) ≡ 0 → EpochIs s t e (record { smallest = pos 0; largest = pos 0; count = 0 })
+  pub epoch-none : t.first.count * (end - first) ≡ 0 → EpochIs s t e None
   epoch-none h = record { is = sym (envelope-none (epoch_numbers s t e) (frames-many s t first (end - first) ∙ h)); small = omega arith }
 
   -- else those of the frames from f on, up to the one behind l others
   pub epoch-some : (f l : ℕ) → f ≡ first → l ≡ end → 1 ≤ t.first.count → f < l → t.first.count < 2147483648 → t.frames < 2 ^ 32 → (x : Extremes) → x ≡ extremes_of (frames_numbers s t f (l - f)) → (r : Envelope) →
-      r.smallest ≡ x.smallest → r.largest ≡ x.largest → r.count ≡ t.first.count * (l - f) → EpochIs s t e r
+      r.smallest ≡ x.smallest → r.largest ≡ x.largest → r.count ≡ t.first.count * (l - f) → EpochIs s t e (Some r)
   epoch-some f l ef el c h few all x is r a b d =
       let m = frames-many s t f (l - f) in
       let k : 1 ≤ l - f = omega arith in
       let n : 1 * 1 ≤ t.first.count * (l - f) = omega (arith, mul-le-mul_right (l - f) c, k) in
       let g = envelope-some (frames_numbers s t f (l - f)) (omega (arith, m, n)) in
       record {
-        is = rw (← ef, ← el) ((λ i. record { smallest = (a ∙ ap (λ (y : Extremes). y.smallest) is) i; largest = (b ∙ ap (λ (y : Extremes). y.largest) is) i; count = (d ∙ sym m) i }) ∙ sym g);
+        is = rw (← ef, ← el) (ap Some (λ i. record { smallest = (a ∙ ap (λ (y : Extremes). y.smallest) is) i; largest = (b ∙ ap (λ (y : Extremes). y.largest) is) i; count = (d ∙ sym m) i }) ∙ sym g);
         small = rw d (count_low t.first.count (l - f) few (omega (arith, el, started-few t (30 * e + 30))));
       }
-
--- the envelope that the code answers, by its count
-module _ (s : List ℕ) (t : Track) (e : ℕ) (r : Envelope) (h : EpochIs s t e r) where
-  counted : (zs : List ℤ) → r ≡ shown (envelope_of zs) → r.count ≡ length zs
-  counted [] g = ap (λ (x : Envelope). x.count) g
-  counted (z ∷ zs) g = ap (λ (x : Envelope). x.count) g
-
-  pub told_none : r.count ≡ 0 → value none ≡ value (envelope_of (epoch_numbers s t e))
-  told_none z = go (epoch_numbers s t e) (counted (epoch_numbers s t e) h.is)
-    where
-      go : (zs : List ℤ) → r.count ≡ length zs → value none ≡ value (envelope_of zs)
-      go [] g = refl
-      go (x ∷ zs) g = absurd (omega (arith, g, z))
-
-  pub told-some : (r.count ≡ 0 → ⊥) → value (some r) ≡ value (envelope_of (epoch_numbers s t e))
-  told-some z = go (epoch_numbers s t e) h.is
-    where
-      go : (zs : List ℤ) → r ≡ shown (envelope_of zs) → value (some r) ≡ value (envelope_of zs)
-      go [] g = absurd (z (ap (λ (x : Envelope). x.count) g))
-      go (x ∷ zs) g = ap (λ (y : Envelope). value (some y)) g

@@ -1,11 +1,11 @@
 -- The smallest and the largest of some numbers are among them, and none of them is smaller or larger. One law for both, over a test of two numbers.
 -- Assumes nothing.
+use Rattle.std.proofs.Common.{Some, None}
 use mathlib.Core.Path.{◌≡◌, refl, sym, ◌∙◌}
 use mathlib.Core.Bool.{Bool, true, false}
 use mathlib.Core.List.Memᴰ
 use mathlib.Core.List.{List, [], ◌∷◌, Memᴰ}
 use mathlib.Core.Logic.{◌⊎◌, inl, inr}
-use mathlib.Core.Option.{none, some}
 use Prim.Native.Nat.{ℕ}
 use native.Mathlib.Omega.{arith}
 use borrow.Author.Tests.{le-ltb}
@@ -72,13 +72,13 @@ module _ (before : ℤ → ℤ → Bool) (o : Ordered before) (itself : (a : ℤ
       go y (inl e) = stays y a bs (rw e (itself a))
       go y (inr m) = none_before a bs y m
 
-pub envelope-is : (zs : List ℤ) (x : Envelope) → envelope_of zs ≡ some x → EnvelopeIs zs x
+pub envelope-is : (zs : List ℤ) (x : Envelope) → envelope_of zs ≡ Some x → EnvelopeIs zs x
 envelope-is [] x e = let z : ◌≡◌ {A = ℕ} 0 1 = cc in absurd (omega arith)
 envelope-is (z ∷ zs) x e =
     let y : Envelope = record { smallest = foremost lower z zs; largest = foremost higher z zs; count = length (z ∷ zs) } in
     let i : y ≡ x = cc in
     rw (← i) (record { smallest = is-foremost lt_z smaller self z zs; largest = is-foremost (λ a b. lt_z b a) larger self z zs; count = refl })
 
-pub none-there : (zs : List ℤ) → envelope_of zs ≡ none → zs ≡ []
+pub none-there : (zs : List ℤ) → envelope_of zs ≡ None → zs ≡ []
 none-there [] e = refl
 none-there (z ∷ zs) e = let z : ◌≡◌ {A = ℕ} 0 1 = cc in absurd (omega arith)

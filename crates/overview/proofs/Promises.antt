@@ -1,9 +1,9 @@
 -- The overview's promises, of every list of bytes: by the definitions of its contracts, and by the library's third demand for a file that was turned.
 -- Assumes nothing.
+use Rattle.std.proofs.Common.{Option, Some, None, Result, Ok, Err}
 use mathlib.Core.Path.{◌≡◌, refl, sym, ap, ◌∙◌}
 use mathlib.Core.Bool.{Bool, true, false, ◌||◌}
 use mathlib.Core.List.{List, [], ◌∷◌, ◌++◌, append_assoc}
-use mathlib.Core.Option.{Option, none, some}
 use Prim.Native.Nat.{ℕ, zero, suc, ◌+◌, ◌*◌, ◌≤◌, ◌<◌}
 use native.Mathlib.Omega.{arith}
 use borrow.Author.Tests.{leb-true, lt-ltb}
@@ -15,26 +15,27 @@ use Rattle.words.specs.Lent.{flat}
 use Rattle.words.specs.Numbers.{Bytes}
 use Rattle.walk.specs.Walk.{pick, Event, Outcome, refused, passed}
 use Rattle.rules.specs.Reading.{ChannelReading, RecordingReading, Reading, reading}
+use Rattle.rules.specs.Reasons.{number_of, refusal_of}
 use Rattle.rules.specs.Rules as R
 use Rattle.rules.specs.declared.Refusal.{Refusal}
-use Rattle.recordings.specs.Answers.{Answer, value, refusal, ◌>>=◌, outside, indexed, numbered}
+use Rattle.recordings.specs.Answers.{Answer, value, refusal, meaning, ◌>>=◌, outside, indexed, numbered}
 use Rattle.questions.specs.Tied.{recording_read, format_in}
-use Rattle.demands.specs.Demands.{of_file, of_question, of_run, refusal_of, Refuses, KeepsRest, TakenApart, Accepted, Same}
-use Rattle.demands.proofs.Demands.{demand-3}
+use Rattle.demands.specs.Demands.{of_file, of_question, of_run, Refuses, KeepsRest, TakenApart, Accepted, Same}
+use Rattle.demands.proofs.Answers.{meaning-one}
+use Rattle.demands.proofs.Boundary.{Meant, by-meaning, either}
+use Rattle.demands.proofs.Demands.{demand-2, demand-3}
 use Rattle.demands.proofs.Refusing.{of-file, proper-outside, short, or_right}
 use Rattle.overview.specs.Flat.{flat_overview, flat_counted, OverviewAnswers, RangeAnswers}
-use Rattle.overview.specs.Overview.{envelope_of, lasts, whole_read, epoch_in, epochs_in, within, numbers, by_reading, overview_of, range_of, meaning, OverviewAnswer}
-use Rattle.overview.specs.Overview.{counted, holding, meaning_r, RangeAnswer}
+use Rattle.overview.specs.Overview.{envelope_of, lasts, whole_read, epoch_in, epochs_in, within, numbers, by_reading, overview_of, range_of, OverviewAnswer}
+use Rattle.overview.specs.Overview.{counted, holding, RangeAnswer}
 use Rattle.overview.specs.Promises.{InEpoch, EpochTells, wrote_c, stopped_c, SameOverviews, Promises}
 use Rattle.overview.specs.declared.Counted.{Counted}
 use Rattle.overview.specs.declared.Envelope.{Envelope}
-use Rattle.overview.specs.declared.OverviewTold.{OverviewTold}
 use Rattle.overview.specs.declared.Overviewed.{Overviewed}
-use Rattle.overview.specs.declared.RangeTold.{RangeTold}
 use Rattle.overview.proofs.Least.{envelope-is, none-there}
 use Rattle.overview.proofs.Read.{apart, judged}
 use Rattle.overview.proofs.Told.{epochs-there}
-use Rattle.overview.proofs.Unique.{one_told, one-ranged, range_unique}
+use Rattle.overview.proofs.Unique.{range_unique}
 
 -- What is asked of a recording, by a test of its seconds: a refusal of a question, or the recording's answer
 
@@ -64,7 +65,7 @@ record Found (s : List ℕ) (i k : ℕ) (test : ℕ → Bool) : Type 0 where
   passes : test (lasts recording) ≡ true
 
 data Sorted {A : Type 0} (s : List ℕ) (i k : ℕ) (test : ℕ → Bool) (f : RecordingReading → A) (x : Answer A) : Type 0 where
-  stopped : (n p : ℕ) → x ≡ refusal n p → Refuses of_question (length s) 0 (refusal_of n p) → Sorted s i k test f x
+  stopped : (n p : ℕ) → x ≡ refusal n p → Refuses of_question (length s) 0 n p → Sorted s i k test f x
   found : (y : Found s i k test) → x ≡ value (f y.recording) → Sorted s i k test f x
 
 module _ {A : Type 0} (s : List ℕ) (i k : ℕ) (test : ℕ → Bool) (f : RecordingReading → A) where
@@ -96,7 +97,7 @@ module _ {A : Type 0} (s : List ℕ) (i k : ℕ) (test : ℕ → Bool) (f : Reco
           by-recording (missing a) = stopped 19 0 (rw a) (proper-outside s)
 
       go : (o : Outcome R.File) → R.judge s ≡ o → Sorted s i k test f (by_reading o (λ g. whole_read g i k >>= ask))
-      go (refused n p) e = stopped n p refl (of-file s of_question 0 (λ m h. rw h) (refusal_of n p) e)
+      go (refused n p) e = stopped n p refl (of-file s of_question 0 (λ m h. rw h) n p e)
       go (passed v l u) e = within-file v u (judged s e)
 
 -- The overview of one epoch
@@ -105,13 +106,13 @@ module _ (s : List ℕ) (i k e : ℕ) where
   sorted-overview : Sorted s i k (ltb (30 * e)) (λ r. epoch_in r k e) (overview_of s i k e)
   sorted-overview = sorted s i k (ltb (30 * e)) (λ r. epoch_in r k e)
 
-  overview-refuses : (r : Refusal) → refusal r.0 r.1 ≡ overview_of s i k e → Refuses of_question (length s) 0 r
-  overview-refuses r h = go sorted-overview
+  overview-refuses : (m q : ℕ) → refusal m q ≡ overview_of s i k e → Refuses of_question (length s) 0 m q
+  overview-refuses m q h = go sorted-overview
     where
-      go : Sorted s i k (ltb (30 * e)) (λ r. epoch_in r k e) (overview_of s i k e) → Refuses of_question (length s) 0 r
+      go : Sorted s i k (ltb (30 * e)) (λ r. epoch_in r k e) (overview_of s i k e) → Refuses of_question (length s) 0 m q
       go (stopped n p j y) =
-          let a : n ≡ r.0 = cc in
-          let b : p ≡ r.1 = cc in
+          let a : n ≡ m = cc in
+          let b : p ≡ q = cc in
           rw (a, b) at y
       go (found y j) = apart (sym j ∙ sym h)
 
@@ -128,14 +129,14 @@ module _ (s : List ℕ) (i k e : ℕ) where
 -- The range of several epochs
 
 -- a question's refusals are a range's, which has 17 besides
-wider : (size need : ℕ) (r : Refusal) → Refuses of_question size 0 r → Refuses of_run size need r
+wider : (size need n p : ℕ) → Refuses of_question size 0 n p → Refuses of_run size need n p
 unfolding R.between
-wider size need r x = record { number = also (of_file r.0) (eqb r.0 19) x.number; nonzero = x.nonzero; file = x.file; maker = x.maker; room = λ e. absurd (no-seventeen (rw e at x.number)); range = x.range }
+wider size need n p x = record { number = also (of_file n) (eqb n 19) x.number; named = x.named; nonzero = x.nonzero; file = x.file; maker = x.maker; room = λ e. absurd (no-seventeen (rw e at x.number)); range = x.range }
   where
     never : false ≡ true → ⊥
     never e = let z : ◌≡◌ {A = ℕ} 0 1 = cc in omega arith
 
-    also : (a c : Bool) → a || c ≡ true → a || (c || eqb r.0 17) ≡ true
+    also : (a c : Bool) → a || c ≡ true → a || (c || eqb n 17) ≡ true
     also true c e = refl
     also false true e = refl
     also false false e = absurd (never e)
@@ -144,8 +145,8 @@ wider size need r x = record { number = also (of_file r.0) (eqb r.0 19) x.number
     no-seventeen e = never e
 
 three : (x : Option Envelope) → length (numbers x) ≡ 3
-three none = refl
-three (some x) = refl
+three None = refl
+three (Some x) = refl
 
 module _ (r : RecordingReading) (k : ℕ) where
   flat-long : (first n : ℕ) → length (flat numbers (epochs_in r k first n)) ≡ 3 * n
@@ -159,15 +160,15 @@ module _ (r : RecordingReading) (k : ℕ) where
 
   -- the numbers of epoch q
   front : (x : Option Envelope) (ys : List ℤ) → take 3 (numbers x ++ ys) ≡ numbers x
-  front none ys = refl
-  front (some x) ys = refl
+  front None ys = refl
+  front (Some x) ys = refl
 
   behind : (x : Option Envelope) (ys : List ℤ) (q : ℕ) → drop (3 * suc q) (numbers x ++ ys) ≡ drop (3 * q) ys
   behind x ys q = let z : 3 * suc q ≡ suc (suc (suc (3 * q))) = omega arith in ap (λ (n : ℕ). drop n (numbers x ++ ys)) z ∙ go x
     where
       go : (x : Option Envelope) → drop (suc (suc (suc (3 * q)))) (numbers x ++ ys) ≡ drop (3 * q) ys
-      go none = refl
-      go (some x) = refl
+      go None = refl
+      go (Some x) = refl
 
   flat-entry : (first n q : ℕ) (rest : List ℤ) → q < n → take 3 (drop (3 * q) (flat numbers (epochs_in r k first n) ++ rest)) ≡ numbers (epoch_in r k (first + q))
   unfolding flat epochs_in
@@ -183,7 +184,7 @@ module _ (r : RecordingReading) (k : ℕ) where
 
 -- what y says is answered, and what the buffer holds afterwards
 data Ranged (s : List ℕ) (i k first n : ℕ) (out out' : List ℤ) (y : Answer ℕ) : Type 0 where
-  halted : (m p : ℕ) → y ≡ refusal m p → Refuses of_run (length s) (3 * n) (refusal_of m p) → out' ≡ out → Ranged s i k first n out out' y
+  halted : (m p : ℕ) → y ≡ refusal m p → Refuses of_run (length s) (3 * n) m p → out' ≡ out → Ranged s i k first n out out' y
   wrote : (z : Found s i k (λ all. within all first n)) → y ≡ value n → 3 * n ≤ length out →
       out' ≡ flat numbers (epochs_in z.recording k first n) ++ drop (3 * n) out → Ranged s i k first n out out' y
 
@@ -194,19 +195,19 @@ module _ (s : List ℕ) (i k first n : ℕ) (out out' : List ℤ) (y : Answer �
       with-room : (z : Found s i k (λ all. within all first n)) (c : Bool) → leb (3 * n) (length out) ≡ c → y ≡ pick c (value n) (refusal 17 (3 * n)) →
           out' ≡ pick c (flat numbers (epochs_in z.recording k first n) ++ drop (3 * n) out) out → Ranged s i k first n out out' y
       with-room z true e h g = wrote z h (leb-true (3 * n) (length out) e) g
-      with-room z false e h g = halted 17 (3 * n) h (short of_run (length s) (3 * n) (refusal_of 17 (3 * n)) (or_right (of_file 17) refl) refl refl) g
+      with-room z false e h g = halted 17 (3 * n) h (short of_run (length s) (3 * n) 17 (3 * n) (or_right (of_file 17) refl) refl refl) g
 
       go : Sorted s i k (λ all. within all first n) (λ r. epochs_in r k first n) (range_of s i k first n) → Ranged s i k first n out out' y
-      go (stopped m p j x) = halted m p (rw j at h) (wider (length s) (3 * n) (refusal_of m p) x) (rw j at g)
+      go (stopped m p j x) = halted m p (rw j at h) (wider (length s) (3 * n) m p x) (rw j at g)
       go (found z j) = with-room z (leb (3 * n) (length out)) refl (rw j at h) (rw j at g)
 
-  range-refuses : (r : Refusal) → y ≡ refusal r.0 r.1 → Refuses of_run (length s) (3 * n) r
-  range-refuses r e = go ranged
+  range-refuses : (u v : ℕ) → y ≡ refusal u v → Refuses of_run (length s) (3 * n) u v
+  range-refuses u v e = go ranged
     where
-      go : Ranged s i k first n out out' y → Refuses of_run (length s) (3 * n) r
+      go : Ranged s i k first n out out' y → Refuses of_run (length s) (3 * n) u v
       go (halted m p j x _) =
-          let a : m ≡ r.0 = cc in
-          let b : p ≡ r.1 = cc in
+          let a : m ≡ u = cc in
+          let b : p ≡ v = cc in
           rw (a, b) at x
       go (wrote z j _ _) = apart (sym j ∙ e)
 
@@ -241,7 +242,7 @@ module _ (s : List ℕ) (i k first n : ℕ) (out out' : List ℤ) (y : Answer �
             }
 
   -- epoch q of the buffer
-  epoch-told : y ≡ value n → (q : ℕ) → q < n → (d : OverviewTold) → OverviewAnswer s i k (first + q) d → EpochTells out' q d
+  epoch-told : y ≡ value n → (q : ℕ) → q < n → (d : Result (Option Envelope) Refusal) → OverviewAnswer s i k (first + q) d → EpochTells out' q d
   epoch-told e q l d x = go ranged
     where
       go : Ranged s i k first n out out' y → EpochTells out' q d
@@ -254,63 +255,29 @@ module _ (s : List ℕ) (i k first n : ℕ) (out out' : List ℤ) (y : Answer �
 
 -- What C is answered: a value or a refusal, taken apart
 
-module _ (s : List ℕ) {E A : Type 0} {meets : E → Type 0} {refuse : Refusal → E} {apart : E → A} {numbers : ℕ → Bool} {need : ℕ} {a : A}
-    (handed : (m q : ℕ) → R.judge s ≡ refused m q → a ≡ apart (refuse (refusal_of m q))) where
-  value-apart : (b : E) → meets b → a ≡ apart b → ((r : Refusal) → b ≡ refuse r → ⊥) → TakenApart s meets refuse apart numbers need 0 0 a
-  value-apart b m e valued = record {
-    told = b;
-    met = m;
-    same = e;
-    handed = handed;
-    answered = λ _. valued;
-    refused = λ l. absurd (omega arith);
-    proper = λ l. absurd (omega arith);
-    rest = λ l. absurd (omega arith);
-  }
+abbrev enveloped : Meant {X = Option Envelope} value refusal (Result (Option Envelope) Refusal) Overviewed
+enveloped = record { meaning = meaning; tell = Ok; refuse = Err; flat = flat_overview; says = λ a. (a.refusal, a.position); tells = λ v. refl; refuses = λ r. refl; zero = zero; named = λ n p. refl }
+  where
+    zero : (v : Option Envelope) → (flat_overview (value v)).refusal ≡ 0
+    zero None = refl
+    zero (Some x) = refl
 
-  refusal-apart : (n p : ℕ) → meets (refuse (refusal_of n p)) → a ≡ apart (refuse (refusal_of n p)) → Refuses numbers (length s) need (refusal_of n p) →
-      TakenApart s meets refuse apart numbers need n p a
-  refusal-apart n p m e h = record {
-    told = refuse (refusal_of n p);
-    met = m;
-    same = e;
-    handed = handed;
-    answered = λ z _ _. omega (arith, h.nonzero);
-    refused = λ _. refl;
-    proper = λ _. h;
-    rest = λ _. e;
-  }
+abbrev epochs : Meant {X = ℕ} value refusal (Result ℕ Refusal) Counted
+epochs = record { meaning = meaning; tell = Ok; refuse = Err; flat = flat_counted; says = λ a. (a.refusal, a.position); tells = λ v. refl; refuses = λ r. refl; zero = λ v. refl; named = λ n p. refl }
 
 module _ (s : List ℕ) (i k : ℕ) where
   overview-apart : (e : ℕ) (a : Overviewed) → OverviewAnswers s i k e a →
-      TakenApart s (OverviewAnswer s i k e) OverviewTold.Refused (λ b. flat_overview (meaning b)) of_question 0 a.refusal a.position a
-  overview-apart e a x = rw x (go (overview_of s i k e) refl)
-    where
-      handed : {y : Answer (Option Envelope)} → overview_of s i k e ≡ y → (m q : ℕ) → R.judge s ≡ refused m q → flat_overview y ≡ flat_overview (refusal m q)
-      handed j m q h = let z : overview_of s i k e ≡ refusal m q = rw h in ap flat_overview (sym j ∙ z)
-
-      go : (y : Answer (Option Envelope)) → overview_of s i k e ≡ y →
-          TakenApart s (OverviewAnswer s i k e) OverviewTold.Refused (λ b. flat_overview (meaning b)) of_question 0 (flat_overview y).refusal (flat_overview y).position (flat_overview y)
-      go (value none) j = value-apart s (handed j) OverviewTold.Empty (sym j) refl (λ r b. let z : ◌≡◌ {A = ℕ} 0 1 = cc in omega arith)
-      go (value (some z)) j = value-apart s (handed j) (OverviewTold.Samples z) (sym j) refl (λ r b. let z : ◌≡◌ {A = ℕ} 0 1 = cc in omega arith)
-      go (refusal n p) j = refusal-apart s (handed j) n p (sym j) refl (overview-refuses s i k e (refusal_of n p) (sym j))
+      TakenApart s (OverviewAnswer s i k e) Err (λ b. flat_overview (meaning b)) of_question 0 a.refusal a.position a
+  overview-apart e a x = by-meaning enveloped s (either (overview_of s i k e)) (λ b h. h) x (λ n p h. rw h) (λ n p h. overview-refuses s i k e n p (sym h))
 
   module _ (first n : ℕ) (out out' : List ℤ) (a : Counted) (x : RangeAnswers s i k first n out out' a) where
     abbrev answered : Answer ℕ
     answered = counted n (length out) (range_of s i k first n)
 
-    range-apart : TakenApart s (RangeAnswer s i k first n out out') RangeTold.Refused (λ b. flat_counted (meaning_r b)) of_run (3 * n) a.refusal a.position a
-    range-apart = rw x.answer (go answered refl)
-      where
-        handed : {y : Answer ℕ} → answered ≡ y → (m q : ℕ) → R.judge s ≡ refused m q → flat_counted y ≡ flat_counted (refusal m q)
-        handed j m q h = let z : answered ≡ refusal m q = rw h in ap flat_counted (sym j ∙ z)
-
-        go : (y : Answer ℕ) → answered ≡ y →
-            TakenApart s (RangeAnswer s i k first n out out') RangeTold.Refused (λ b. flat_counted (meaning_r b)) of_run (3 * n) (flat_counted y).refusal (flat_counted y).position (flat_counted y)
-        go (value m) j = value-apart s (handed j) (RangeTold.Epochs m) (record { answer = sym j; buffer = x.buffer }) refl (λ r b. let z : ◌≡◌ {A = ℕ} 0 1 = cc in omega arith)
-        go (refusal m p) j =
-            refusal-apart s (handed j) m p (record { answer = sym j; buffer = x.buffer }) refl
-            (range-refuses s i k first n out out' answered refl x.buffer (refusal_of m p) j)
+    range-apart : TakenApart s (RangeAnswer s i k first n out out') Err (λ b. flat_counted (meaning b)) of_run (3 * n) a.refusal a.position a
+    range-apart =
+        by-meaning epochs s (either answered) (λ b h. record { answer = h; buffer = x.buffer }) x.answer (λ m p h. rw h)
+        (λ m p h. range-refuses s i k first n out out' answered refl x.buffer m p h)
 
     range-apart-keeps : KeepsRest stopped_c wrote_c 3 out out' a
     range-apart-keeps =
@@ -333,7 +300,7 @@ module _ (s s' : List ℕ) {v : R.File} {t : List Event} (h : Accepted s v t) (y
 
   same-overviews : SameOverviews s s'
   same-overviews = record {
-    overview = λ i k e a b x z. one_told a b x (z ∙ same-overview i k e);
+    overview = λ i k e a b x z. meaning-one a b x (z ∙ same-overview i k e);
     range = λ i k first n out out₁ out₂ a b x z.
         let q = same-range i k first n in
         let w = range_unique s i k first n out out₁ out₂ a b x (record { answer = z.answer ∙ ap (counted n (length out)) q; buffer = z.buffer ∙ ap (λ (u : Answer (List (Option Envelope))). holding n u out) q }) in
@@ -349,18 +316,22 @@ module _ (s s' : List ℕ) {v : R.File} {t : List Event} (h : Accepted s v t) (y
 
 pub promises : (s : List ℕ) → Bytes s → Promises s
 promises s b = record {
-  overview = λ i k e a x r j. overview-refuses s i k e r (ap meaning (sym j) ∙ x);
-  range = λ i k first n out out' a x r j. range-refuses s i k first n out out' (meaning_r a) x.answer x.buffer r (ap meaning_r j);
+  overview = λ i k e a x r j. overview-refuses s i k e (number_of r.0) r.1 (ap meaning (sym j) ∙ x);
+  range = λ i k first n out out' a x r j. range-refuses s i k first n out out' (meaning a) x.answer x.buffer (number_of r.0) r.1 (ap meaning j);
   range_keeps = λ i k first n out out' a x.
-      keeps s i k first n out out' (meaning_r a) x.answer x.buffer RangeTold.Refused RangeTold.Epochs a
-      (λ m p j l e c. apart (sym (ap meaning_r c) ∙ e)) (λ j e c. cc (ap meaning_r c, e)) (λ r e c. apart (sym e ∙ ap meaning_r c));
-  overview_handed = λ n p h i k e a x. one_told a (OverviewTold.Refused (refusal_of n p)) x (rw h);
-  range_handed = λ m p h i k first n out out' a x. one-ranged a (RangeTold.Refused (refusal_of m p)) x.answer (rw h);
+      keeps s i k first n out out' (meaning a) x.answer x.buffer Err Ok a
+      (λ m p j l e c. apart (sym (ap meaning c) ∙ e)) (λ j e c. cc (ap meaning c, e)) (λ r e c. apart (sym e ∙ ap meaning c));
+  overview_handed = λ n p h i k e a x. meaning-one a (Err (refusal_of n p)) x (told h ∙ (rw h));
+  range_handed = λ m p h i k first n out out' a x. meaning-one a (Err (refusal_of m p)) x.answer (told h ∙ (rw h));
   samples = λ i k e x h. in-epoch s i k e h (λ zs j. envelope-is zs x j);
   empty = λ i k e h. in-epoch s i k e h none-there;
-  range_number = λ i k first n out out' a x m j. range-count s i k first n out out' (meaning_r a) x.answer x.buffer m (ap meaning_r j);
+  range_number = λ i k first n out out' a x m j. range-count s i k first n out out' (meaning a) x.answer x.buffer m (ap meaning j);
   agrees = λ i k first n out out' x. epoch-told s i k first n out out' (value n) x.answer x.buffer refl;
   turned = λ v t h free out out' a room x. same-overviews s (take (length s) out') h ((demand-3 s b).turned v t h free out out' a room x);
   boundary_turned = λ v t h free out out' a room x. same-overviews s (take (length s) out') h ((demand-3 s b).boundary_turned v t h free out out' a room x);
   boundary = record { overview = overview-apart s; range = range-apart s; range_keeps = range-apart-keeps s };
 }
+  where
+    -- the rules' refusal, as the code says it
+    told : {A : Type 0} {n p : ℕ} → R.judge s ≡ refused n p → ◌≡◌ {A = Answer A} (refusal (number_of (refusal_of n p).0) p) (refusal n p)
+    told {A} {n} {p} h = ap (λ (m : ℕ). refusal m p) ((demand-2 s b).refuses n p h).named

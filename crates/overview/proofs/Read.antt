@@ -1,6 +1,7 @@
 -- The track of a channel in an accepted file, and what the file's reading has of the channel: its whole numbers in each frame, and so in each epoch, are those
 -- that the bytes have where the track says. By the library's second demand alone.
 -- Assumes nothing.
+use Rattle.std.proofs.Common.{Ok}
 use mathlib.Core.Path.{◌≡◌, refl, sym, ap, ◌∙◌}
 use mathlib.Core.Bool.{Bool, true, false}
 use mathlib.Core.List.{List, [], ◌∷◌, map}
@@ -20,7 +21,6 @@ use Rattle.recordings.specs.Answers.{Answer, value, refusal, outside, indexed, n
 use Rattle.samples.specs.Placed.{part_in, bytes_of, values_at, values_of, place_on}
 use Rattle.samples.specs.declared.Cut.{Cut}
 use Rattle.samples.specs.declared.Place.{Place}
-use Rattle.samples.specs.declared.PlaceTold.TheVariants as PlaceTold
 use Rattle.samples.specs.declared.Track.{Track}
 use Rattle.questions.specs.Tied.{channel_read, samples_read, Alike, values, refusals, format_in, PlaceIs, TrackIs}
 use Rattle.decode.specs.Wide.{Wide}
@@ -123,7 +123,7 @@ pub record Served (s : List ℕ) (g : Reading) (i k : ℕ) (t : Track) : Type 0 
 module _ (s : List ℕ) (g : Reading) (tells : Tells s g) (i k : ℕ) (t : Track) (c : ChannelReading) (read : channel_read g i k ≡ value c) (is : TrackIs s g i k t c) where
   -- in the frame behind m others
   placed : (m : ℕ) → m < t.frames → (vs : List Value) × (samples_read g i (suc m) k ≡ value vs) × PlaceIs s g i k (place_on t (suc m)) vs
-  placed m l = alike-value (tells.place i (suc m) k (PlaceTold.At (place_on t (suc m))) (sym (is.places (suc m) (omega arith) l))) refl
+  placed m l = alike-value (tells.place i (suc m) k (Ok (place_on t (suc m))) (sym (is.places (suc m) (omega arith) l))) refl
 
   pub tracked-in : Tracked (length s) t
   tracked-in = record {

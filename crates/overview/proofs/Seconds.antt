@@ -19,13 +19,6 @@ seconds-low t f s = let k : t.seconds ≤ 4294967295 = omega (arith, s) in omega
 thirty : 0 < 30
 thirty = omega arith
 
-pub times-30 : (e n : ℕ) → leb e (n / 30) ≡ leb (30 * e) n
-times-30 e n = go (leb (30 * e) n) refl
-  where
-    go : (x : Bool) → leb (30 * e) n ≡ x → leb e (n / 30) ≡ leb (30 * e) n
-    go true h = le-leb e (n / 30) ((le-div_iff_mul-le thirty).1 (omega (arith, leb-true (30 * e) n h))) ∙ sym h
-    go false h = lt-leb e (n / 30) ((div-lt_iff_lt-mul thirty).1 (omega (arith, leb-false (30 * e) n h))) ∙ sym h
-
 -- some epochs: by the last of them
 module _ (all first n : ℕ) (some : n ≡ 0 → ⊥) where
   pub within-some : within all first n ≡ ltb (30 * (first + (n - 1))) all
@@ -34,14 +27,6 @@ module _ (all first n : ℕ) (some : n ≡ 0 → ⊥) where
       go : (n : ℕ) → (n ≡ 0 → ⊥) → within all first n ≡ ltb (30 * (first + (n - 1))) all
       go zero h = absurd (h refl)
       go (suc m) h = let e : m ≡ suc m - 1 = omega arith in ap (λ (x : ℕ). ltb (30 * (first + x)) all) e
-
-  pub within_none : all / 30 < first + (n - 1) → within all first n ≡ false
-  within_none h = within-some ∙ le-ltb (30 * (first + (n - 1))) all (omega (arith, (div-lt_iff_lt-mul thirty).0 h))
-
--- so many epochs start in so many seconds
-pub within-few : (all first n : ℕ) → within all first n ≡ true → 30 * n ≤ all + 30
-within-few all first zero h = omega arith
-within-few all first (suc m) h = omega (arith, ltb-true (30 * (first + m)) all h)
 
 -- How many frames start before a second: no more than there are
 

@@ -1,10 +1,11 @@
 -- What the overview and its range are told by the library's question about the track, over the file's reading: a refusal is handed up, and of a track the answer is
 -- what the bytes have where the track says. What both share is said once, of whatever is asked of the recording.
 -- Assumes nothing.
+use Rattle.std.proofs.Common.{Option, Some, None, Result, Ok, Err}
+use Rattle.rules.specs.Reasons.{number_of, refusal_of}
 use mathlib.Core.Path.{◌≡◌, refl, sym, ap, ◌∙◌}
 use mathlib.Core.Bool.{Bool, true, false}
 use mathlib.Core.List.{List, [], ◌∷◌, ◌++◌}
-use mathlib.Core.Option.{Option, none, some}
 use Prim.Native.Nat.{ℕ, zero, suc, ◌+◌, ◌*◌, ◌<◌}
 use native.Mathlib.Omega.{arith}
 use borrow.Author.Tests.{ltb-true}
@@ -19,10 +20,9 @@ use Rattle.rules.specs.Rules as R
 use Rattle.rules.specs.declared.Refusal.{Refusal}
 use Rattle.recordings.specs.Answers.{Answer, value, refusal, ◌>>=◌, outside, numbered}
 use Rattle.samples.specs.declared.Track.{Track}
-use Rattle.samples.specs.declared.TrackTold.{TrackTold}
 use Rattle.questions.specs.Promised.{TrackAnswer}
 use Rattle.questions.specs.Tied.{recording_read, channel_read, format_in, TrackIs}
-use Rattle.demands.specs.Demands.{Accepted, Tells, refusal_of}
+use Rattle.demands.specs.Demands.{Accepted, Tells}
 use Rattle.demands.proofs.Demands.{demand-2}
 use Rattle.overview.specs.Overview.{envelope_of, lasts, whole_read, epoch_in, epochs_in, within, numbers, by_reading, overview_read, overview_of, range_read, range_of}
 use Rattle.overview.specs.Steps.{Tracked, epoch_numbers, numbers_of, shown, epochs_numbers}
@@ -48,8 +48,8 @@ pub epoch-there : (all e : ℕ) → within all e 1 ≡ true → 30 * e < all
 epoch-there all e h = ltb-true (30 * e) all (sym (within-one all e) ∙ h)
 
 numbers-shown : (x : Option Envelope) → numbers x ≡ numbers_of (shown x)
-numbers-shown none = refl
-numbers-shown (some x) = refl
+numbers-shown None = refl
+numbers-shown (Some x) = refl
 
 -- Recording i of a file, whose channel k has whole numbers: what is asked of it
 
@@ -66,14 +66,18 @@ unread g i k f {n} {p} h = go (recording_read g i) h
     go (value r) e = rw e
 
 module _ (s : List ℕ) (b : Bytes s) (i k : ℕ) where
-  handed-up : {A : Type 0} (f : RecordingReading → Answer A) (r : Refusal) → TrackAnswer s i k (TrackTold.Refused r) → refusal r.0 r.1 ≡ asked s i k f
+  handed-up : {A : Type 0} (f : RecordingReading → Answer A) (r : Refusal) → TrackAnswer s i k (Err r) → refusal (number_of r.0) r.1 ≡ asked s i k f
   handed-up f r x = go (R.judge s) refl
     where
-      go : (o : Outcome R.File) → R.judge s ≡ o → refusal r.0 r.1 ≡ by_reading o (λ g. whole_read g i k >>= f)
-      go (refused n p) e = let y : TrackTold.Refused r ≡ TrackTold.Refused (refusal_of n p) = ((demand-2 s b).refuses n p e).track i k (TrackTold.Refused r) x in cc
-      go (passed v l u) e = unread (reading v) i k f (alike-refusal (((demand-2 s b).answers v u (judged s e)).track i k (TrackTold.Refused r) x) refl)
+      go : (o : Outcome R.File) → R.judge s ≡ o → refusal (number_of r.0) r.1 ≡ by_reading o (λ g. whole_read g i k >>= f)
+      go (refused n p) e =
+          let h = (demand-2 s b).refuses n p e in
+          let y : ◌≡◌ {A = Result Track Refusal} (Err r) (Err (refusal_of n p)) = h.track i k (Err r) x in
+          let same : r ≡ refusal_of n p = cc in
+          ap (λ (u : Refusal). refusal (number_of u.0) u.1) same ∙ ap (λ (m : ℕ). refusal m p) h.named
+      go (passed v l u) e = unread (reading v) i k f (alike-refusal (((demand-2 s b).answers v u (judged s e)).track i k (Err r) x) refl)
 
-  module _ (t : Track) (x : TrackAnswer s i k (TrackTold.At t)) where
+  module _ (t : Track) (x : TrackAnswer s i k (Ok t)) where
     -- the file is accepted, and its reading has the channel
     record There : Type 0 where
       file : R.File
@@ -89,12 +93,12 @@ module _ (s : List ℕ) (b : Bytes s) (i k : ℕ) where
       where
         go : (o : Outcome R.File) → R.judge s ≡ o → There
         go (refused n p) e =
-            let y : TrackTold.At t ≡ TrackTold.Refused (refusal_of n p) = ((demand-2 s b).refuses n p e).track i k (TrackTold.At t) x in
+            let y : ◌≡◌ {A = Result Track Refusal} (Ok t) (Err (refusal_of n p)) = ((demand-2 s b).refuses n p e).track i k (Ok t) x in
             let z : ◌≡◌ {A = ℕ} 0 1 = cc in
             absurd (omega arith)
         go (passed v l u) e =
             let a = (demand-2 s b).answers v u (judged s e) in
-            let c = alike-value (a.track i k (TrackTold.At t) x) refl in
+            let c = alike-value (a.track i k (Ok t) x) refl in
             record { file = v; events = u; accepted = judged s e; tells = a; channel = c.0; read = c.1; is = c.2 }
 
     pub tracked : Tracked (length s) t
@@ -136,7 +140,7 @@ module _ (s : List ℕ) (b : Bytes s) (i k : ℕ) where
           (xs : List (Option Envelope)) × (range_of s i k first n ≡ value xs) × (flat numbers xs ≡ epochs_numbers s t first n)
       range-told first n h = (epochs_in of-file.recording k first n, tested (λ all. within all first n) (λ r. epochs_in r k first n) h, in_buffer first n)
 
-  pub range-refused : (first n : ℕ) (r : Refusal) → TrackAnswer s i k (TrackTold.Refused r) → refusal r.0 r.1 ≡ range_of s i k first n
+  pub range-refused : (first n : ℕ) (r : Refusal) → TrackAnswer s i k (Err r) → refusal (number_of r.0) r.1 ≡ range_of s i k first n
   range-refused first n = handed-up (λ r. pick (within (lasts r) first n) (value (epochs_in r k first n)) outside)
 
 -- one epoch is a range of one
@@ -156,10 +160,3 @@ one-range s i k e = go (R.judge s)
     go : (o : Outcome R.File) → by_reading o (λ g. range_read g i k e 1) ≡ (by_reading o (λ g. overview_read g i k e) >>= λ x. value (x ∷ []))
     go (refused n p) = refl
     go (passed v l u) = read (whole_read (reading v) i k)
-
-pub one-refused : (s : List ℕ) (i k e : ℕ) {n p : ℕ} → range_of s i k e 1 ≡ refusal n p → refusal n p ≡ overview_of s i k e
-one-refused s i k e {n} {p} h = go (overview_of s i k e) (sym (one-range s i k e) ∙ h)
-  where
-    go : (a : Answer (Option Envelope)) → (a >>= λ x. value (x ∷ [])) ≡ refusal n p → refusal n p ≡ a
-    go (value x) e = apart e
-    go (refusal m q) e = cc

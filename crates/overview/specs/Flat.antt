@@ -1,7 +1,6 @@
 -- The answers taken apart into numbers for C: the refusal and its position, or 0 and 0; then the values, which are 0 for a refusal and for an empty epoch.
 -- Assumes nothing.
-use Rattle.std.specs.Prelude.{◌≡◌, List, ℕ, ℤ, pos, length}
-use Rattle.std.proofs.Math.Option.{Option, none, some}
+use Rattle.std.specs.Prelude.{◌≡◌, Option, Some, None, List, ℕ, ℤ, pos, length}
 use Rattle.recordings.specs.Answers.{Answer, value, refusal}
 use Rattle.overview.specs.Overview.{overview_of, range_of, counted, holding}
 use Rattle.overview.specs.declared.Counted.{Counted}
@@ -9,8 +8,8 @@ use Rattle.overview.specs.declared.Envelope.{Envelope}
 use Rattle.overview.specs.declared.Overviewed.{Overviewed}
 
 abbrev pub flat_overview : Answer (Option Envelope) → Overviewed
-flat_overview (value (some x)) = record { refusal = 0; position = 0; smallest = x.smallest; largest = x.largest; count = x.count }
-flat_overview (value none) = record { refusal = 0; position = 0; smallest = pos 0; largest = pos 0; count = 0 }
+flat_overview (value (Some x)) = record { refusal = 0; position = 0; smallest = x.smallest; largest = x.largest; count = x.count }
+flat_overview (value None) = record { refusal = 0; position = 0; smallest = pos 0; largest = pos 0; count = 0 }
 flat_overview (refusal n p) = record { refusal = n; position = p; smallest = pos 0; largest = pos 0; count = 0 }
 
 abbrev pub flat_counted : Answer ℕ → Counted

@@ -1,20 +1,18 @@
 -- The thirty-second overview of a channel: the samples of an epoch, the smallest and the largest of them and how many there are, by the file's reading;
 -- what `overview` answers, and what `overview_range` answers and writes.
 -- Assumes nothing.
-use Rattle.std.specs.Prelude.{◌≡◌, Bool, ◌&&◌, List, [], ◌∷◌, ◌++◌, map, ℕ, zero, suc, ◌+◌, ◌*◌, leb, ltb, ℤ, pos, nat_abs, length, drop}
-use Rattle.std.proofs.Math.Option.{Option, none, some}
+use Rattle.std.specs.Prelude.{◌≡◌, Option, Some, None, Result, Bool, ◌&&◌, List, [], ◌∷◌, ◌++◌, map, ℕ, zero, suc, ◌+◌, ◌*◌, leb, ltb, ℤ, pos, nat_abs, length, drop}
 use Rattle.std.specs.Int.Signed.{lt_z}
 use Rattle.words.specs.Lent.{flat}
 use Rattle.walk.specs.Walk.{pick, Outcome, refused, passed}
 use Rattle.rules.specs.Reading.{Value, FrameReading, RecordingReading, Reading, reading}
 use Rattle.rules.specs.Rules as R
-use Rattle.recordings.specs.Answers.{Answer, value, refusal, ◌>>=◌, outside, numbered}
+use Rattle.rules.specs.declared.Refusal.{Refusal}
+use Rattle.recordings.specs.Answers.{Answer, value, refusal, meaning, ◌>>=◌, outside, numbered}
 use Rattle.questions.specs.Tied.{recording_read, format_in}
 use Rattle.runs.specs.Runs.{element_of}
 use Rattle.runs.specs.declared.Sibling.TheVariants as Sibling
 use Rattle.overview.specs.declared.Envelope.{Envelope}
-use Rattle.overview.specs.declared.OverviewTold.{OverviewTold}
-use Rattle.overview.specs.declared.RangeTold.{RangeTold}
 
 -- Samples
 
@@ -31,8 +29,8 @@ foremost f a (b ∷ bs) = foremost f (f a b) bs
 
 -- of some samples, or of none
 abbrev pub envelope_of : List ℤ → Option Envelope
-envelope_of [] = none
-envelope_of (z ∷ zs) = some (record { smallest = foremost lower z zs; largest = foremost higher z zs; count = length (z ∷ zs) })
+envelope_of [] = None
+envelope_of (z ∷ zs) = Some (record { smallest = foremost lower z zs; largest = foremost higher z zs; count = length (z ∷ zs) })
 
 -- An epoch
 
@@ -87,8 +85,8 @@ range_read g i k first n = whole_read g i k >>= λ r. pick (within (lasts r) fir
 
 -- three numbers an epoch: 0 0 0 where it is empty
 abbrev pub numbers : Option Envelope → List ℤ
-numbers none = pos 0 ∷ pos 0 ∷ pos 0 ∷ []
-numbers (some x) = x.smallest ∷ x.largest ∷ pos x.count ∷ []
+numbers None = pos 0 ∷ pos 0 ∷ pos 0 ∷ []
+numbers (Some x) = x.smallest ∷ x.largest ∷ pos x.count ∷ []
 
 -- What the calls do with the file s: its refusal, or what its reading has
 
@@ -99,12 +97,7 @@ by_reading (passed v l t) ask = ask (reading v)
 abbrev pub overview_of : List ℕ → (i k e : ℕ) → Answer (Option Envelope)
 overview_of s i k e = by_reading (R.judge s) (λ g. overview_read g i k e)
 
-abbrev pub meaning : OverviewTold → Answer (Option Envelope)
-meaning (OverviewTold.Samples x) = value (some x)
-meaning OverviewTold.Empty = value none
-meaning (OverviewTold.Refused r) = refusal r.0 r.1
-
-abbrev pub OverviewAnswer : List ℕ → (i k e : ℕ) → OverviewTold → Type 0
+abbrev pub OverviewAnswer : List ℕ → (i k e : ℕ) → Result (Option Envelope) Refusal → Type 0
 OverviewAnswer s i k e a = meaning a ≡ overview_of s i k e
 
 abbrev pub range_of : List ℕ → (i k first n : ℕ) → Answer (List (Option Envelope))
@@ -119,11 +112,7 @@ abbrev pub holding : ℕ → Answer (List (Option Envelope)) → List ℤ → Li
 holding n (refusal m p) out = out
 holding n (value xs) out = pick (leb (3 * n) (length out)) (flat numbers xs ++ drop (3 * n) out) out
 
-abbrev pub meaning_r : RangeTold → Answer ℕ
-meaning_r (RangeTold.Epochs n) = value n
-meaning_r (RangeTold.Refused r) = refusal r.0 r.1
-
-pub record RangeAnswer (s : List ℕ) (i k first n : ℕ) (out out' : List ℤ) (a : RangeTold) : Type 0 where
+pub record RangeAnswer (s : List ℕ) (i k first n : ℕ) (out out' : List ℤ) (a : Result ℕ Refusal) : Type 0 where
   -- the answer, and the buffer afterwards
-  pub answer : meaning_r a ≡ counted n (length out) (range_of s i k first n)
+  pub answer : meaning a ≡ counted n (length out) (range_of s i k first n)
   pub buffer : out' ≡ holding n (range_of s i k first n) out

@@ -1,26 +1,21 @@
 -- What the steps of the overview ask and say, over the bytes of the file and the track of the channel.
 -- Assumes nothing.
-use Rattle.std.specs.Prelude.{◌≡◌, true, List, [], ◌∷◌, ◌++◌, ℕ, zero, suc, ◌+◌, ◌-◌, ◌*◌, ◌/◌, ◌≤◌, ◌<◌, ltb, ℤ, pos, length}
-use Rattle.std.proofs.Math.Option.{Option, none, some}
+use Rattle.std.specs.Prelude.{◌≡◌, Option, Some, None, Result, Ok, Err, true, List, [], ◌∷◌, ◌++◌, ℕ, zero, suc, ◌+◌, ◌-◌, ◌*◌, ◌/◌, ◌≤◌, ◌<◌, ltb, ℤ, pos, length}
 use Rattle.words.specs.Numbers.{Bytes, bytes_at, number_at}
 use Rattle.words.specs.Values.{signed}
 use Rattle.words.specs.declared.Order.{Order}
 use Rattle.walk.specs.Walk.{pick}
+use Rattle.rules.specs.Reasons.{number_of}
 use Rattle.rules.specs.Rules as R
 use Rattle.rules.specs.declared.Refusal.{Refusal}
 use Rattle.recordings.specs.Answers.{refusal}
 use Rattle.samples.specs.declared.Track.{Track}
-use Rattle.samples.specs.declared.TrackTold.{TrackTold}
 use Rattle.questions.specs.Promised.{TrackAnswer}
 use Rattle.decode.specs.Wide.{Wide}
 use Rattle.overview.specs.Overview.{lower, higher, foremost, envelope_of, within, range_of}
 use Rattle.overview.specs.declared.Envelope.{Envelope}
 use Rattle.overview.specs.declared.extremes.Extremes.{Extremes}
 use Rattle.overview.specs.declared.extremes.Bounds.{Bounds}
-
-abbrev pub refusal_track : TrackTold → Refusal
-refusal_track (TrackTold.At t) = record { 0 = 0; 1 = 0 }
-refusal_track (TrackTold.Refused r) = r
 
 -- Numbers in a part of the file
 
@@ -116,27 +111,27 @@ pub record EpochThere (n : ℕ) (t : Track) (e : ℕ) : Type 0 where
 
 -- an envelope in numbers: 0 0 0 where there is none
 abbrev pub shown : Option Envelope → Envelope
-shown none = record { smallest = pos 0; largest = pos 0; count = 0 }
-shown (some x) = x
+shown None = record { smallest = pos 0; largest = pos 0; count = 0 }
+shown (Some x) = x
 
 -- r is that of the epoch, and its count has a place in 63 bits
-pub record EpochIs (s : List ℕ) (t : Track) (e : ℕ) (r : Envelope) : Type 0 where
-  pub is : r ≡ shown (envelope_of (epoch_numbers s t e))
-  pub small : r.count < 9223372036854775808
+pub record EpochIs (s : List ℕ) (t : Track) (e : ℕ) (r : Option Envelope) : Type 0 where
+  pub is : r ≡ envelope_of (epoch_numbers s t e)
+  pub small : (shown r).count < 9223372036854775808
 
 -- the epochs asked for, n from the first on, of a channel with this track: its samples are whole numbers, and the epochs are inside
 pub record EpochsIn (s : List ℕ) (i k first n : ℕ) (t : Track) : Type 0 where
   -- the file is bytes, and this is the track that the library answers
   pub bytes : Bytes s
-  pub answer : TrackAnswer s i k (TrackTold.At t)
+  pub answer : TrackAnswer s i k (Ok t)
   pub whole : R.between 1 3 t.format ≡ true
   pub inside : within (t.frames * t.seconds) first n ≡ true
   -- F times T has its place in 64 bits
   pub low : t.frames * t.seconds ≤ 18446744065119617025
 
-abbrev pub EpochsFoundAs : List ℕ → (i k first n : ℕ) → TrackTold → Type 0
-EpochsFoundAs s i k first n (TrackTold.At t) = EpochsIn s i k first n t
-EpochsFoundAs s i k first n (TrackTold.Refused r) = range_of s i k first n ≡ refusal r.0 r.1
+abbrev pub EpochsFoundAs : List ℕ → (i k first n : ℕ) → Result Track Refusal → Type 0
+EpochsFoundAs s i k first n (Ok t) = EpochsIn s i k first n t
+EpochsFoundAs s i k first n (Err r) = range_of s i k first n ≡ refusal (number_of r.0) r.1
 
 -- Numbers in a buffer
 

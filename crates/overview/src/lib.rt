@@ -7,14 +7,15 @@ pub mod extremes;
 ghost use Rattle.std.specs.Prelude.{◌≡◌, ◌++◌, ◌+◌, ◌-◌, ◌*◌, ◌/◌, length, drop};
 ghost use Rattle.std.proofs.lemmas.List.Edits.{sets};
 ghost use Rattle.rules.specs.Rules as R;
-ghost use Rattle.overview.specs.Overview.{within, meaning, meaning_r, OverviewAnswer, RangeAnswer};
-ghost use Rattle.overview.specs.Steps.{refusal_track, extremes_of, frame_numbers, frames_numbers, FrameThere, FramesThere};
+ghost use Rattle.recordings.specs.Answers.{meaning};
+ghost use Rattle.overview.specs.Overview.{within, OverviewAnswer, RangeAnswer};
+ghost use Rattle.overview.specs.Steps.{extremes_of, frame_numbers, frames_numbers, FrameThere, FramesThere};
 ghost use Rattle.overview.specs.Steps.{started_by, Second, EpochThere, EpochIs, EpochsFoundAs, numbers_of, Puts, EpochsThere, epochs_numbers};
 ghost use Rattle.overview.specs.Flat.{flat_overview, flat_counted, OverviewAnswers, RangeAnswers};
 
 use crate::extremes::{Extremes, of_both, of_pair, of_part};
-use rules::Refusal;
-use samples::{Track, TrackTold};
+use rules::{Reason, Refusal};
+use samples::Track;
 
 // An epoch: its seconds, and the numbers that a range has of one.
 #[derive(Clone, Copy)]
@@ -34,27 +35,12 @@ pub struct Envelope {
     pub count: usize,
 }
 
-#[derive(Clone, Copy)]
-pub enum OverviewTold {
-    Samples(Envelope),
-    Empty,
-    Refused(Refusal),
-}
-
-// How many epochs were written, or the refusal.
-#[derive(Clone, Copy)]
-pub enum RangeTold {
-    Epochs(usize),
-    Refused(Refusal),
-}
-
-fn of_track(a: TrackTold) -> Refusal
-    ensures { result ≡ refusal_track a }
-{
-    match a {
-        TrackTold::At(_) => Refusal(0, 0),
-        TrackTold::Refused(r) => r,
-    }
+impl Envelope {
+    pub const EMPTY: Envelope = Envelope {
+        smallest: 0,
+        largest: 0,
+        count: 0,
+    };
 }
 
 // Whether a channel of this format has whole numbers.
@@ -144,45 +130,39 @@ fn of_frames(file: &[u8], t: Track, n: u64, end: u64) -> Extremes
     ensures { result ≡ extremes_of (frames_numbers file.now t n (end - n)) }
 {
     let mut x = of_frame(file, t, n);
-    let mut j = n + 1;
-    while j < end - 1 {
-        let y = of_two_frames(file, t, j);
+    for i in 0..(end - n - 1) / 2 {
+        let y = of_two_frames(file, t, n + 1 + 2 * i);
         x = of_both(x, y);
-        j += 2;
     }
-    if j < end {
-        let y = of_frame(file, t, j);
+    let left = (end - n) % 2 == 0;
+    if left {
+        let y = of_frame(file, t, end - 1);
         x = of_both(x, y);
     }
     x
 }
 
-// The samples of an epoch; 0 0 0 where there are none.
-fn epoch_of(file: &[u8], t: Track, epoch: usize) -> Envelope
+// The samples of an epoch, if it has any.
+fn epoch_of(file: &[u8], t: Track, epoch: usize) -> Option<Envelope>
     requires { EpochThere (length file.now) t epoch }
     ensures { EpochIs file.now t epoch result }
 {
     let second = Epoch::SECONDS * epoch as u64;
     let first = started_by(t, second);
     let end = started_by(t, second + Epoch::SECONDS);
-    let none = Envelope {
-        smallest: 0,
-        largest: 0,
-        count: 0,
-    };
     let place = t.first;
     if place.count == 0 {
-        return none;
+        return None;
     }
     if end <= first {
-        return none;
+        return None;
     }
     let x = of_frames(file, t, first, end);
-    Envelope {
-        smallest: x.smallest as i64,
-        largest: x.largest as i64,
+    Some(Envelope {
+        smallest: i64::from(x.smallest),
+        largest: i64::from(x.largest),
         count: place.count * (end - first) as usize,
-    }
+    })
 }
 
 // The track of a channel of whole numbers, where so many epochs from the first on are inside.
@@ -192,35 +172,30 @@ fn epochs_asked(
     channel: usize,
     first: usize,
     number: usize,
-) -> TrackTold
+) -> Result<Track, Refusal>
     ensures { EpochsFoundAs file.now recording channel first number result }
 {
-    let told = questions::track(file, recording, channel);
-    let TrackTold::At(t) = told else {
-        return told;
-    };
+    let t = questions::track(file, recording, channel)?;
     if !is_whole(t.format) {
-        return TrackTold::Refused(Refusal(19, 0));
+        return Err(Refusal(Reason::Range, 0));
     }
     if !is_inside(t, first, number) {
-        return TrackTold::Refused(Refusal(19, 0));
+        return Err(Refusal(Reason::Range, 0));
     }
-    told
+    Ok(t)
 }
 
-// The overview of one epoch of a channel.
-pub fn overview(file: &[u8], recording: usize, channel: usize, epoch: usize) -> OverviewTold
+// The overview of one epoch of a channel, if it has samples.
+pub fn overview(
+    file: &[u8],
+    recording: usize,
+    channel: usize,
+    epoch: usize,
+) -> Result<Option<Envelope>, Refusal>
     ensures { OverviewAnswer file.now recording channel epoch result }
 {
-    let found = epochs_asked(file, recording, channel, epoch, 1);
-    let TrackTold::At(t) = found else {
-        return OverviewTold::Refused(of_track(found));
-    };
-    let x = epoch_of(file, t, epoch);
-    if x.count == 0 {
-        return OverviewTold::Empty;
-    }
-    OverviewTold::Samples(x)
+    let t = epochs_asked(file, recording, channel, epoch, 1)?;
+    Ok(epoch_of(file, t, epoch))
 }
 
 // The three numbers of an epoch, from index `at` on.
@@ -241,17 +216,13 @@ fn put_all(file: &[u8], t: Track, first: usize, number: usize, out: &mut [i64])
     requires { EpochsThere (length file.now) t first number out.old }
     ensures { out.new ≡ epochs_numbers file.now t first number ++ drop (3 * number) out.old }
 {
-    let mut q = 0;
-    let mut at = 0;
-    while q < number {
-        let x = epoch_of(file, t, first + q);
-        put(x, out, at);
-        at += Epoch::NUMBERS;
-        q += 1;
+    for q in 0..number {
+        let x = epoch_of(file, t, first + q).unwrap_or(Envelope::EMPTY);
+        put(x, out, Epoch::NUMBERS * q);
     }
 }
 
-// The overview of several epochs of a channel: three numbers each, 0 0 0 where one is empty.
+// The overview of several epochs of a channel, and how many were written: three numbers each, 0 0 0 where one is empty.
 pub fn overview_range(
     file: &[u8],
     recording: usize,
@@ -259,19 +230,16 @@ pub fn overview_range(
     first: usize,
     number: usize,
     out: &mut [i64],
-) -> RangeTold
+) -> Result<usize, Refusal>
     ensures { RangeAnswer file.now recording channel first number out.old out.new result }
 {
-    let found = epochs_asked(file, recording, channel, first, number);
-    let TrackTold::At(t) = found else {
-        return RangeTold::Refused(of_track(found));
-    };
+    let t = epochs_asked(file, recording, channel, first, number)?;
     let need = Epoch::NUMBERS * number;
     if out.len() < need {
-        return RangeTold::Refused(Refusal(17, need));
+        return Err(Refusal(Reason::Room, need));
     }
     put_all(file, t, first, number, out);
-    RangeTold::Epochs(number)
+    Ok(number)
 }
 
 // What C and Rust call, by crate `overview_c`: the refusal and its position, or 0 and 0; then the values, which are 0 for a refusal and for an empty epoch.
@@ -294,26 +262,22 @@ pub struct Counted {
     pub count: u64,
 }
 
-fn overview_apart(a: OverviewTold) -> Overviewed
+fn overview_apart(a: Result<Option<Envelope>, Refusal>) -> Overviewed
     ensures { result ≡ flat_overview (meaning a) }
 {
     match a {
-        OverviewTold::Samples(x) => Overviewed {
-            refusal: 0,
-            position: 0,
-            smallest: x.smallest,
-            largest: x.largest,
-            count: x.count as u64,
-        },
-        OverviewTold::Empty => Overviewed {
-            refusal: 0,
-            position: 0,
-            smallest: 0,
-            largest: 0,
-            count: 0,
-        },
-        OverviewTold::Refused(r) => Overviewed {
-            refusal: r.0,
+        Ok(found) => {
+            let x = found.unwrap_or(Envelope::EMPTY);
+            Overviewed {
+                refusal: 0,
+                position: 0,
+                smallest: x.smallest,
+                largest: x.largest,
+                count: x.count as u64,
+            }
+        }
+        Err(r) => Overviewed {
+            refusal: r.0.number(),
             position: r.1 as u64,
             smallest: 0,
             largest: 0,
@@ -322,17 +286,17 @@ fn overview_apart(a: OverviewTold) -> Overviewed
     }
 }
 
-fn range_apart(a: RangeTold) -> Counted
-    ensures { result ≡ flat_counted (meaning_r a) }
+fn range_apart(a: Result<usize, Refusal>) -> Counted
+    ensures { result ≡ flat_counted (meaning a) }
 {
     match a {
-        RangeTold::Epochs(n) => Counted {
+        Ok(n) => Counted {
             refusal: 0,
             position: 0,
             count: n as u64,
         },
-        RangeTold::Refused(r) => Counted {
-            refusal: r.0,
+        Err(r) => Counted {
+            refusal: r.0.number(),
             position: r.1 as u64,
             count: 0,
         },

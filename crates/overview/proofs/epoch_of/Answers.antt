@@ -6,8 +6,9 @@ use native.Mathlib.Nat.{zero-mul, mul-zero}
 use native.Mathlib.Omega.{arith}
 use borrow.Author.Rules.{rules}
 use mir.Facts.{to_z-of_z, sfits_widen}
-use mir.Syntax.{w32}
-use mir.Val.{SFits}
+use lib.IntN.{ℤ}
+use mir.Syntax.{w32, w64}
+use mir.Val.{SFits, to_z, of_z}
 use Rattle.overview.specs.Steps.{started_by}
 use Rattle.overview.proofs.Epochs.{count_low, epoch-none, epoch-some}
 use Rattle.overview.proofs.Foremost.{recast}
@@ -15,7 +16,7 @@ use Rattle.overview.proofs.Seconds.{seconds-low, started-few}
 use Rattle.overview.proofs.epoch_of.Goals as goal
 use Rattle.overview.proofs.epoch_of.Goals.{After-of_frames-x, Else-end-first}
 
-started : (c : goal.After-struct_known-4-1) → c.started_by-first.result ≡ started_by c.args.t (30 * c.args.epoch)
+started : (c : goal.After-struct_known-2-1) → c.started_by-first.result ≡ started_by c.args.t (30 * c.args.epoch)
 started c = c.started_by-first.ensures
 
 ended : (c : Else-end-first) → c.started_by-end.result ≡ started_by c.args.t (30 * c.args.epoch + 30)
@@ -27,7 +28,7 @@ samples c = omega (arith, c.if-place-eq0.false)
 last : (c : Else-end-first) → c.started_by-end.result ≤ c.args.t.frames
 last c = omega (arith, ended c, started-few c.args.t (30 * c.args.epoch + 30))
 
-frames-fit : (z : goal.After-struct_known-4-1) → z.args.t.frames < 2 ^ 32
+frames-fit : (z : goal.After-struct_known-2-1) → z.args.t.frames < 2 ^ 32
 frames-fit z = search rules
 
 -- the answer of the frames, in 64 bits
@@ -36,18 +37,6 @@ smallest-fits c = search rules
 
 largest-fits : (c : After-of_frames-x) → SFits w32 c.of_frames-x.result.largest
 largest-fits c = search rules
-
-pub overflow_mul-second : goal.overflow_mul-second
-overflow_mul-second c = record { fits = omega (arith, seconds-low c.args.t (search rules) (search rules), c.requires.there) }
-
-pub started_by-first-requires : goal.started_by-first-requires
-started_by-first-requires c = record { some = c.requires.tracked.some; low = omega (arith, c.requires.there) }
-
-pub overflow_add-second : goal.overflow_add-second
-overflow_add-second c = record { fits = omega (arith, seconds-low c.args.t (search rules) (search rules), c.requires.there) }
-
-pub started_by-end-requires : goal.started_by-end-requires
-started_by-end-requires c = record { some = c.requires.tracked.some; low = omega (arith, c.requires.there) }
 
 pub returns-then-place-eq0 : goal.returns-then-place-eq0
 returns-then-place-eq0 c =
@@ -65,12 +54,6 @@ returns-then-end-first c =
 pub of_frames-x-requires : goal.of_frames-x-requires
 of_frames-x-requires c = record { tracked = c.requires.tracked; samples = samples c; first = c.if-end-first.false; last = last c }
 
-pub overflow_cast-result : goal.overflow_cast-result
-overflow_cast-result c = let f = smallest-fits (goal.at.overflow_cast-result c).After-of_frames-x in rw (to_z-of_z f) (sfits_widen tt f)
-
-pub overflow_cast-result-2 : goal.overflow_cast-result-2
-overflow_cast-result-2 c = let f = largest-fits (goal.at.overflow_cast-result-2 c).After-of_frames-x in rw (to_z-of_z f) (sfits_widen tt f)
-
 pub overflow_mul-result : goal.overflow_mul-result
 overflow_mul-result c =
     let m : ℕ = c.started_by-end.result - c.started_by-first.result in
@@ -80,4 +63,4 @@ pub returns : goal.returns
 returns c =
     let f = smallest-fits (goal.at.returns c).After-of_frames-x in
     let g = largest-fits (goal.at.returns c).After-of_frames-x in
-    epoch-some _ _ _ _ _ (started c) (ended (goal.at.returns c).Else-end-first) (samples (goal.at.returns c).Else-end-first) c.if-end-first.false c.requires.tracked.few (frames-fit c) c.of_frames-x.result c.of_frames-x.ensures _ (recast f) (recast g) refl
+    epoch-some _ _ _ _ _ (started c) (ended (goal.at.returns c).Else-end-first) (samples (goal.at.returns c).Else-end-first) c.if-end-first.false c.requires.tracked.few (frames-fit c) c.of_frames-x.result c.of_frames-x.ensures _ (ap (λ (z : ℤ). to_z w64 (of_z w64 z)) c.from.ensures ∙ recast f) (ap (λ (z : ℤ). to_z w64 (of_z w64 z)) c.from-2.ensures ∙ recast g) refl
