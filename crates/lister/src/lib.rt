@@ -23,6 +23,7 @@ pub fn read_full<R: Read>(from: &mut R, buf: &mut [u8]) -> io::Result<usize>
     ensures err { OnErr result ((n : ℕ) × Consumes (R.remaining from.old) (R.remaining from.new) (take n buf.new)) }
 {
     let mut done = 0;
+    // How many reads it takes is the reader's to say.
     while done < buf.len() {
         let n = from.read(&mut buf[done..])?;
         if n == 0 {

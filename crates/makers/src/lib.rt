@@ -25,6 +25,7 @@ fn in_body(o: Order, s: &[u8], base: usize) -> Option<usize>
     ensures { OfBody o base s.now (First result) }
 {
     let mut p: usize = 0;
+    // From record to record by their lengths: there is no count.
     loop {
         let (h, end) = children::record_at(o, s, base, p)?;
         if records::makers::maker_code(h.code) {

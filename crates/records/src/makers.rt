@@ -30,6 +30,7 @@ pub fn next_head(
     ensures { NextHead o label base s.now from result }
 {
     let mut p = from;
+    // From record to record by their lengths: there is no count.
     loop {
         let h = head_at(o, s, base, p)?;
         if !maker_code(h.code) {

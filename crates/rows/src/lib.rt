@@ -170,24 +170,22 @@ fn body_rows(o: Order, s: &[u8], base: usize, out: &mut [i64], k: usize, write: 
 {
     let mut p: usize = 0;
     let mut next = k;
-    loop {
-        let Some((h, end)) = children::record_at(o, s, base, p) else {
-            if s.len() < p + Delimiter::LENGTH {
-                return next;
-            }
-            return put(
-                out,
-                next,
-                write,
-                base + p,
-                Delimiter::LENGTH,
-                Delimiter::CODE,
-                0,
-            );
-        };
+    while let Some((h, end)) = children::record_at(o, s, base, p) {
         next = record_rows(o, s, base, h, end, out, next, write);
         p = end;
     }
+    if s.len() < p + Delimiter::LENGTH {
+        return next;
+    }
+    put(
+        out,
+        next,
+        write,
+        base + p,
+        Delimiter::LENGTH,
+        Delimiter::CODE,
+        0,
+    )
 }
 
 // The rows of the recording at byte p of the file.

@@ -16,8 +16,8 @@ returns-then-s-p c =
     let v = unrecorded c.in_default.is c.record_at.ensures in
     record { reaches = omega arith; wrote = λ label held h x e n g. listed-short w.inside (w.listed label held h x e n g) v c.if-s-p.true }
 
-pub returns-in_default : goal.returns-in_default
-returns-in_default c =
+pub returns : goal.returns
+returns c =
     let w = c.loop-h.invariant in
     let v = unrecorded c.in_default.is c.record_at.ensures in
     let u = c.put.ensures in
