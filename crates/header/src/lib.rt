@@ -164,7 +164,10 @@ pub fn file_header(s: &[u8]) -> Result<FileHeader, Refusal>
     if !form_ok(version, form) {
         return Err(Refusal(Reason::Form, FileHeader::FORM));
     }
-    let order = order_of(byte(s, FileHeader::ORDER)).ok_or(Refusal(Reason::Order, FileHeader::ORDER))?;
+    let order = order_of(byte(s, FileHeader::ORDER)).ok_or(Refusal(
+        Reason::Order,
+        FileHeader::ORDER,
+    ))?;
     let script = byte(s, FileHeader::SCRIPT);
     if !script_ok(version, script) {
         return Err(Refusal(Reason::Script, FileHeader::SCRIPT));
