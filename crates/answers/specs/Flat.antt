@@ -1,6 +1,7 @@
 -- Answers taken apart into numbers. Whatever a refusal does not say is 0.
 -- Assumes nothing.
-use Rattle.std.specs.Prelude.{◌≡◌, List, ℕ, pos, length, get_or}
+use Rattle.rules.specs.declared.Refusal.{Refusal}
+use Rattle.std.specs.Prelude.{Result, ◌≡◌, List, ℕ, pos, length, get_or}
 use Rattle.words.specs.Floats.{bits_of}
 use Rattle.words.specs.Numbers.{letter_of}
 use Rattle.walk.specs.Walk.{Outcome, refused, passed}
@@ -8,7 +9,7 @@ use Rattle.rules.specs.Rules as R
 use Rattle.rules.specs.declared.Spelling.{Spelling}
 use Rattle.table.specs.Table as Table
 use Rattle.permit.specs.Permit as Permit
-use Rattle.recordings.specs.Answers.{Answer, value, refusal}
+use Rattle.recordings.specs.Answers.{Answer, value, refusal, meaning}
 use Rattle.recordings.specs.declared.Counts.{Counts}
 use Rattle.codes.specs.declared.EventKind.{EventKind}
 use Rattle.samples.specs.declared.Number.{Number}
@@ -55,6 +56,16 @@ counted_rows (Table.refusal n p) = stopped n p
 abbrev pub counted_bytes : Permit.Answer → Counted
 counted_bytes (Permit.bytes n) = counted n
 counted_bytes (Permit.refusal n p) = stopped n p
+
+abbrev pub flat_count : Answer ℕ → Counted
+flat_count (value n) = counted n
+flat_count (refusal n p) = stopped n p
+
+-- x is the answer a about rows, bytes or other things that were counted
+pub record CountedAs (a : Result ℕ Refusal) (x : Counted) : Type 0 where
+  pub values : x ≡ flat_count (meaning a)
+  pub bytes : x ≡ counted_bytes (Permit.meaning a)
+  pub rows : x ≡ counted_rows (Table.meaning a)
 
 -- the letters of the order and of the script, and K
 abbrev pub headed : ℕ → ℕ → ℕ → Header
@@ -167,10 +178,6 @@ flat_item (refusal n p) = record { refusal = n; position = p; code = pos 0; text
 abbrev pub flat_clock : Answer Time → Clock
 flat_clock (value x) = record { refusal = 0; position = 0; hour = x.hour; minute = x.minute; second = x.second }
 flat_clock (refusal n p) = record { refusal = n; position = p; hour = 0; minute = 0; second = 0 }
-
-abbrev pub flat_count : Answer ℕ → Counted
-flat_count (value n) = counted n
-flat_count (refusal n p) = stopped n p
 
 abbrev pub flat_place : Answer Found.Place → Place
 flat_place (value p) = record { refusal = 0; position = 0; start = p.position; width = p.width; count = p.count }

@@ -5,11 +5,9 @@ ghost use Rattle.std.specs.Prelude.{◌≡◌};
 ghost use Rattle.words.specs.Floats.{bits_of};
 ghost use Rattle.words.specs.Numbers.{letter_of};
 ghost use Rattle.words.specs.Values.{unsigned};
-ghost use Rattle.permit.specs.Permit as Permit;
 ghost use Rattle.rules.specs.Reasons.{number_of};
-ghost use Rattle.table.specs.Table as Table;
 ghost use Rattle.recordings.specs.Answers.{value, refusal, meaning};
-ghost use Rattle.answers.specs.Flat.{counted, stopped, counted_rows, counted_bytes, headed, unheaded};
+ghost use Rattle.answers.specs.Flat.{counted, stopped, CountedAs, headed, unheaded};
 ghost use Rattle.answers.specs.Flat.{spelling_number, flat_heading, flat_facts, patterns_of, flat_channel, flat_montage};
 ghost use Rattle.answers.specs.Flat.{flat_item, flat_clock, flat_count, flat_place, flat_track, flat_part, flat_sample};
 ghost use Rattle.answers.specs.Flat.{kind_number, flat_kind};
@@ -274,21 +272,23 @@ fn heading_told(x: HeaderValues) -> Heading
     }
 }
 
-pub fn heading_of(a: Result<HeaderValues, Refusal>) -> Heading
-    ensures { result ≡ flat_heading (meaning a) }
-{
-    match a {
-        Ok(x) => heading_told(x),
-        Err(r) => Heading {
-            refusal: r.0.number(),
-            position: r.1 as u64,
-            spelling: 0,
-            version: 0,
-            form: 0,
-            order: 0,
-            script: 0,
-            recordings: 0,
-        },
+impl From<Result<HeaderValues, Refusal>> for Heading {
+    ghost from_gives = { λ a x. x ≡ flat_heading (meaning a) };
+
+    fn from(a: Result<HeaderValues, Refusal>) -> Heading {
+        match a {
+            Ok(x) => heading_told(x),
+            Err(r) => Heading {
+                refusal: r.0.number(),
+                position: r.1 as u64,
+                spelling: 0,
+                version: 0,
+                form: 0,
+                order: 0,
+                script: 0,
+                recordings: 0,
+            },
+        }
     }
 }
 
@@ -312,24 +312,26 @@ fn word(z: i32) -> u32
     4294967295 - ((-1 - z) as u32)
 }
 
-pub fn facts_of(a: Result<Counts, Refusal>) -> Facts
-    ensures { result ≡ flat_facts (meaning a) }
-{
-    match a {
-        Ok(x) => Facts {
-            refusal: 0,
-            position: 0,
-            channels: x.channels,
-            frames: x.frames,
-            seconds: x.seconds,
-        },
-        Err(r) => Facts {
-            refusal: r.0.number(),
-            position: r.1 as u64,
-            channels: 0,
-            frames: 0,
-            seconds: 0,
-        },
+impl From<Result<Counts, Refusal>> for Facts {
+    ghost from_gives = { λ a x. x ≡ flat_facts (meaning a) };
+
+    fn from(a: Result<Counts, Refusal>) -> Facts {
+        match a {
+            Ok(x) => Facts {
+                refusal: 0,
+                position: 0,
+                channels: x.channels,
+                frames: x.frames,
+                seconds: x.seconds,
+            },
+            Err(r) => Facts {
+                refusal: r.0.number(),
+                position: r.1 as u64,
+                channels: 0,
+                frames: 0,
+                seconds: 0,
+            },
+        }
     }
 }
 
@@ -421,21 +423,25 @@ fn channel_refused(r: Refusal) -> Channel
     }
 }
 
-pub fn channel_of(a: Result<Descriptor, Refusal>) -> Channel
-    ensures { result ≡ flat_channel (meaning a) }
-{
-    match a {
-        Ok(x) => channel_told(x),
-        Err(r) => channel_refused(r),
+impl From<Result<Descriptor, Refusal>> for Channel {
+    ghost from_gives = { λ a x. x ≡ flat_channel (meaning a) };
+
+    fn from(a: Result<Descriptor, Refusal>) -> Channel {
+        match a {
+            Ok(x) => channel_told(x),
+            Err(r) => channel_refused(r),
+        }
     }
 }
 
-pub fn montage_count_of(a: Result<u32, Refusal>) -> Counted
-    ensures { result ≡ flat_count (meaning a) }
-{
-    match a {
-        Ok(n) => answered(n as usize),
-        Err(r) => refused(r),
+impl From<Result<u32, Refusal>> for Counted {
+    ghost from_gives = { λ a x. x ≡ flat_count (meaning a) };
+
+    fn from(a: Result<u32, Refusal>) -> Counted {
+        match a {
+            Ok(n) => answered(n as usize),
+            Err(r) => refused(r),
+        }
     }
 }
 
@@ -450,91 +456,99 @@ fn montage_told(x: Wired) -> Montage
     }
 }
 
-pub fn montage_of(a: Result<Wired, Refusal>) -> Montage
-    ensures { result ≡ flat_montage (meaning a) }
-{
-    match a {
-        Ok(x) => montage_told(x),
-        Err(r) => Montage {
-            channel: channel_refused(r),
-            g1: 0,
-            g2: 0,
-        },
+impl From<Result<Wired, Refusal>> for Montage {
+    ghost from_gives = { λ a x. x ≡ flat_montage (meaning a) };
+
+    fn from(a: Result<Wired, Refusal>) -> Montage {
+        match a {
+            Ok(x) => montage_told(x),
+            Err(r) => Montage {
+                channel: channel_refused(r),
+                g1: 0,
+                g2: 0,
+            },
+        }
     }
 }
 
-pub fn item_of(a: Result<Entry, Refusal>) -> Item
-    ensures { result ≡ flat_item (meaning a) }
-{
-    match a {
-        Ok(x) => Item {
-            refusal: 0,
-            position: 0,
-            code: x.code,
-            text: x.text.at as u64,
-            text_length: x.text.length as u64,
-        },
-        Err(r) => Item {
-            refusal: r.0.number(),
-            position: r.1 as u64,
-            code: 0,
-            text: 0,
-            text_length: 0,
-        },
+impl From<Result<Entry, Refusal>> for Item {
+    ghost from_gives = { λ a x. x ≡ flat_item (meaning a) };
+
+    fn from(a: Result<Entry, Refusal>) -> Item {
+        match a {
+            Ok(x) => Item {
+                refusal: 0,
+                position: 0,
+                code: x.code,
+                text: x.text.at as u64,
+                text_length: x.text.length as u64,
+            },
+            Err(r) => Item {
+                refusal: r.0.number(),
+                position: r.1 as u64,
+                code: 0,
+                text: 0,
+                text_length: 0,
+            },
+        }
     }
 }
 
-pub fn clock_of(a: Result<Time, Refusal>) -> Clock
-    ensures { result ≡ flat_clock (meaning a) }
-{
-    match a {
-        Ok(x) => Clock {
-            refusal: 0,
-            position: 0,
-            hour: x.hour,
-            minute: x.minute,
-            second: x.second,
-        },
-        Err(r) => Clock {
-            refusal: r.0.number(),
-            position: r.1 as u64,
-            hour: 0,
-            minute: 0,
-            second: 0,
-        },
+impl From<Result<Time, Refusal>> for Clock {
+    ghost from_gives = { λ a x. x ≡ flat_clock (meaning a) };
+
+    fn from(a: Result<Time, Refusal>) -> Clock {
+        match a {
+            Ok(x) => Clock {
+                refusal: 0,
+                position: 0,
+                hour: x.hour,
+                minute: x.minute,
+                second: x.second,
+            },
+            Err(r) => Clock {
+                refusal: r.0.number(),
+                position: r.1 as u64,
+                hour: 0,
+                minute: 0,
+                second: 0,
+            },
+        }
     }
 }
 
 // How many rows, bytes, entries or samples were written.
-pub fn counted_of(a: Result<usize, Refusal>) -> Counted
-    ensures values { result ≡ flat_count (meaning a) }
-    ensures bytes { result ≡ counted_bytes (Permit.meaning a) }
-    ensures rows { result ≡ counted_rows (Table.meaning a) }
-{
-    match a {
-        Ok(n) => answered(n),
-        Err(r) => refused(r),
+impl From<Result<usize, Refusal>> for Counted {
+    ghost from_gives = { λ a x. CountedAs a x };
+
+    fn from(a: Result<usize, Refusal>) -> Counted {
+        match a {
+            Ok(n) => answered(n),
+            Err(r) => refused(r),
+        }
     }
 }
 
-pub fn place_of(a: Result<PlaceValues, Refusal>) -> Place
-    ensures { result ≡ flat_place (meaning a) }
-{
-    match a {
-        Ok(p) => Place {
-            refusal: 0,
-            position: 0,
-            start: p.position as u64,
-            width: p.width as u64,
-            count: p.count as u64,
-        },
-        Err(r) => Place {
-            refusal: r.0.number(),
-            position: r.1 as u64,
-            start: 0,
-            width: 0,
-            count: 0,
-        },
+impl From<Result<PlaceValues, Refusal>> for Place {
+    ghost from_gives = { λ a x. x ≡ flat_place (meaning a) };
+
+    fn from(a: Result<PlaceValues, Refusal>) -> Place {
+        match a {
+            Ok(p) => Place {
+                refusal: 0,
+                position: 0,
+                start: p.position as u64,
+                width: p.width as u64,
+                count: p.count as u64,
+            },
+            Err(r) => Place {
+                refusal: r.0.number(),
+                position: r.1 as u64,
+                start: 0,
+                width: 0,
+                count: 0,
+            },
+        }
     }
 }
 
@@ -556,32 +570,36 @@ fn track_told(x: TrackValues) -> Track
     }
 }
 
-pub fn track_of(a: Result<TrackValues, Refusal>) -> Track
-    ensures { result ≡ flat_track (meaning a) }
-{
-    match a {
-        Ok(x) => track_told(x),
-        Err(r) => Track {
-            refusal: r.0.number(),
-            position: r.1 as u64,
-            order: 0,
-            format: 0,
-            start: 0,
-            width: 0,
-            count: 0,
-            step: 0,
-            frames: 0,
-            seconds: 0,
-        },
+impl From<Result<TrackValues, Refusal>> for Track {
+    ghost from_gives = { λ a x. x ≡ flat_track (meaning a) };
+
+    fn from(a: Result<TrackValues, Refusal>) -> Track {
+        match a {
+            Ok(x) => track_told(x),
+            Err(r) => Track {
+                refusal: r.0.number(),
+                position: r.1 as u64,
+                order: 0,
+                format: 0,
+                start: 0,
+                width: 0,
+                count: 0,
+                step: 0,
+                frames: 0,
+                seconds: 0,
+            },
+        }
     }
 }
 
-pub fn part_of(p: Cut) -> Part
-    ensures { result ≡ flat_part p }
-{
-    Part {
-        start: p.start as u64,
-        length: p.length as u64,
+impl From<Cut> for Part {
+    ghost from_gives = { λ p x. x ≡ flat_part p };
+
+    fn from(p: Cut) -> Part {
+        Part {
+            start: p.start as u64,
+            length: p.length as u64,
+        }
     }
 }
 
@@ -613,18 +631,20 @@ fn sample_told(x: Number) -> Sample
     }
 }
 
-pub fn sample_of(a: Result<Number, Refusal>) -> Sample
-    ensures { result ≡ flat_sample (meaning a) }
-{
-    match a {
-        Ok(x) => sample_told(x),
-        Err(r) => Sample {
-            refusal: r.0.number(),
-            position: r.1 as u64,
-            is_float: 0,
-            value: 0,
-            bits: 0,
-        },
+impl From<Result<Number, Refusal>> for Sample {
+    ghost from_gives = { λ a x. x ≡ flat_sample (meaning a) };
+
+    fn from(a: Result<Number, Refusal>) -> Sample {
+        match a {
+            Ok(x) => sample_told(x),
+            Err(r) => Sample {
+                refusal: r.0.number(),
+                position: r.1 as u64,
+                is_float: 0,
+                value: 0,
+                bits: 0,
+            },
+        }
     }
 }
 
@@ -650,19 +670,21 @@ fn kind_number(kind: EventKind) -> u32
     }
 }
 
-pub fn kind_of(a: Result<EventKind, Refusal>) -> Kind
-    ensures { result ≡ flat_kind (meaning a) }
-{
-    match a {
-        Ok(k) => Kind {
-            refusal: 0,
-            position: 0,
-            kind: kind_number(k),
-        },
-        Err(r) => Kind {
-            refusal: r.0.number(),
-            position: r.1 as u64,
-            kind: 0,
-        },
+impl From<Result<EventKind, Refusal>> for Kind {
+    ghost from_gives = { λ a x. x ≡ flat_kind (meaning a) };
+
+    fn from(a: Result<EventKind, Refusal>) -> Kind {
+        match a {
+            Ok(k) => Kind {
+                refusal: 0,
+                position: 0,
+                kind: kind_number(k),
+            },
+            Err(r) => Kind {
+                refusal: r.0.number(),
+                position: r.1 as u64,
+                kind: 0,
+            },
+        }
     }
 }

@@ -29,89 +29,89 @@ pub fn psg_judge(file: &[u8]) -> Header
 pub fn psg_table(file: &[u8], rows: &mut [i64]) -> Counted
     ensures { TableAnswers file.now rows.old rows.new result }
 {
-    answers::counted_of(table::table(file, rows))
+    table::table(file, rows).into()
 }
 
 // The file in the other byte order: how many bytes were written.
 pub fn psg_turn(file: &[u8], out: &mut [u8]) -> Counted
     ensures { TurnAnswers file.now out.old out.new result }
 {
-    answers::counted_of(turn::turn(file, out))
+    turn::turn(file, out).into()
 }
 
 // The canonical form of the file, in the order that a letter names: how many bytes were written.
 pub fn psg_rewrite(file: &[u8], order: u8, out: &mut [u8]) -> Counted
     ensures { RewriteAnswers file.now order out.old out.new result }
 {
-    answers::counted_of(rewrite::rewrite(file, order, out))
+    rewrite::rewrite(file, order, out).into()
 }
 
 // Room that is enough for the canonical form of the file, in either order: so many bytes.
 pub fn psg_rewrite_room(file: &[u8]) -> Counted
     ensures { RoomAnswers file.now result }
 {
-    answers::counted_of(room::room(file))
+    room::room(file).into()
 }
 
 // The questions, in the order of crate `questions`.
 pub fn psg_header(file: &[u8]) -> Heading
     ensures { HeaderAnswers file.now result }
 {
-    answers::heading_of(questions::header(file))
+    questions::header(file).into()
 }
 
 pub fn psg_facts(file: &[u8], recording: usize) -> Facts
     ensures { FactsAnswers file.now recording result }
 {
-    answers::facts_of(questions::facts(file, recording))
+    questions::facts(file, recording).into()
 }
 
 pub fn psg_channel(file: &[u8], recording: usize, channel: usize) -> Channel
     ensures { ChannelAnswers file.now recording channel result }
 {
-    answers::channel_of(questions::channel(file, recording, channel))
+    questions::channel(file, recording, channel).into()
 }
 
 pub fn psg_montage_count(file: &[u8], recording: usize) -> Counted
     ensures { MontageCountAnswers file.now recording result }
 {
-    answers::montage_count_of(questions::montage_count(file, recording))
+    questions::montage_count(file, recording).into()
 }
 
 pub fn psg_montage(file: &[u8], recording: usize, channel: usize) -> Montage
     ensures { MontageAnswers file.now recording channel result }
 {
-    answers::montage_of(questions::montage(file, recording, channel))
+    questions::montage(file, recording, channel).into()
 }
 
 pub fn psg_patient_item(file: &[u8], recording: usize, item: usize) -> Item
     ensures { PatientItemAnswers file.now recording item result }
 {
-    answers::item_of(questions::patient_item(file, recording, item))
+    questions::patient_item(file, recording, item).into()
 }
 
 pub fn psg_event_item(file: &[u8], recording: usize, item: usize) -> Item
     ensures { EventItemAnswers file.now recording item result }
 {
-    answers::item_of(questions::event_item(file, recording, item))
+    questions::event_item(file, recording, item).into()
 }
 
 pub fn psg_clock(file: &[u8], recording: usize, frame: usize) -> Clock
     ensures { ClockAnswers file.now recording frame result }
 {
-    answers::clock_of(questions::clock(file, recording, frame))
+    questions::clock(file, recording, frame).into()
 }
 
 pub fn psg_place(file: &[u8], recording: usize, frame: usize, channel: usize) -> Place
     ensures { PlaceAnswers file.now recording frame channel result }
 {
-    answers::place_of(questions::place(file, recording, frame, channel))
+    questions::place(file, recording, frame, channel).into()
 }
 
 pub fn psg_track(file: &[u8], recording: usize, channel: usize) -> Track
     ensures { TrackAnswers file.now recording channel result }
 {
-    answers::track_of(questions::track(file, recording, channel))
+    questions::track(file, recording, channel).into()
 }
 
 // The part of a file of so many bytes that `samples::part` cuts by a place. It needs no file.
@@ -123,7 +123,7 @@ pub fn psg_part(bytes: usize, position: usize, width: usize, count: usize) -> Pa
         width,
         count,
     };
-    answers::part_of(samples::part_in(bytes, place))
+    samples::part_in(bytes, place).into()
 }
 
 pub fn psg_sample(
@@ -135,7 +135,7 @@ pub fn psg_sample(
 ) -> Sample
     ensures { SampleAnswers file.now recording frame channel sample result }
 {
-    answers::sample_of(questions::sample(file, recording, frame, channel, sample))
+    questions::sample(file, recording, frame, channel, sample).into()
 }
 
 // A run of samples: so many whole numbers, or the 32 bits of so many floats.
@@ -150,7 +150,7 @@ pub fn psg_run(
 ) -> Counted
     ensures { RunAnswers Sibling.Whole file.now recording frame channel first number samples.old samples.new result }
 {
-    answers::counted_of(runs::run(file, recording, frame, channel, first, number, samples))
+    runs::run(file, recording, frame, channel, first, number, samples).into()
 }
 
 pub fn psg_run_floats(
@@ -164,19 +164,19 @@ pub fn psg_run_floats(
 ) -> Counted
     ensures { RunAnswers Sibling.Floats file.now recording frame channel first number bits.old bits.new result }
 {
-    answers::counted_of(runs::run_floats(file, recording, frame, channel, first, number, bits))
+    runs::run_floats(file, recording, frame, channel, first, number, bits).into()
 }
 
 // The night events: how many entries of five numbers were written.
 pub fn psg_index(file: &[u8], entries: &mut [i64]) -> Counted
     ensures { IndexAnswers file.now entries.old entries.new result }
 {
-    answers::counted_of(index::index(file, entries))
+    index::index(file, entries).into()
 }
 
 // The kind of an event's code. It needs no file.
 pub fn psg_event_kind(code: u64) -> Kind
     ensures { KindAnswers code result }
 {
-    answers::kind_of(codes::event_kind(code))
+    codes::event_kind(code).into()
 }

@@ -1,6 +1,0 @@
--- `psg::psg_event_item` meets its contract: the question's answer, taken apart.
--- Assumes nothing.
-use Rattle.psg.proofs.psg_event_item.Goals as goal
-
-pub returns : goal.returns
-returns c = rw (c.item_of.ensures, c.event_item.ensures)

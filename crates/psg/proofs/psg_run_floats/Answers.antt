@@ -1,8 +1,0 @@
--- `psg::psg_run_floats` meets its contract: the run's answer, taken apart.
--- Assumes nothing.
-use Rattle.psg.proofs.psg_run_floats.Goals as goal
-
-pub returns : goal.returns
-returns c =
-    let t = c.run_floats.ensures in
-    record { answers = rw (c.counted_of.ensures.values, t.answer); holds = t.buffer }
