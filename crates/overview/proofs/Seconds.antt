@@ -16,18 +16,6 @@ use Rattle.overview.specs.Steps.{started_by}
 pub seconds-low : (t : Track) → t.frames < 2 ^ 32 → t.seconds < 2 ^ 32 → t.frames * t.seconds ≤ 18446744065119617025
 seconds-low t f s = let k : t.seconds ≤ 4294967295 = omega (arith, s) in omega (arith, f, mul-le-mul_left t.frames k)
 
-thirty : 0 < 30
-thirty = omega arith
-
--- some epochs: by the last of them
-module _ (all first n : ℕ) (some : n ≡ 0 → ⊥) where
-  pub within-some : within all first n ≡ ltb (30 * (first + (n - 1))) all
-  within-some = go n some
-    where
-      go : (n : ℕ) → (n ≡ 0 → ⊥) → within all first n ≡ ltb (30 * (first + (n - 1))) all
-      go zero h = absurd (h refl)
-      go (suc m) h = let e : m ≡ suc m - 1 = omega arith in ap (λ (x : ℕ). ltb (30 * (first + x)) all) e
-
 -- How many frames start before a second: no more than there are
 
 module _ (t : Track) (x : ℕ) where

@@ -142,21 +142,3 @@ module _ (s : List ℕ) (b : Bytes s) (i k : ℕ) where
 
   pub range-refused : (first n : ℕ) (r : Refusal) → TrackAnswer s i k (Err r) → refusal (number_of r.0) r.1 ≡ range_of s i k first n
   range-refused first n = handed-up (λ r. pick (within (lasts r) first n) (value (epochs_in r k first n)) outside)
-
--- one epoch is a range of one
-one-range : (s : List ℕ) (i k e : ℕ) → range_of s i k e 1 ≡ (overview_of s i k e >>= λ x. value (x ∷ []))
-unfolding epochs_in
-one-range s i k e = go (R.judge s)
-  where
-    epoch : (r : RecordingReading) (c : Bool) → pick c (value (epoch_in r k e ∷ [])) outside ≡ (pick c (value (epoch_in r k e)) outside >>= λ x. value (x ∷ []))
-    epoch r true = refl
-    epoch r false = refl
-
-    read : (a : Answer RecordingReading) →
-        (a >>= λ r. pick (within (lasts r) e 1) (value (epoch_in r k e ∷ [])) outside) ≡ (a >>= (λ r. pick (ltb (30 * e) (lasts r)) (value (epoch_in r k e)) outside) >>= λ x. value (x ∷ []))
-    read (refusal n p) = refl
-    read (value r) = rw (within-one (lasts r) e) (epoch r (ltb (30 * e) (lasts r)))
-
-    go : (o : Outcome R.File) → by_reading o (λ g. range_read g i k e 1) ≡ (by_reading o (λ g. overview_read g i k e) >>= λ x. value (x ∷ []))
-    go (refused n p) = refl
-    go (passed v l u) = read (whole_read (reading v) i k)
