@@ -70,6 +70,10 @@ module _ (s : List ℕ) (t : Track) (e : ℕ) where
       record {
         is =
             rw (← ef, ← el)
-            (ap Some (λ i. record { smallest = (a ∙ ap (λ (y : Extremes). y.smallest) is) i; largest = (b ∙ ap (λ (y : Extremes). y.largest) is) i; count = (d ∙ sym m) i }) ∙ sym g);
+            (ap Some (λ i. record {
+              smallest = (a ∙ ap (λ (y : Extremes). y.smallest) is) i;
+              largest = (b ∙ ap (λ (y : Extremes). y.largest) is) i;
+              count = (d ∙ sym m) i;
+            }) ∙ sym g);
         small = rw d (count_low t.first.count (l - f) few (omega (arith, el, started-few t (30 * e + 30))));
       }

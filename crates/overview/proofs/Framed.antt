@@ -96,7 +96,9 @@ pub record Framing (s : List ℕ) (t : Track) (n end : ℕ) (x : Extremes) (j : 
 
 module _ (s : List ℕ) (t : Track) (some : 1 ≤ t.first.count) where
   frame-some : (j : ℕ) → 1 ≤ length (frame_numbers s t j)
-  frame-some j = omega (arith, some, wholes-many t.order t.first.width t.first.count (bytes_at (t.first.width * t.first.count) s (t.first.position + t.step * j)) 0)
+  frame-some j =
+      let bytes = bytes_at (t.first.width * t.first.count) s (t.first.position + t.step * j) in
+      omega (arith, some, wholes-many t.order t.first.width t.first.count bytes 0)
 
   -- a frame, and the next
   pub frames-one : (j : ℕ) → frames_numbers s t j 1 ≡ frame_numbers s t j
@@ -107,7 +109,8 @@ module _ (s : List ℕ) (t : Track) (some : 1 ≤ t.first.count) where
   unfolding frames_numbers
   frames-two j =
       rw (append-nil (frame_numbers s t (suc j)))
-      (extremes-append (frame_numbers s t j) (frame_numbers s t (suc j)) (frame-some j) ∙ sym (extremes-both (extremes_of (frame_numbers s t j)) (frame_numbers s t (suc j)) (frame-some (suc j))))
+      (extremes-append (frame_numbers s t j) (frame_numbers s t (suc j)) (frame-some j)
+      ∙ sym (extremes-both (extremes_of (frame_numbers s t j)) (frame_numbers s t (suc j)) (frame-some (suc j))))
 
   frames-some : (m j : ℕ) → 1 ≤ m → 1 ≤ length (frames_numbers s t j m)
   unfolding frames_numbers
@@ -129,7 +132,9 @@ module _ (s : List ℕ) (t : Track) (some : 1 ≤ t.first.count) where
     framing-first n l x e = record {
       first = omega arith;
       last = omega arith;
-      same = rw (e, frames-split 1 n (omega arith), frames-one n) (sym (extremes-append (frame_numbers s t n) (frames_numbers s t (n + 1) (end - (n + 1))) (frame-some n)));
+      same =
+          rw (e, frames-split 1 n (omega arith), frames-one n)
+          (sym (extremes-append (frame_numbers s t n) (frames_numbers s t (n + 1) (end - (n + 1))) (frame-some n)));
     }
 
     module _ {n : ℕ} {x : Extremes} {j : ℕ} (f : Framing s t n end x j) where
@@ -140,7 +145,10 @@ module _ (s : List ℕ) (t : Track) (some : 1 ≤ t.first.count) where
           record {
             first = omega (arith, f.first);
             last = omega arith;
-            same = rw g (sym (widened-append x (frames_numbers s t j m) (frames_numbers s t (j + m) (end - (j + m)))) ∙ (ap (widened x) (sym (frames-split m j l)) ∙ f.same));
+            same =
+                rw g
+                (sym (widened-append x (frames_numbers s t j m) (frames_numbers s t (j + m) (end - (j + m))))
+                ∙ (ap (widened x) (sym (frames-split m j l)) ∙ f.same));
           }
 
       pub framing-all : end ≤ j → x ≡ extremes_of (frames_numbers s t n (end - n))

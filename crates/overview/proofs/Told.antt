@@ -1,5 +1,5 @@
--- What the overview and its range are told by the library's question about the track, over the file's reading: a refusal is handed up, and of a track the answer is
--- what the bytes have where the track says. What both share is said once, of whatever is asked of the recording.
+-- What the overview and its range are told by the library's question about the track, over the file's reading: a refusal is handed up, and of a track the
+-- answer is what the bytes have where the track says. What both share is said once, of whatever is asked of the recording.
 -- Assumes nothing.
 use Rattle.std.proofs.Common.{Option, Some, None, Result, Ok, Err}
 use Rattle.rules.specs.Reasons.{number_of, refusal_of}
@@ -24,7 +24,8 @@ use Rattle.questions.specs.Promised.{TrackAnswer}
 use Rattle.questions.specs.Tied.{recording_read, channel_read, format_in, TrackIs}
 use Rattle.demands.specs.Demands.{Accepted, Tells}
 use Rattle.demands.proofs.Demands.{demand-2}
-use Rattle.overview.specs.Overview.{envelope_of, lasts, whole_read, epoch_in, epochs_in, within, numbers, by_reading, overview_read, overview_of, range_read, range_of}
+use Rattle.overview.specs.Overview.{envelope_of, lasts, whole_read, epoch_in, epochs_in, within}
+use Rattle.overview.specs.Overview.{numbers, by_reading, overview_of, range_of}
 use Rattle.overview.specs.Steps.{Tracked, epoch_numbers, numbers_of, shown, epochs_numbers}
 use Rattle.overview.specs.declared.Envelope.{Envelope}
 use Rattle.overview.proofs.Read.{apart, alike-value, alike-refusal, judged, Served, tracked-in, not-served, served}
@@ -57,7 +58,8 @@ abbrev asked : {A : Type 0} → List ℕ → (i k : ℕ) → (RecordingReading �
 asked s i k f = by_reading (R.judge s) (λ g. whole_read g i k >>= f)
 
 -- where the reading has no such channel
-unread : {A : Type 0} (g : Reading) (i k : ℕ) (f : RecordingReading → Answer A) {n p : ℕ} → channel_read g i k ≡ refusal n p → refusal n p ≡ (whole_read g i k >>= f)
+unread : {A : Type 0} (g : Reading) (i k : ℕ) (f : RecordingReading → Answer A) {n p : ℕ} →
+    channel_read g i k ≡ refusal n p → refusal n p ≡ (whole_read g i k >>= f)
 unread g i k f {n} {p} h = go (recording_read g i) h
   where
     go : (a : Answer RecordingReading) → (a >>= λ r. numbered r.channels k) ≡ refusal n p →
