@@ -71,9 +71,10 @@ module _ (s : List ℕ) (t : Track) (some : 1 ≤ t.seconds) (e k : ℕ) where
   during : (m : ℕ) → from ≤ m → m < to → starts t.seconds e m ≡ true
   during m h l =
       let few : to ≤ t.frames = started-few t (30 * e + 30) in
-      rw
-      (le-leb (30 * e) (m * t.seconds) (started-after t some (30 * e) m (omega arith) h),
-      lt-ltb (m * t.seconds) (30 * e + 30) (started-before t some (30 * e + 30) m l))
+      rw (
+        le-leb (30 * e) (m * t.seconds) (started-after t some (30 * e) m (omega arith) h),
+        lt-ltb (m * t.seconds) (30 * e + 30) (started-before t some (30 * e + 30) m l),
+      )
 
   no_more : (m : ℕ) → to ≤ m → m < t.frames → starts t.seconds e m ≡ false
   no_more m h l =

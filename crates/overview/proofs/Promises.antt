@@ -194,9 +194,10 @@ module _ (r : RecordingReading) (k : ℕ) where
       (front (epoch_in r k first) (flat numbers (epochs_in r k (suc first) n) ++ rest) ∙ ap (λ (e : ℕ). numbers (epoch_in r k e)) z)
   flat-entry first (suc n) (suc q) rest l =
       let z : suc first + q ≡ first + suc q = omega arith in
-      rw
-      (append_assoc (numbers (epoch_in r k first)) (flat numbers (epochs_in r k (suc first) n)) rest,
-      behind (epoch_in r k first) (flat numbers (epochs_in r k (suc first) n) ++ rest) q)
+      rw (
+        append_assoc (numbers (epoch_in r k first)) (flat numbers (epochs_in r k (suc first) n)) rest,
+        behind (epoch_in r k first) (flat numbers (epochs_in r k (suc first) n) ++ rest) q,
+      )
       (flat-entry (suc first) n q rest (omega arith) ∙ ap (λ (e : ℕ). numbers (epoch_in r k e)) z)
 
 -- what y says is answered, and what the buffer holds afterwards

@@ -28,7 +28,7 @@ use Rattle.overview.specs.Overview.{envelope_of, lasts, whole_read, epoch_in, ep
 use Rattle.overview.specs.Overview.{numbers, by_reading, overview_of, range_of}
 use Rattle.overview.specs.Steps.{Tracked, epoch_numbers, numbers_of, shown, epochs_numbers}
 use Rattle.overview.specs.declared.Envelope.{Envelope}
-use Rattle.overview.proofs.Read.{apart, alike-value, alike-refusal, judged, Served, tracked-in, not-served, served}
+use Rattle.overview.proofs.Read.{alike-value, alike-refusal, judged, Served, tracked-in, not-served, served}
 
 -- bytes, by the fact that the code has of a slice
 pub bytes : (s : List ℕ) → ((i : ℕ) → get_or s i 0 < 256) → Bytes s

@@ -6,16 +6,13 @@ use Rattle.rules.specs.declared.Reason.TheVariants as Reason
 use mathlib.Core.Path.{◌≡◌, refl, sym, ap, ◌∙◌}
 use mathlib.Core.List.{List, [], ◌++◌, append_assoc, append-nil}
 use Prim.Native.Nat.{ℕ, suc, ◌+◌, ◌-◌, ◌*◌, ◌≤◌, ◌<◌}
-use native.Mathlib.Nat.{add-zero}
 use native.Mathlib.Omega.{arith}
 use borrow.Author.Tests.{le-leb, lt-leb}
 use lib.IntN.{ℤ, pos}
-use lib.ListN.{length, take, drop, set, length-append, length-drop}
+use lib.ListN.{length, take, drop, length-append, length-drop}
 use lib.Seq.{sets, sets-eq, take_at, drop-append-add, drop-drop}
 use Rattle.words.specs.Lent.{flat}
-use Rattle.rules.specs.Reasons.{number_of}
-use Rattle.rules.specs.declared.Refusal.{Refusal}
-use Rattle.recordings.specs.Answers.{value, refusal}
+use Rattle.recordings.specs.Answers.{value}
 use Rattle.samples.specs.declared.Track.{Track}
 use Rattle.overview.specs.Overview.{envelope_of, numbers, range_of, RangeAnswer}
 use Rattle.overview.specs.Steps.{epoch_numbers, shown, numbers_of, epochs_numbers}
