@@ -4,7 +4,7 @@ use Rattle.std.proofs.Common.{Some, None}
 use mathlib.Core.Path.{◌≡◌, refl, sym, ap, ◌∙◌}
 use mathlib.Core.List.{List, [], ◌∷◌}
 use Prim.Native.Nat.{ℕ, zero, suc, ◌+◌, ◌-◌, ◌*◌, ◌^◌, ◌≤◌, ◌<◌}
-use native.Mathlib.Nat.{mul-zero, mul-suc, mul-le-mul_left, mul-le-mul_right}
+use native.Mathlib.Nat.{zero-mul, mul-zero, mul-suc, mul-le-mul_left, mul-le-mul_right}
 use native.Mathlib.Omega.{arith}
 use lib.IntN.{ℤ}
 use lib.ListN.{length, length-append}
@@ -26,7 +26,8 @@ module _ (s : List ℕ) (t : Track) where
       rw (length-append, w, frames-many (suc n) m) (omega (arith, mul-suc t.first.count m))
 
 -- an envelope by its numbers, and one of none
-envelope-some : (zs : List ℤ) → 1 ≤ length zs → envelope_of zs ≡ Some (record { smallest = (extremes_of zs).smallest; largest = (extremes_of zs).largest; count = length zs })
+envelope-some : (zs : List ℤ) → 1 ≤ length zs →
+    envelope_of zs ≡ Some (record { smallest = (extremes_of zs).smallest; largest = (extremes_of zs).largest; count = length zs })
 envelope-some [] h = absurd (omega arith)
 envelope-some (z ∷ zs) h = refl
 
@@ -48,11 +49,18 @@ module _ (s : List ℕ) (t : Track) (e : ℕ) where
   end = started_by t (30 * e + 30)
 
   -- none where a frame has none, or no frame starts
-  pub epoch-none : t.first.count * (end - first) ≡ 0 → EpochIs s t e None
+  epoch-none : t.first.count * (end - first) ≡ 0 → EpochIs s t e None
   epoch-none h = record { is = sym (envelope-none (epoch_numbers s t e) (frames-many s t first (end - first) ∙ h)); small = omega arith }
 
+  pub no_samples : t.first.count ≡ 0 → EpochIs s t e None
+  no_samples h = epoch-none (ap (λ (n : ℕ). n * (end - first)) h ∙ zero-mul (end - first))
+
+  pub no_frames : end ≤ first → EpochIs s t e None
+  no_frames h = let z : end - first ≡ 0 = omega arith in epoch-none (ap (λ (n : ℕ). t.first.count * n) z ∙ mul-zero t.first.count)
+
   -- else those of the frames from f on, up to the one behind l others
-  pub epoch-some : (f l : ℕ) → f ≡ first → l ≡ end → 1 ≤ t.first.count → f < l → t.first.count < 2147483648 → t.frames < 2 ^ 32 → (x : Extremes) → x ≡ extremes_of (frames_numbers s t f (l - f)) → (r : Envelope) →
+  pub epoch-some : (f l : ℕ) → f ≡ first → l ≡ end → 1 ≤ t.first.count → f < l → t.first.count < 2147483648 → t.frames < 2 ^ 32 →
+      (x : Extremes) → x ≡ extremes_of (frames_numbers s t f (l - f)) → (r : Envelope) →
       r.smallest ≡ x.smallest → r.largest ≡ x.largest → r.count ≡ t.first.count * (l - f) → EpochIs s t e (Some r)
   epoch-some f l ef el c h few all x is r a b d =
       let m = frames-many s t f (l - f) in
@@ -60,6 +68,12 @@ module _ (s : List ℕ) (t : Track) (e : ℕ) where
       let n : 1 * 1 ≤ t.first.count * (l - f) = omega (arith, mul-le-mul_right (l - f) c, k) in
       let g = envelope-some (frames_numbers s t f (l - f)) (omega (arith, m, n)) in
       record {
-        is = rw (← ef, ← el) (ap Some (λ i. record { smallest = (a ∙ ap (λ (y : Extremes). y.smallest) is) i; largest = (b ∙ ap (λ (y : Extremes). y.largest) is) i; count = (d ∙ sym m) i }) ∙ sym g);
+        is =
+            rw (← ef, ← el)
+            (ap Some (λ i. record {
+              smallest = (a ∙ ap (λ (y : Extremes). y.smallest) is) i;
+              largest = (b ∙ ap (λ (y : Extremes). y.largest) is) i;
+              count = (d ∙ sym m) i;
+            }) ∙ sym g);
         small = rw d (count_low t.first.count (l - f) few (omega (arith, el, started-few t (30 * e + 30))));
       }

@@ -88,5 +88,5 @@ pub widened-both : (x : Extremes) (z : ℤ) (zs : List ℤ) → both_of x (extre
 widened-both x z zs = λ n. record { smallest = foremost-both lt_z smaller x.smallest z zs n; largest = foremost-both (λ a b. lt_z b a) larger x.largest z zs n }
 
 -- a number of 32 bits is the same in 64
-pub recast : {z : ℤ} → SFits w32 z → to_z w64 (of_z w64 (to_z w32 (of_z w32 z))) ≡ z
-recast h = ap (λ (x : ℤ). to_z w64 (of_z w64 x)) (to_z-of_z h) ∙ to_z-of_z {w = w64} (sfits_widen (tt {0}) h)
+pub recast : {y z : ℤ} → SFits w32 z → y ≡ to_z w32 (of_z w32 z) → to_z w64 (of_z w64 y) ≡ z
+recast h e = ap (λ (x : ℤ). to_z w64 (of_z w64 x)) (e ∙ to_z-of_z h) ∙ to_z-of_z {w = w64} (sfits_widen (tt {0}) h)

@@ -71,7 +71,10 @@ module _ (s : List ℕ) (t : Track) (some : 1 ≤ t.seconds) (e k : ℕ) where
   during : (m : ℕ) → from ≤ m → m < to → starts t.seconds e m ≡ true
   during m h l =
       let few : to ≤ t.frames = started-few t (30 * e + 30) in
-      rw (le-leb (30 * e) (m * t.seconds) (started-after t some (30 * e) m (omega arith) h), lt-ltb (m * t.seconds) (30 * e + 30) (started-before t some (30 * e + 30) m l))
+      rw (
+        le-leb (30 * e) (m * t.seconds) (started-after t some (30 * e) m (omega arith) h),
+        lt-ltb (m * t.seconds) (30 * e + 30) (started-before t some (30 * e + 30) m l),
+      )
 
   no_more : (m : ℕ) → to ≤ m → m < t.frames → starts t.seconds e m ≡ false
   no_more m h l =
@@ -95,7 +98,8 @@ module _ (s : List ℕ) (t : Track) (some : 1 ≤ t.seconds) (e k : ℕ) where
   beyond [] n h l = refl
   beyond (f ∷ fs) n h l = rw (no_more n h (omega arith)) (beyond fs (suc n) (omega arith) (omega arith))
 
-  inside : (fs : List FrameReading) (n c : ℕ) → from ≤ n → n + c ≡ to → n + length fs ≡ t.frames → Shows n fs → samples_in t.seconds e k n fs ≡ frames_numbers s t n c
+  inside : (fs : List FrameReading) (n c : ℕ) → from ≤ n → n + c ≡ to → n + length fs ≡ t.frames → Shows n fs →
+      samples_in t.seconds e k n fs ≡ frames_numbers s t n c
   unfolding samples_in frames_numbers
   inside fs n zero h i l g = beyond fs n (omega arith) l
   inside [] n (suc c) h i l g = absurd (omega (arith, started-few t (30 * e + 30)))
@@ -114,7 +118,8 @@ module _ (s : List ℕ) (t : Track) (some : 1 ≤ t.seconds) (e k : ℕ) where
   before [] n h l g = reached [] n h (omega (arith, started-few t (30 * e))) l g
   before (f ∷ fs) n h l g = go (ltb n from) refl (λ b. before fs (suc n) b (omega arith) (shows-rest n f fs g))
     where
-      go : (c : Bool) → ltb n from ≡ c → (n < from → samples_in t.seconds e k (suc n) fs ≡ epoch_numbers s t e) → samples_in t.seconds e k n (f ∷ fs) ≡ epoch_numbers s t e
+      go : (c : Bool) → ltb n from ≡ c → (n < from → samples_in t.seconds e k (suc n) fs ≡ epoch_numbers s t e) →
+          samples_in t.seconds e k n (f ∷ fs) ≡ epoch_numbers s t e
       go true b next = rw (not_yet n (ltb-true n from b)) (next (ltb-true n from b))
       go false b next = reached (f ∷ fs) n h (ltb-false n from b) l g
 

@@ -78,9 +78,11 @@ module _ {A : Type 0} (s : List ℕ) (i k : ℕ) (test : ℕ → Bool) (f : Reco
       within-file : (v : R.File) (u : List Event) → Accepted s v u → Sorted s i k test f (whole_read (reading v) i k >>= ask)
       within-file v u h = by-recording (entry-numbered (reading v).recordings i)
         where
-          by-test : (r : RecordingReading) (c : ChannelReading) → recording_read (reading v) i ≡ value r → numbered r.channels k ≡ value c → R.between 1 3 (format_in c) ≡ true →
+          by-test : (r : RecordingReading) (c : ChannelReading) → recording_read (reading v) i ≡ value r → numbered r.channels k ≡ value c →
+              R.between 1 3 (format_in c) ≡ true →
               (x : Bool) → test (lasts r) ≡ x → Sorted s i k test f (whole_read (reading v) i k >>= ask)
-          by-test r c a d w true y = found (record { file = v; events = u; accepted = h; recording = r; held = a; read = rw (a, d, w); passes = y }) (rw (a, d, w, y))
+          by-test r c a d w true y =
+              found (record { file = v; events = u; accepted = h; recording = r; held = a; read = rw (a, d, w); passes = y }) (rw (a, d, w, y))
           by-test r c a d w false y = stopped 19 0 (rw (a, d, w, y)) (proper-outside s)
 
           by-format : (r : RecordingReading) (c : ChannelReading) → recording_read (reading v) i ≡ value r → numbered r.channels k ≡ value c →
@@ -88,7 +90,8 @@ module _ {A : Type 0} (s : List ℕ) (i k : ℕ) (test : ℕ → Bool) (f : Reco
           by-format r c a d true w = by-test r c a d w (test (lasts r)) refl
           by-format r c a d false w = stopped 19 0 (rw (a, d, w)) (proper-outside s)
 
-          by-channel : (r : RecordingReading) → recording_read (reading v) i ≡ value r → Entry (numbered r.channels k) → Sorted s i k test f (whole_read (reading v) i k >>= ask)
+          by-channel : (r : RecordingReading) → recording_read (reading v) i ≡ value r → Entry (numbered r.channels k) →
+              Sorted s i k test f (whole_read (reading v) i k >>= ask)
           by-channel r a (there c d) = by-format r c a d (R.between 1 3 (format_in c)) refl
           by-channel r a (missing d) = stopped 19 0 (rw (a, d)) (proper-outside s)
 
@@ -117,7 +120,8 @@ module _ (s : List ℕ) (i k e : ℕ) where
       go (found y j) = apart (sym j ∙ sym h)
 
   -- the reading's samples, of which this was answered
-  in-epoch : {z : Option Envelope} {Holds : List ℤ → Type 0} → value z ≡ overview_of s i k e → ((zs : List ℤ) → envelope_of zs ≡ z → Holds zs) → InEpoch s i k e Holds
+  in-epoch : {z : Option Envelope} {Holds : List ℤ → Type 0} → value z ≡ overview_of s i k e →
+      ((zs : List ℤ) → envelope_of zs ≡ z → Holds zs) → InEpoch s i k e Holds
   in-epoch {z} {Holds} h says = go sorted-overview
     where
       go : Sorted s i k (ltb (30 * e)) (λ r. epoch_in r k e) (overview_of s i k e) → InEpoch s i k e Holds
@@ -131,7 +135,15 @@ module _ (s : List ℕ) (i k e : ℕ) where
 -- a question's refusals are a range's, which has 17 besides
 wider : (size need n p : ℕ) → Refuses of_question size 0 n p → Refuses of_run size need n p
 unfolding R.between
-wider size need n p x = record { number = also (of_file n) (eqb n 19) x.number; named = x.named; nonzero = x.nonzero; file = x.file; maker = x.maker; room = λ e. absurd (no-seventeen (rw e at x.number)); range = x.range }
+wider size need n p x = record {
+  number = also (of_file n) (eqb n 19) x.number;
+  named = x.named;
+  nonzero = x.nonzero;
+  file = x.file;
+  maker = x.maker;
+  room = λ e. absurd (no-seventeen (rw e at x.number));
+  range = x.range;
+}
   where
     never : false ≡ true → ⊥
     never e = let z : ◌≡◌ {A = ℕ} 0 1 = cc in omega arith
@@ -152,7 +164,9 @@ module _ (r : RecordingReading) (k : ℕ) where
   flat-long : (first n : ℕ) → length (flat numbers (epochs_in r k first n)) ≡ 3 * n
   unfolding flat epochs_in
   flat-long first zero = refl
-  flat-long first (suc n) = length-append (numbers (epoch_in r k first)) (flat numbers (epochs_in r k (suc first) n)) ∙ omega (arith, three (epoch_in r k first), flat-long (suc first) n)
+  flat-long first (suc n) =
+      length-append (numbers (epoch_in r k first)) (flat numbers (epochs_in r k (suc first) n))
+      ∙ omega (arith, three (epoch_in r k first), flat-long (suc first) n)
 
   flat-none : (first n : ℕ) (out : List ℤ) → n ≡ 0 → flat numbers (epochs_in r k first n) ++ drop (3 * n) out ≡ out
   unfolding flat epochs_in
@@ -170,7 +184,8 @@ module _ (r : RecordingReading) (k : ℕ) where
       go None = refl
       go (Some x) = refl
 
-  flat-entry : (first n q : ℕ) (rest : List ℤ) → q < n → take 3 (drop (3 * q) (flat numbers (epochs_in r k first n) ++ rest)) ≡ numbers (epoch_in r k (first + q))
+  flat-entry : (first n q : ℕ) (rest : List ℤ) → q < n →
+      take 3 (drop (3 * q) (flat numbers (epochs_in r k first n) ++ rest)) ≡ numbers (epoch_in r k (first + q))
   unfolding flat epochs_in
   flat-entry first zero q rest l = absurd (omega arith)
   flat-entry first (suc n) zero rest l =
@@ -179,7 +194,10 @@ module _ (r : RecordingReading) (k : ℕ) where
       (front (epoch_in r k first) (flat numbers (epochs_in r k (suc first) n) ++ rest) ∙ ap (λ (e : ℕ). numbers (epoch_in r k e)) z)
   flat-entry first (suc n) (suc q) rest l =
       let z : suc first + q ≡ first + suc q = omega arith in
-      rw (append_assoc (numbers (epoch_in r k first)) (flat numbers (epochs_in r k (suc first) n)) rest, behind (epoch_in r k first) (flat numbers (epochs_in r k (suc first) n) ++ rest) q)
+      rw (
+        append_assoc (numbers (epoch_in r k first)) (flat numbers (epochs_in r k (suc first) n)) rest,
+        behind (epoch_in r k first) (flat numbers (epochs_in r k (suc first) n) ++ rest) q,
+      )
       (flat-entry (suc first) n q rest (omega arith) ∙ ap (λ (e : ℕ). numbers (epoch_in r k e)) z)
 
 -- what y says is answered, and what the buffer holds afterwards
@@ -188,7 +206,8 @@ data Ranged (s : List ℕ) (i k first n : ℕ) (out out' : List ℤ) (y : Answer
   wrote : (z : Found s i k (λ all. within all first n)) → y ≡ value n → 3 * n ≤ length out →
       out' ≡ flat numbers (epochs_in z.recording k first n) ++ drop (3 * n) out → Ranged s i k first n out out' y
 
-module _ (s : List ℕ) (i k first n : ℕ) (out out' : List ℤ) (y : Answer ℕ) (h : y ≡ counted n (length out) (range_of s i k first n)) (g : out' ≡ holding n (range_of s i k first n) out) where
+module _ (s : List ℕ) (i k first n : ℕ) (out out' : List ℤ) (y : Answer ℕ)
+    (h : y ≡ counted n (length out) (range_of s i k first n)) (g : out' ≡ holding n (range_of s i k first n) out) where
   ranged : Ranged s i k first n out out' y
   ranged = go (sorted s i k (λ all. within all first n) (λ r. epochs_in r k first n))
     where
@@ -256,14 +275,34 @@ module _ (s : List ℕ) (i k first n : ℕ) (out out' : List ℤ) (y : Answer �
 -- What C is answered: a value or a refusal, taken apart
 
 abbrev enveloped : Meant {X = Option Envelope} value refusal (Result (Option Envelope) Refusal) Overviewed
-enveloped = record { meaning = meaning; tell = Ok; refuse = Err; flat = flat_overview; says = λ a. (a.refusal, a.position); tells = λ v. refl; refuses = λ r. refl; zero = zero; named = λ n p. refl }
+enveloped = record {
+  meaning = meaning;
+  tell = Ok;
+  refuse = Err;
+  flat = flat_overview;
+  says = λ a. (a.refusal, a.position);
+  tells = λ v. refl;
+  refuses = λ r. refl;
+  zero = zero;
+  named = λ n p. refl;
+}
   where
     zero : (v : Option Envelope) → (flat_overview (value v)).refusal ≡ 0
     zero None = refl
     zero (Some x) = refl
 
 abbrev epochs : Meant {X = ℕ} value refusal (Result ℕ Refusal) Counted
-epochs = record { meaning = meaning; tell = Ok; refuse = Err; flat = flat_counted; says = λ a. (a.refusal, a.position); tells = λ v. refl; refuses = λ r. refl; zero = λ v. refl; named = λ n p. refl }
+epochs = record {
+  meaning = meaning;
+  tell = Ok;
+  refuse = Err;
+  flat = flat_counted;
+  says = λ a. (a.refusal, a.position);
+  tells = λ v. refl;
+  refuses = λ r. refl;
+  zero = λ v. refl;
+  named = λ n p. refl;
+}
 
 module _ (s : List ℕ) (i k : ℕ) where
   overview-apart : (e : ℕ) (a : Overviewed) → OverviewAnswers s i k e a →
@@ -303,7 +342,11 @@ module _ (s s' : List ℕ) {v : R.File} {t : List Event} (h : Accepted s v t) (y
     overview = λ i k e a b x z. meaning-one a b x (z ∙ same-overview i k e);
     range = λ i k first n out out₁ out₂ a b x z.
         let q = same-range i k first n in
-        let w = range_unique s i k first n out out₁ out₂ a b x (record { answer = z.answer ∙ ap (counted n (length out)) q; buffer = z.buffer ∙ ap (λ (u : Answer (List (Option Envelope))). holding n u out) q }) in
+        let z' : RangeAnswer s i k first n out out₂ b = record {
+          answer = z.answer ∙ ap (counted n (length out)) q;
+          buffer = z.buffer ∙ ap (λ (u : Answer (List (Option Envelope))). holding n u out) q;
+        } in
+        let w = range_unique s i k first n out out₁ out₂ a b x z' in
         record { answer = w.0; buffer = w.1 };
     boundary_overview = λ i k e a b x z. x ∙ (ap flat_overview (sym (same-overview i k e)) ∙ sym z);
     boundary_range = λ i k first n out out₁ out₂ a b x z.

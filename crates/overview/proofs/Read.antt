@@ -89,7 +89,8 @@ no-float f h = go (eqb f 4) refl
     go false e = refl
 
 -- samples of a format of whole numbers, as numbers
-values-wholes : (o : Order) (f : ℕ) → eqb f 4 ≡ false → (n : ℕ) (s : List ℕ) (p : ℕ) → map (element_of Sibling.Whole) (values_at o f n s p) ≡ wholes_at o (R.width f) n s p
+values-wholes : (o : Order) (f : ℕ) → eqb f 4 ≡ false → (n : ℕ) (s : List ℕ) (p : ℕ) →
+    map (element_of Sibling.Whole) (values_at o f n s p) ≡ wholes_at o (R.width f) n s p
 unfolding values_at wholes_at value_of
 values-wholes o f h zero s p = refl
 values-wholes o f h (suc n) s p = rw h (ap (λ (zs : List ℤ). signed (R.width f) (number_at o (R.width f) s p) ∷ zs) (values-wholes o f h n s (p + R.width f)))
@@ -101,7 +102,8 @@ part-all n p l = rw (le-leb (p.position + p.width * p.count) n l)
 
 -- the samples at the track's place in the frame behind m others
 place-wholes : (s : List ℕ) (t : Track) (f : ℕ) → t.order ≡ R.order_of s → t.first.width ≡ R.width f → eqb f 4 ≡ false → (m : ℕ) →
-    (place_on t (suc m)).position + t.first.width * t.first.count ≤ length s → map (element_of Sibling.Whole) (values_of s f (place_on t (suc m))) ≡ frame_numbers s t m
+    (place_on t (suc m)).position + t.first.width * t.first.count ≤ length s →
+    map (element_of Sibling.Whole) (values_of s f (place_on t (suc m))) ≡ frame_numbers s t m
 place-wholes s t f o w h m l =
     let p : Place = place_on t (suc m) in
     let z : suc m - 1 ≡ m = omega arith in
@@ -120,7 +122,8 @@ pub record Served (s : List ℕ) (g : Reading) (i k : ℕ) (t : Track) : Type 0 
   pub lasting : lasts recording ≡ t.frames * t.seconds
   pub epoch : (e : ℕ) → epoch_in recording k e ≡ envelope_of (epoch_numbers s t e)
 
-module _ (s : List ℕ) (g : Reading) (tells : Tells s g) (i k : ℕ) (t : Track) (c : ChannelReading) (read : channel_read g i k ≡ value c) (is : TrackIs s g i k t c) where
+module _ (s : List ℕ) (g : Reading) (tells : Tells s g) (i k : ℕ) (t : Track) (c : ChannelReading)
+    (read : channel_read g i k ≡ value c) (is : TrackIs s g i k t c) where
   -- in the frame behind m others
   placed : (m : ℕ) → m < t.frames → (vs : List Value) × (samples_read g i (suc m) k ≡ value vs) × PlaceIs s g i k (place_on t (suc m)) vs
   placed m l = alike-value (tells.place i (suc m) k (Ok (place_on t (suc m))) (sym (is.places (suc m) (omega arith) l))) refl

@@ -1,32 +1,19 @@
 -- Seconds, and the epochs and frames that start in them.
 -- Assumes nothing.
-use mathlib.Core.Path.{◌≡◌, refl, sym, ap, ◌∙◌}
+use mathlib.Core.Path.{◌≡◌, refl}
 use mathlib.Core.Bool.{Bool, true, false}
-use Prim.Native.Nat.{ℕ, zero, suc, ◌+◌, ◌-◌, ◌*◌, ◌/◌, ◌^◌, ◌≤◌, ◌<◌}
-use native.Mathlib.Nat.{mul-le-mul_left, le-div_iff_mul-le, div-lt_iff_lt-mul}
+use Prim.Native.Nat.{ℕ, ◌+◌, ◌-◌, ◌*◌, ◌/◌, ◌^◌, ◌≤◌, ◌<◌}
+use native.Mathlib.Nat.{mul-le-mul_left}
 use native.Mathlib.Omega.{arith}
-use borrow.Author.Tests.{le-leb, lt-leb, leb-true, leb-false, le-ltb, lt-ltb, ltb-true, ltb-false}
-use lib.Dec.{leb, ltb}
+use borrow.Author.Tests.{le-ltb, lt-ltb, ltb-false}
+use lib.Dec.{ltb}
 use Rattle.walk.specs.Walk.{pick}
 use Rattle.samples.specs.declared.Track.{Track}
-use Rattle.overview.specs.Overview.{within}
 use Rattle.overview.specs.Steps.{started_by}
 
 -- F times T, the seconds of all frames: the product of two numbers of 32 bits
 pub seconds-low : (t : Track) → t.frames < 2 ^ 32 → t.seconds < 2 ^ 32 → t.frames * t.seconds ≤ 18446744065119617025
 seconds-low t f s = let k : t.seconds ≤ 4294967295 = omega (arith, s) in omega (arith, f, mul-le-mul_left t.frames k)
-
-thirty : 0 < 30
-thirty = omega arith
-
--- some epochs: by the last of them
-module _ (all first n : ℕ) (some : n ≡ 0 → ⊥) where
-  pub within-some : within all first n ≡ ltb (30 * (first + (n - 1))) all
-  within-some = go n some
-    where
-      go : (n : ℕ) → (n ≡ 0 → ⊥) → within all first n ≡ ltb (30 * (first + (n - 1))) all
-      go zero h = absurd (h refl)
-      go (suc m) h = let e : m ≡ suc m - 1 = omega arith in ap (λ (x : ℕ). ltb (30 * (first + x)) all) e
 
 -- How many frames start before a second: no more than there are
 

@@ -1,5 +1,5 @@
--- What the overview and its range are told by the library's question about the track, over the file's reading: a refusal is handed up, and of a track the answer is
--- what the bytes have where the track says. What both share is said once, of whatever is asked of the recording.
+-- What the overview and its range are told by the library's question about the track, over the file's reading: a refusal is handed up, and of a track the
+-- answer is what the bytes have where the track says. What both share is said once, of whatever is asked of the recording.
 -- Assumes nothing.
 use Rattle.std.proofs.Common.{Option, Some, None, Result, Ok, Err}
 use Rattle.rules.specs.Reasons.{number_of, refusal_of}
@@ -24,10 +24,11 @@ use Rattle.questions.specs.Promised.{TrackAnswer}
 use Rattle.questions.specs.Tied.{recording_read, channel_read, format_in, TrackIs}
 use Rattle.demands.specs.Demands.{Accepted, Tells}
 use Rattle.demands.proofs.Demands.{demand-2}
-use Rattle.overview.specs.Overview.{envelope_of, lasts, whole_read, epoch_in, epochs_in, within, numbers, by_reading, overview_read, overview_of, range_read, range_of}
+use Rattle.overview.specs.Overview.{envelope_of, lasts, whole_read, epoch_in, epochs_in, within}
+use Rattle.overview.specs.Overview.{numbers, by_reading, overview_of, range_of}
 use Rattle.overview.specs.Steps.{Tracked, epoch_numbers, numbers_of, shown, epochs_numbers}
 use Rattle.overview.specs.declared.Envelope.{Envelope}
-use Rattle.overview.proofs.Read.{apart, alike-value, alike-refusal, judged, Served, tracked-in, not-served, served}
+use Rattle.overview.proofs.Read.{alike-value, alike-refusal, judged, Served, tracked-in, not-served, served}
 
 -- bytes, by the fact that the code has of a slice
 pub bytes : (s : List ℕ) → ((i : ℕ) → get_or s i 0 < 256) → Bytes s
@@ -57,7 +58,8 @@ abbrev asked : {A : Type 0} → List ℕ → (i k : ℕ) → (RecordingReading �
 asked s i k f = by_reading (R.judge s) (λ g. whole_read g i k >>= f)
 
 -- where the reading has no such channel
-unread : {A : Type 0} (g : Reading) (i k : ℕ) (f : RecordingReading → Answer A) {n p : ℕ} → channel_read g i k ≡ refusal n p → refusal n p ≡ (whole_read g i k >>= f)
+unread : {A : Type 0} (g : Reading) (i k : ℕ) (f : RecordingReading → Answer A) {n p : ℕ} →
+    channel_read g i k ≡ refusal n p → refusal n p ≡ (whole_read g i k >>= f)
 unread g i k f {n} {p} h = go (recording_read g i) h
   where
     go : (a : Answer RecordingReading) → (a >>= λ r. numbered r.channels k) ≡ refusal n p →
@@ -142,21 +144,3 @@ module _ (s : List ℕ) (b : Bytes s) (i k : ℕ) where
 
   pub range-refused : (first n : ℕ) (r : Refusal) → TrackAnswer s i k (Err r) → refusal (number_of r.0) r.1 ≡ range_of s i k first n
   range-refused first n = handed-up (λ r. pick (within (lasts r) first n) (value (epochs_in r k first n)) outside)
-
--- one epoch is a range of one
-one-range : (s : List ℕ) (i k e : ℕ) → range_of s i k e 1 ≡ (overview_of s i k e >>= λ x. value (x ∷ []))
-unfolding epochs_in
-one-range s i k e = go (R.judge s)
-  where
-    epoch : (r : RecordingReading) (c : Bool) → pick c (value (epoch_in r k e ∷ [])) outside ≡ (pick c (value (epoch_in r k e)) outside >>= λ x. value (x ∷ []))
-    epoch r true = refl
-    epoch r false = refl
-
-    read : (a : Answer RecordingReading) →
-        (a >>= λ r. pick (within (lasts r) e 1) (value (epoch_in r k e ∷ [])) outside) ≡ (a >>= (λ r. pick (ltb (30 * e) (lasts r)) (value (epoch_in r k e)) outside) >>= λ x. value (x ∷ []))
-    read (refusal n p) = refl
-    read (value r) = rw (within-one (lasts r) e) (epoch r (ltb (30 * e) (lasts r)))
-
-    go : (o : Outcome R.File) → by_reading o (λ g. range_read g i k e 1) ≡ (by_reading o (λ g. overview_read g i k e) >>= λ x. value (x ∷ []))
-    go (refused n p) = refl
-    go (passed v l u) = read (whole_read (reading v) i k)

@@ -6,16 +6,13 @@ use Rattle.rules.specs.declared.Reason.TheVariants as Reason
 use mathlib.Core.Path.{◌≡◌, refl, sym, ap, ◌∙◌}
 use mathlib.Core.List.{List, [], ◌++◌, append_assoc, append-nil}
 use Prim.Native.Nat.{ℕ, suc, ◌+◌, ◌-◌, ◌*◌, ◌≤◌, ◌<◌}
-use native.Mathlib.Nat.{add-zero}
 use native.Mathlib.Omega.{arith}
 use borrow.Author.Tests.{le-leb, lt-leb}
 use lib.IntN.{ℤ, pos}
-use lib.ListN.{length, take, drop, set, length-append, length-drop}
+use lib.ListN.{length, take, drop, length-append, length-drop}
 use lib.Seq.{sets, sets-eq, take_at, drop-append-add, drop-drop}
 use Rattle.words.specs.Lent.{flat}
-use Rattle.rules.specs.Reasons.{number_of}
-use Rattle.rules.specs.declared.Refusal.{Refusal}
-use Rattle.recordings.specs.Answers.{value, refusal}
+use Rattle.recordings.specs.Answers.{value}
 use Rattle.samples.specs.declared.Track.{Track}
 use Rattle.overview.specs.Overview.{envelope_of, numbers, range_of, RangeAnswer}
 use Rattle.overview.specs.Steps.{epoch_numbers, shown, numbers_of, epochs_numbers}
@@ -49,11 +46,13 @@ module _ (s : List ℕ) (t : Track) (first n : ℕ) (out₀ : List ℤ) where
         let f : take (3 * q) out ≡ w.front = ap (take (3 * q)) w.holds ∙ take_at w.front (drop (3 * q) out₀) (3 * q) w.long in
         let d : drop (3 * q + 3) out ≡ drop (3 * q + 3) out₀ =
         ap (drop (3 * q + 3)) w.holds
-        ∙ (ap (λ (k : ℕ). drop (k + 3) (w.front ++ drop (3 * q) out₀)) (sym w.long) ∙ (drop-append-add w.front (drop (3 * q) out₀) 3 ∙ drop-drop 3 (3 * q) out₀)) in
+        ∙ (ap (λ (k : ℕ). drop (k + 3) (w.front ++ drop (3 * q) out₀)) (sym w.long)
+        ∙ (drop-append-add w.front (drop (3 * q) out₀) 3 ∙ drop-drop 3 (3 * q) out₀)) in
         let z : 3 * (q + 1) ≡ 3 * q + 3 = omega arith in
         sets-eq (numbers_of x) out (3 * q) (writing-room l) ∙ rw (f, d, z)
 
-    pub writing_more : q < n → (x : Envelope) → x ≡ shown (envelope_of (epoch_numbers s t (first + q))) → (out₁ : List ℤ) → out₁ ≡ sets out (3 * q) (numbers_of x) →
+    pub writing_more : q < n → (x : Envelope) → x ≡ shown (envelope_of (epoch_numbers s t (first + q))) →
+        (out₁ : List ℤ) → out₁ ≡ sets out (3 * q) (numbers_of x) →
         Writing s t first n out₀ out₁ (q + 1)
     unfolding epochs_numbers
     writing_more l x h out₁ e =
@@ -66,7 +65,8 @@ module _ (s : List ℕ) (t : Track) (first n : ℕ) (out₀ : List ℤ) where
           room = w.room;
           holds = e ∙ stored x l;
           same =
-              let g : w.front ++ (numbers_of (shown (envelope_of (epoch_numbers s t (first + q)))) ++ epochs_numbers s t (suc (first + q)) (n - (q + 1))) ≡ epochs_numbers s t first n = rw m at w.same in
+              let last = numbers_of (shown (envelope_of (epoch_numbers s t (first + q)))) in
+              let g : w.front ++ (last ++ epochs_numbers s t (suc (first + q)) (n - (q + 1))) ≡ epochs_numbers s t first n = rw m at w.same in
               append_assoc w.front (numbers_of x) (epochs_numbers s t (first + (q + 1)) (n - (q + 1))) ∙ rw (h, ← k) g;
         }
 
@@ -86,5 +86,6 @@ module _ (s : List ℕ) (i k first n : ℕ) (out : List ℤ) where
     pub range-short : length out < 3 * n → RangeAnswer s i k first n out out (Err (record { 0 = Reason.Room; 1 = 3 * n }))
     range-short l = record { answer = rw (h, lt-leb (3 * n) (length out) l); buffer = rw (h, lt-leb (3 * n) (length out) l) }
 
-    pub range-written : (t : Track) → flat numbers xs ≡ epochs_numbers s t first n → 3 * n ≤ length out → (out' : List ℤ) → out' ≡ epochs_numbers s t first n ++ drop (3 * n) out → RangeAnswer s i k first n out out' (Ok n)
+    pub range-written : (t : Track) → flat numbers xs ≡ epochs_numbers s t first n → 3 * n ≤ length out →
+        (out' : List ℤ) → out' ≡ epochs_numbers s t first n ++ drop (3 * n) out → RangeAnswer s i k first n out out' (Ok n)
     range-written t e l out' g = record { answer = rw (h, le-leb (3 * n) (length out) l); buffer = rw (h, le-leb (3 * n) (length out) l, e) g }

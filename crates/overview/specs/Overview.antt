@@ -1,7 +1,8 @@
 -- The thirty-second overview of a channel: the samples of an epoch, the smallest and the largest of them and how many there are, by the file's reading;
 -- what `overview` answers, and what `overview_range` answers and writes.
 -- Assumes nothing.
-use Rattle.std.specs.Prelude.{◌≡◌, Option, Some, None, Result, Bool, ◌&&◌, List, [], ◌∷◌, ◌++◌, map, ℕ, zero, suc, ◌+◌, ◌*◌, leb, ltb, ℤ, pos, nat_abs, length, drop}
+use Rattle.std.specs.Prelude.{Option, Some, None, Result}
+use Rattle.std.specs.Prelude.{◌≡◌, Bool, ◌&&◌, List, [], ◌∷◌, ◌++◌, map, ℕ, zero, suc, ◌+◌, ◌*◌, leb, ltb, ℤ, pos, nat_abs, length, drop}
 use Rattle.std.specs.Int.Signed.{lt_z}
 use Rattle.words.specs.Lent.{flat}
 use Rattle.walk.specs.Walk.{pick, Outcome, refused, passed}

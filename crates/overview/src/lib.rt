@@ -36,7 +36,8 @@ pub struct Envelope {
 }
 
 impl Envelope {
-    pub const EMPTY: Envelope = Envelope {
+    // In numbers, an epoch without samples.
+    const EMPTY: Envelope = Envelope {
         smallest: 0,
         largest: 0,
         count: 0,

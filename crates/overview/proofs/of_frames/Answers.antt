@@ -1,7 +1,7 @@
 -- `overview::of_frames` meets its contract, by the laws of a loop over frames.
 -- Assumes nothing.
 use mathlib.Core.Path.{◌≡◌, ap, sym, ◌∙◌}
-use Prim.Native.Nat.{◌+◌, ◌-◌, ◌*◌}
+use Prim.Native.Nat.{◌+◌, ◌-◌, ◌*◌, ◌≤◌}
 use native.Mathlib.Nat.{add-zero}
 use native.Mathlib.Omega.{arith}
 use Rattle.overview.specs.Steps.{extremes_of}
@@ -15,7 +15,8 @@ pub loop-i-preserved : goal.loop-i-preserved
 loop-i-preserved c =
     let p = c.requires in
     let j : c.args.n + 1 + 2 * (c.loop-i.i + 1) ≡ c.args.n + 1 + 2 * c.loop-i.i + 2 = omega arith in
-    rw j (framing-more _ _ p.samples _ c.loop-i.invariant 2 (omega arith) (omega (arith, c.loop-i-test.true, p.first)) _ _ c.of_two_frames-y.ensures c.of_both-x.ensures)
+    let inside : c.args.n + 1 + 2 * c.loop-i.i + 2 ≤ c.args.end = omega (arith, c.loop-i-test.true, p.first) in
+    rw j (framing-more _ _ p.samples _ c.loop-i.invariant 2 (omega arith) inside _ _ c.of_two_frames-y.ensures c.of_both-x.ensures)
 
 -- the last frame, behind pairs
 pub returns-then-left : goal.returns-then-left
@@ -23,7 +24,8 @@ returns-then-left c =
     let p = c.requires in
     let j : c.args.end - 1 ≡ c.args.n + 1 + 2 * c.loop-i.i = omega (arith, p.first, c.if-left.true, c.loop-i.auto.i-end, c.loop-i-test.false) in
     let y = (rw j at c.of_frame-y.ensures) ∙ ap extremes_of (sym (frames-one _ _ p.samples _)) in
-    framing-all _ _ p.samples _ (framing-more _ _ p.samples _ c.loop-i.invariant 1 (omega arith) (omega (arith, j, p.first)) _ _ y c.of_both-x-then-left.ensures) (omega (arith, j, p.first))
+    let f = framing-more _ _ p.samples _ c.loop-i.invariant 1 (omega arith) (omega (arith, j, p.first)) _ _ y c.of_both-x-then-left.ensures in
+    framing-all _ _ p.samples _ f (omega (arith, j, p.first))
 
 pub returns-else-left : goal.returns-else-left
 returns-else-left c =

@@ -16,7 +16,8 @@ use Rattle.overview.proofs.overview_range.Goals.{In_ok-t}
 -- what the reading has of them
 told : (x : In_ok-t) →
     let a = x.args in
-    (xs : List (Option Envelope)) × (range_of a.file.now a.recording a.channel a.first a.number ≡ value xs) × (flat numbers xs ≡ epochs_numbers a.file.now x.in_ok-t.t a.first a.number)
+    (xs : List (Option Envelope)) × (range_of a.file.now a.recording a.channel a.first a.number ≡ value xs)
+    × (flat numbers xs ≡ epochs_numbers a.file.now x.in_ok-t.t a.first a.number)
 told x = let y = x.in_ok-t.ensures in range-told _ y.bytes _ _ _ y.answer y.whole _ _ y.inside
 
 pub returns-then-out-need : goal.returns-then-out-need

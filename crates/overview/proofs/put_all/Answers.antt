@@ -8,7 +8,8 @@ use Rattle.overview.proofs.put_all.Goals as goal
 
 pub loop-q-preserved : goal.loop-q-preserved
 loop-q-preserved c =
-    writing_more _ _ _ _ _ c.loop-q.invariant c.loop-q-test.true c.unwrap_or-x.result (c.unwrap_or-x.ensures ∙ (or_empty c.epoch_of.result ∙ ap shown c.epoch_of.ensures.is)) _ c.put.ensures
+    let is = c.unwrap_or-x.ensures ∙ (or_empty c.epoch_of.result ∙ ap shown c.epoch_of.ensures.is) in
+    writing_more _ _ _ _ _ c.loop-q.invariant c.loop-q-test.true c.unwrap_or-x.result is _ c.put.ensures
 
 pub returns : goal.returns
 returns c = writing-all _ _ _ _ _ c.loop-q.invariant (omega (arith, c.loop-q-test.false))
