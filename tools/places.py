@@ -51,6 +51,16 @@ def by_number():
     return out
 
 
+def unlike():
+    """Enums that derive no equality."""
+    out = []
+    for n, t in code.items():
+        for m in re.finditer(r"^((?:#\[.*\]\n)*)pub enum (\w+)|^enum (\w+)", t, re.M):
+            if "PartialEq" not in (m.group(1) or ""):
+                out.append(f"{n.split('/', 1)[1]}: {m.group(2) or m.group(3)}")
+    return out
+
+
 def together():
     """Functions that take the order, a part of the file and the place where it stands as three parameters."""
     return found(r"^(?:pub )?fn \w+(?:<[^>]*>)?\((?:\s*\w+: [^,)]+,)*?\s*o: Order,(?:\s*\w+: [^,)]+,)*?\s*s: &\[u8\],\s*base: usize")
@@ -63,6 +73,8 @@ counts = {
     "1 flags with a value beside them": found(r"^    pub has_\w+: bool"),
     "2 groups of functions that differ in a number": by_number(),
     "3 loops that are no `for`": found(r"^ *(?:while|loop)\b.*"),
+    "4 enums that derive no equality": unlike(),
+    "4 conversions for C by functions of their own": [p for p in found(r"^pub fn \w+_of\(") if p.startswith("answers/")],
     "5 order, part and base as three parameters": together(),
     "8 files of answers": [n for n in proofs if n.endswith("/Answers.antt") and len(n.split("/")) > 4],
 }
