@@ -263,44 +263,48 @@ pub struct Counted {
     pub count: u64,
 }
 
-fn overview_apart(a: Result<Option<Envelope>, Refusal>) -> Overviewed
-    ensures { result ≡ flat_overview (meaning a) }
-{
-    match a {
-        Ok(found) => {
-            let x = found.unwrap_or(Envelope::EMPTY);
-            Overviewed {
-                refusal: 0,
-                position: 0,
-                smallest: x.smallest,
-                largest: x.largest,
-                count: x.count as u64,
+impl From<Result<Option<Envelope>, Refusal>> for Overviewed {
+    ghost from_gives = { λ a x. x ≡ flat_overview (meaning a) };
+
+    fn from(a: Result<Option<Envelope>, Refusal>) -> Overviewed {
+        match a {
+            Ok(found) => {
+                let x = found.unwrap_or(Envelope::EMPTY);
+                Overviewed {
+                    refusal: 0,
+                    position: 0,
+                    smallest: x.smallest,
+                    largest: x.largest,
+                    count: x.count as u64,
+                }
             }
+            Err(r) => Overviewed {
+                refusal: r.0.number(),
+                position: r.1 as u64,
+                smallest: 0,
+                largest: 0,
+                count: 0,
+            },
         }
-        Err(r) => Overviewed {
-            refusal: r.0.number(),
-            position: r.1 as u64,
-            smallest: 0,
-            largest: 0,
-            count: 0,
-        },
     }
 }
 
-fn range_apart(a: Result<usize, Refusal>) -> Counted
-    ensures { result ≡ flat_counted (meaning a) }
-{
-    match a {
-        Ok(n) => Counted {
-            refusal: 0,
-            position: 0,
-            count: n as u64,
-        },
-        Err(r) => Counted {
-            refusal: r.0.number(),
-            position: r.1 as u64,
-            count: 0,
-        },
+impl From<Result<usize, Refusal>> for Counted {
+    ghost from_gives = { λ a x. x ≡ flat_counted (meaning a) };
+
+    fn from(a: Result<usize, Refusal>) -> Counted {
+        match a {
+            Ok(n) => Counted {
+                refusal: 0,
+                position: 0,
+                count: n as u64,
+            },
+            Err(r) => Counted {
+                refusal: r.0.number(),
+                position: r.1 as u64,
+                count: 0,
+            },
+        }
     }
 }
 
@@ -308,7 +312,7 @@ fn range_apart(a: Result<usize, Refusal>) -> Counted
 pub fn psg_overview(file: &[u8], recording: usize, channel: usize, epoch: usize) -> Overviewed
     ensures { OverviewAnswers file.now recording channel epoch result }
 {
-    overview_apart(overview(file, recording, channel, epoch))
+    overview(file, recording, channel, epoch).into()
 }
 
 // The overview of several epochs: how many were written.
@@ -322,5 +326,5 @@ pub fn psg_overview_range(
 ) -> Counted
     ensures { RangeAnswers file.now recording channel first number out.old out.new result }
 {
-    range_apart(overview_range(file, recording, channel, first, number, out))
+    overview_range(file, recording, channel, first, number, out).into()
 }
