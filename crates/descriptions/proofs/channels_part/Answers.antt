@@ -12,7 +12,6 @@ use Rattle.records.specs.Says.{group_of}
 use Rattle.descriptions.specs.DescriptionsJudged.{Owned}
 use Rattle.descriptions.proofs.Parts.{judges-absent, judges-stop, judges-behind, follows-lacking, follows-stood}
 use Rattle.descriptions.proofs.Stands.{group-is, owned}
-use borrow.Author.Rules.{rules}
 use Rattle.descriptions.proofs.channels_part.Goals as goal
 use Rattle.descriptions.proofs.channels_part.Goals.{After-has_code}
 
@@ -44,11 +43,6 @@ returns-in_err-end c =
       told = judges-stop a.o a.label a.base a.s.now (group (goal.at.returns-in_err-end c).After-has_code).code (R.channels (group (goal.at.returns-in_err-end c).After-has_code)) (Owned a.o a.s.now a.h.at a.channels) a.h a.held same _ (rw (grouped (goal.at.returns-in_err-end c).After-has_code, c.in_err-end.was) at c.channels_at.ensures.seen);
       follows = tt;
     })
-
-pub behind-requires : goal.behind-requires
-behind-requires c =
-    let w = c.in_ok-end.ensures.stands in
-    record { start = omega arith; inside = w.inside; short = search rules }
 
 pub returns : goal.returns
 returns c =

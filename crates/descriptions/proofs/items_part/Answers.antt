@@ -12,7 +12,6 @@ use Rattle.rules.proofs.Room.{stays-items_rest}
 use Rattle.records.specs.Says.{ok_of, rule_of}
 use Rattle.descriptions.specs.DescriptionsJudged.{code_of}
 use Rattle.descriptions.proofs.Parts.{judges-absent, judges-stop, judges-behind, follows-lacking, follows-stood}
-use borrow.Author.Rules.{rules}
 use Rattle.descriptions.proofs.items_part.Goals as goal
 use Rattle.descriptions.proofs.items_part.Goals.{After-has_code}
 
@@ -37,11 +36,6 @@ returns-in_err-end c =
       told = judges-stop a.o a.label a.base a.s.now (code_of a.k) (R.items (ok_of a.k)) (λ _. Unit {0}) a.h a.held same _ (c.in_err-end.ensures.seen);
       follows = tt;
     })
-
-pub behind-requires : goal.behind-requires
-behind-requires c =
-    let w = c.in_ok-end.ensures.stands in
-    record { start = omega arith; inside = w.inside; short = search rules }
 
 pub returns : goal.returns
 returns c =

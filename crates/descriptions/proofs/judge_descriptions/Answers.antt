@@ -60,19 +60,11 @@ returns-in_err-h c =
     let a = c.args in
     rw (handed _ c.from_residual-in_err-h.ensures) (stops-next a.o a.base a.s.now (hundred (goal.at.returns-in_err-h c).In_ok-basic) (c.in_err-h.ensures))
 
-pub channels_part-requires : goal.channels_part-requires
-channels_part-requires c =
-    record { inside = (begins c).stands.inside; short = c.requires.short }
-
 pub returns-in_err-c : goal.returns-in_err-c
 returns-in_err-c c =
     let a = c.args in
     rw (handed _ c.from_residual-in_err-c.ensures)
     (stops-channels a.o a.base a.s.now a.label (begins (goal.at.returns-in_err-c c).After-held_channels) a.before c.held_channels.ensures refl (c.in_err-c.ensures))
-
-pub items_part-requires : goal.items_part-requires
-items_part-requires c =
-    record { inside = (channels c).follows.inside; short = c.requires.short }
 
 pub returns-in_err-p : goal.returns-in_err-p
 returns-in_err-p c =
@@ -80,19 +72,11 @@ returns-in_err-p c =
     rw (handed _ c.from_residual-in_err-p.ensures)
     (stops-patient a.o a.base a.s.now a.label (begins (goal.at.returns-in_err-p c).After-held_channels) a.before c.held_channels.ensures c.held_patient.ensures (channels (goal.at.returns-in_err-p c).After-held_patient) (c.in_err-p.ensures))
 
-pub events_part-requires : goal.events_part-requires
-events_part-requires c =
-    record { inside = (patient (goal.at.events_part-requires c).In_ok-p).follows.inside; short = c.requires.short }
-
 pub returns-in_err-e : goal.returns-in_err-e
 returns-in_err-e c =
     let a = c.args in
     rw (handed _ c.from_residual-in_err-e.ensures)
     (stops-events a.o a.base a.s.now a.label (begins (goal.at.returns-in_err-e c).After-held_channels) a.before c.held_channels.ensures c.held_patient.ensures (channels (goal.at.returns-in_err-e c).After-held_patient) (patient (goal.at.returns-in_err-e c).In_ok-p) (c.in_err-e.ensures))
-
-pub montage_part-requires : goal.montage_part-requires
-montage_part-requires c =
-    record { inside = (events (goal.at.montage_part-requires c).After-count_of-count).follows.inside; short = c.requires.short }
 
 pub returns-in_err-m : goal.returns-in_err-m
 returns-in_err-m c =

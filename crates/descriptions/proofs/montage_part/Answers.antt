@@ -11,7 +11,6 @@ use Rattle.rules.specs.Rules as R
 use Rattle.rules.proofs.Room.{stays-montage_rest}
 use Rattle.descriptions.proofs.Parts.{judges-absent, judges-stop, judges-behind, follows-lacking, follows-stood}
 use Rattle.descriptions.proofs.Stands.{montage-none, montage-some}
-use borrow.Author.Rules.{rules}
 use Rattle.descriptions.proofs.montage_part.Goals as goal
 
 pub returns-then-not-has_code : goal.returns-then-not-has_code
@@ -40,11 +39,6 @@ returns-in_err-end c =
           (rw (montage-some a.label c.in-Electrodes.is cs _ _, e) (c.in_err-end.ensures.seen));
       follows = tt;
     })
-
-pub behind-requires : goal.behind-requires
-behind-requires c =
-    let w = c.in_ok-end.ensures.stands in
-    record { start = omega arith; inside = w.inside; short = search rules }
 
 pub returns : goal.returns
 returns c =

@@ -18,10 +18,6 @@ returns-in_err-h c =
     rw (handed _ c.from_residual.ensures)
     (judge-unread c.args.file.now c.in_err-h.ensures.walk)
 
-pub recordings_from-requires : goal.recordings_from-requires
-recordings_from-requires c =
-    record { header = (header (goal.at.recordings_from-requires c).In_ok-h).named.long; short = omega (arith, c.well_formed) }
-
 pub returns-in_err-end : goal.returns-in_err-end
 returns-in_err-end c =
     rw (handed _ c.from_residual-in_err-end.ensures)

@@ -3,12 +3,8 @@
 use Rattle.rules.proofs.Handed.{handed}
 use native.Mathlib.Nat.{zero-add}
 use native.Mathlib.Omega.{arith}
-use borrow.Author.Rules.{rules}
-use Rattle.judge.proofs.Recordings.{going_start, going-none, going-stop, going_on}
+use Rattle.judge.proofs.Recordings.{going-none, going-stop, going_on}
 use Rattle.judge.proofs.recordings_from.Goals as goal
-
-pub loop-i-init : goal.loop-i-init
-loop-i-init c = record { few = search rules; place = record { low = search rules; inside = search rules }; held = tt; going = going_start }
 
 pub returns-in_err-places : goal.returns-in_err-places
 returns-in_err-places c =

@@ -1,7 +1,6 @@
 -- `questions::channel` meets its contract: from the recording found, by the laws of Replies.
 -- Assumes nothing.
 use Rattle.std.proofs.Common.{Ok}
-use Rattle.rules.proofs.Handed.{handed}
 use mathlib.Core.Path.{◌≡◌, sym, ◌∙◌}
 use mathlib.Core.Bool.{true}
 use Prim.Native.Nat.{◌≤◌}
@@ -11,7 +10,7 @@ use Rattle.rules.specs.Rules as R
 use Rattle.records.proofs.Facts.{between_in}
 use Rattle.records.specs.Says.{subs_at, ChannelsIn}
 use Rattle.recordings.specs.Found.{RecordingFoundAs}
-use Rattle.questions.proofs.Replies.{channel-refused, channel-outside, channel-told}
+use Rattle.questions.proofs.Replies.{channel-outside, channel-told}
 use Rattle.questions.proofs.channel.Goals as goal
 use Rattle.questions.proofs.channel.Goals.{After-struct_known-1, After-within, Else-not-within}
 
@@ -34,18 +33,10 @@ roomy c =
     let l = between_in _ _ _ (ranged (goal.at.After-struct_known-1 c).Else-not-within) in
     (y.1.owned.room, l.0, l.1)
 
-pub returns-in_err-order : goal.returns-in_err-order
-returns-in_err-order c =
-    rw (handed _ c.from_residual.ensures)
-    (channel-refused _ _ _ c.in_err-order.ensures)
-
 pub returns-then-not-within : goal.returns-then-not-within
 returns-then-not-within c =
     let y = known (goal.at.returns-then-not-within c).After-within in
     channel-outside y.1 _ (sym c.within.ensures ∙ c.if-not-within.true)
-
-pub overflow_add-at : goal.overflow_add-at
-overflow_add-at c = record { fits = omega (arith, roomy c, c.well_formed) }
 
 pub overflow_sub-at : goal.overflow_sub-at
 overflow_sub-at c = omega (arith, roomy c)

@@ -7,10 +7,10 @@ use Prim.Native.Nat.{ℕ, ◌+◌, ◌*◌, ◌≤◌}
 use native.Mathlib.Omega.{arith}
 use lib.ListN.{length}
 use Rattle.rules.specs.Rules as R
-use Rattle.rules.proofs.Handed.{handed, lacked}
+use Rattle.rules.proofs.Handed.{lacked}
 use Rattle.recordings.specs.Found.{RecordingFoundAs}
 use Rattle.questions.specs.Holding.{montage_channels}
-use Rattle.questions.proofs.Replies.{montage-refused, montage-inside, montage-absent, montage-outside, montage-roomy, montage-told}
+use Rattle.questions.proofs.Replies.{montage-inside, montage-absent, montage-outside, montage-roomy, montage-told}
 use Rattle.questions.proofs.montage.Goals as goal
 use Rattle.questions.proofs.montage.Goals.{After-within, Else-not-within, In_ok-order}
 
@@ -33,9 +33,6 @@ ranged c = sym (ranges (goal.at.Else-not-within c).After-within) ∙ c.if-not-wi
 roomy : (c : Else-not-within) →
     (c.in_ok-first.first + 32 + 256 * many (goal.at.Else-not-within c).After-within ≤ length c.args.file.now) × (1 ≤ c.args.channel) × (c.args.channel ≤ many (goal.at.Else-not-within c).After-within)
 roomy c = montage-roomy (known (goal.at.Else-not-within c).In_ok-order).1 _ c.in_ok-first.ensures.ok_part (ranged c)
-
-pub returns-in_err-order : goal.returns-in_err-order
-returns-in_err-order c = rw (handed _ c.from_residual.ensures) (montage-refused _ _ _ c.in_err-order.ensures)
 
 pub returns-in_err-first : goal.returns-in_err-first
 returns-in_err-first c =

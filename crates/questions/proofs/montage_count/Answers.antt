@@ -1,22 +1,16 @@
 -- `questions::montage_count` meets its contract: from the recording found, by the laws of Replies.
 -- Assumes nothing.
 use Rattle.std.proofs.Common.{Ok}
-use Rattle.rules.proofs.Handed.{handed}
 use mathlib.Core.Path.{ap, ◌∙◌}
 use Rattle.recordings.specs.Answers.{value}
 use Rattle.recordings.specs.Found.{RecordingFoundAs}
-use Rattle.questions.proofs.Replies.{montage-count-refused, montage-inside, montage-count-told}
+use Rattle.questions.proofs.Replies.{montage-inside, montage-count-told}
 use Rattle.questions.proofs.montage_count.Goals as goal
 use Rattle.questions.proofs.montage_count.Goals.{In_ok-order}
 
 -- the recording found
 known : (x : In_ok-order) → RecordingFoundAs x.args.file.now x.args.recording (Ok (x.in_ok-order.order, x.in_ok-order.q))
 known x = x.in_ok-order.ensures
-
-pub returns-in_err-order : goal.returns-in_err-order
-returns-in_err-order c =
-    rw (handed _ c.from_residual.ensures)
-    (montage-count-refused _ _ c.in_err-order.ensures)
 
 pub montage_channels-requires : goal.montage_channels-requires
 montage_channels-requires c = montage-inside (known (goal.at.montage_channels-requires c).In_ok-order).1

@@ -6,13 +6,8 @@ use native.Mathlib.Omega.{arith}
 use Rattle.words.proofs.Words.{bytes}
 use Rattle.records.proofs.Facts.{between_in}
 use Rattle.judge.proofs.Accepted.{accepted, accepted-long}
-use Rattle.recordings.proofs.Reach.{asked-refused, asked-outside, asked-found}
+use Rattle.recordings.proofs.Reach.{asked-outside, asked-found}
 use Rattle.recordings.proofs.recording_asked.Goals as goal
-
-pub returns-in_err-h : goal.returns-in_err-h
-returns-in_err-h c =
-    rw (handed _ c.from_residual.ensures)
-    (asked-refused c.args.file.now c.args.recording c.in_err-h.ensures)
 
 pub returns-then-not-within : goal.returns-then-not-within
 returns-then-not-within c =

@@ -8,9 +8,6 @@ use Rattle.rules.proofs.Handed.{handed}
 use Rattle.recordings.proofs.Reach.{ok_of, going_start, met, met-reached}
 use Rattle.recordings.proofs.recordings_to.Goals as goal
 
-pub recording_again-requires : goal.recording_again-requires
-recording_again-requires c = record { inside = c.requires.file.header; short = c.requires.file.short; held = tt }
-
 pub returns-in_err-places : goal.returns-in_err-places
 returns-in_err-places c =
     rw (handed _ c.from_residual.ensures)
@@ -33,11 +30,6 @@ loop-i-init c =
           let b = bytes a.file.now (λ j. omega (arith, c.type_inv.file j)) in
           met None (going_start a.file.now h x a.o a.label e d) (omega (arith, l, p.first)) p.file.header (ok_of _ b h x d) (Ok c.in_ok-places.places) k;
     }
-
-pub recording_again-requires-in-loop-i : goal.recording_again-requires-in-loop-i
-recording_again-requires-in-loop-i c =
-    let a = c.loop-i.invariant.bounds in
-    record { inside = a.end; short = c.requires.file.short; held = a.channels }
 
 pub returns-in_err-places-2 : goal.returns-in_err-places-2
 returns-in_err-places-2 c =

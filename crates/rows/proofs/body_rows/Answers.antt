@@ -23,16 +23,6 @@ returns c =
     let u = c.put.ensures in
     record { reaches = omega (arith, u.next); wrote = λ label held h x e n g. listed-all w.inside (w.listed label held h x e n g) v u }
 
-pub record_rows-next-requires : goal.record_rows-next-requires
-record_rows-next-requires c =
-    let v = recorded c.in-Some.is c.record_at.ensures in
-    record { starts = omega (arith, v.place, v.least); inside = v.inside; short = search rules; low = omega (arith, v.place) }
-
-pub loop-h-smaller : goal.loop-h-smaller
-loop-h-smaller c =
-    let v = recorded c.in-Some.is c.record_at.ensures in
-    omega (arith, v.least, v.inside)
-
 pub loop-h-preserved : goal.loop-h-preserved
 loop-h-preserved c =
     let w = c.loop-h.invariant in

@@ -24,9 +24,6 @@ loop-i-preserved c =
       listed = λ label ps e g. listed_next (inv.listed label ps e g) c.loop-i-test.true inv.inside r.ensures.wrote;
     }
 
-pub shape_of-out : goal.shape_of-out
-shape_of-out c = c.loop-i.invariant.same
-
 pub returns : goal.returns
 unfolding said
 returns c =

@@ -1,7 +1,6 @@
 -- `samples::frame_asked` meets its contract: from the recording found, by the laws of Framing.
 -- Assumes nothing.
 use Rattle.std.proofs.Common.{Ok}
-use Rattle.rules.proofs.Handed.{handed}
 use mathlib.Core.Path.{◌≡◌, sym, ◌∙◌}
 use mathlib.Core.Bool.{true}
 use Prim.Native.Nat.{◌+◌, ◌-◌, ◌*◌, ◌≤◌}
@@ -10,7 +9,7 @@ use native.Mathlib.Omega.{arith}
 use Rattle.rules.specs.Rules as R
 use Rattle.samples.specs.Asked.{FrameFoundAs}
 use Rattle.recordings.specs.Found.{RecordingFoundAs}
-use Rattle.samples.proofs.Framing.{frame_refused, frame-outside, frame-found-at}
+use Rattle.samples.proofs.Framing.{frame-outside, frame-found-at}
 use Rattle.samples.proofs.frame_asked.Goals as goal
 use Rattle.samples.proofs.frame_asked.Goals.{After-less-before, After-within}
 
@@ -38,11 +37,6 @@ passed : (c : goal.After-struct_known-2-1) →
     let q = c.in_ok-order.q in
     q.frame * c.less-before.result ≤ q.frame * (c.args.frame - 1)
 passed c = mul-le-mul_left _ (omega (arith, c.less-before.ensures))
-
-pub returns-in_err-order : goal.returns-in_err-order
-returns-in_err-order c =
-    rw (handed _ c.from_residual.ensures)
-    (frame_refused _ _ _ c.in_err-order.ensures)
 
 pub returns-then-not-within : goal.returns-then-not-within
 returns-then-not-within c =

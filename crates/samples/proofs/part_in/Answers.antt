@@ -26,9 +26,6 @@ pub returns-then-not-samples_fit : goal.returns-then-not-samples_fit
 returns-then-not-samples_fit c =
     sym (part-outside c.args.bytes c.args.place (omega (arith, tested-out (taken (goal.at.returns-then-not-samples_fit c).After-samples_fit) (room (goal.at.returns-then-not-samples_fit c).After-samples_fit) c.samples_fit.ensures c.if-not-samples_fit.true, c.if-bytes-place.false)))
 
-pub overflow_mul-result : goal.overflow_mul-result
-overflow_mul-result c = record { fits = omega (arith, inside c) }
-
 pub returns : goal.returns
 returns c =
     sym (part-inside c.args.bytes c.args.place (omega (arith, inside c, c.if-bytes-place.false)))

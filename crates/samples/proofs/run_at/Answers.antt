@@ -3,7 +3,6 @@
 use Prim.Native.Nat.{ℕ, ◌+◌, ◌-◌, ◌*◌, ◌≤◌}
 use native.Mathlib.Omega.{arith}
 use lib.ListN.{length}
-use Rattle.records.proofs.Facts.{bytes-short}
 use Rattle.samples.proofs.Placing.{tested-out, tested-in}
 use Rattle.samples.proofs.Stretch.{run-found, run-outside}
 use Rattle.samples.proofs.run_at.Goals as goal
@@ -19,18 +18,10 @@ room w = let a = w.args in length a.s.now - (a.at + 24)
 inside : (c : Else-not-fits) → taken (goal.at.Else-not-fits c).After-fits ≤ room (goal.at.Else-not-fits c).After-fits
 inside c = tested-in (taken (goal.at.Else-not-fits c).After-fits) (room (goal.at.Else-not-fits c).After-fits) c.fits.ensures c.if-not-fits.false
 
-pub overflow_mul-bytes : goal.overflow_mul-bytes
-overflow_mul-bytes c =
-    let n = c.samples_in-count in
-    record { fits = omega (arith, bytes-short c.width-width.result n.result c.width-width.ensures.1 n.ensures.1) }
-
 pub returns-then-not-fits : goal.returns-then-not-fits
 returns-then-not-fits c =
     run-outside _ _ _ _ _ _ _ _ _ _ _ _ c.sample_bytes-before.ensures c.number-flags.ensures.0 c.number-format.ensures.0 c.number-rate.ensures.0 c.samples_in-count.ensures.0 c.width-width.ensures.0
     (omega arith) (omega (arith, tested-out (taken (goal.at.returns-then-not-fits c).After-fits) (room (goal.at.returns-then-not-fits c).After-fits) c.fits.ensures c.if-not-fits.true))
-
-pub overflow_add-place : goal.overflow_add-place
-overflow_add-place c = record { fits = omega (arith, inside c) }
 
 pub returns : goal.returns
 returns c =

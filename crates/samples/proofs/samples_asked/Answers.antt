@@ -1,7 +1,6 @@
 -- `samples::samples_asked` meets its contract: from the frame found, by the laws of Sampling.
 -- Assumes nothing.
 use Rattle.std.proofs.Common.{Ok}
-use Rattle.rules.proofs.Handed.{handed}
 use mathlib.Core.Path.{◌≡◌, sym, ◌∙◌}
 use mathlib.Core.Bool.{true}
 use Prim.Native.Nat.{◌≤◌}
@@ -11,7 +10,7 @@ use Rattle.rules.specs.Rules as R
 use Rattle.records.proofs.Facts.{between_in}
 use Rattle.records.specs.Says.{subs_at, ChannelsIn}
 use Rattle.samples.specs.Asked.{FrameFoundAs}
-use Rattle.samples.proofs.Sampling.{samples-refused, samples-outside, samples-found-at}
+use Rattle.samples.proofs.Sampling.{samples-outside, samples-found-at}
 use Rattle.samples.proofs.samples_asked.Goals as goal
 use Rattle.samples.proofs.samples_asked.Goals.{After-struct_known-1, After-within, Else-not-within}
 
@@ -35,18 +34,10 @@ roomy c =
     let l = between_in _ _ _ (ranged (goal.at.After-struct_known-1 c).Else-not-within) in
     (y.1.found.owned.room, l.0, l.1)
 
-pub returns-in_err-order : goal.returns-in_err-order
-returns-in_err-order c =
-    rw (handed _ c.from_residual.ensures)
-    (samples-refused _ _ _ _ c.in_err-order.ensures)
-
 pub returns-then-not-within : goal.returns-then-not-within
 returns-then-not-within c =
     let y = known (goal.at.returns-then-not-within c).After-within in
     samples-outside y.1 _ (sym c.within.ensures ∙ c.if-not-within.true)
-
-pub overflow_add-subs : goal.overflow_add-subs
-overflow_add-subs c = record { fits = omega (arith, roomy c, c.well_formed) }
 
 pub overflow_sub-c : goal.overflow_sub-c
 overflow_sub-c c = omega (arith, roomy c)

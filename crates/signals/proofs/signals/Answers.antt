@@ -4,13 +4,11 @@ use Rattle.std.proofs.Common.{Ok}
 use Rattle.rules.proofs.Handed.{handed}
 use mathlib.Core.Path.{◌≡◌, sym, ◌∙◌}
 use mathlib.Core.Bool.{true}
-use native.Mathlib.Omega.{arith}
 use native.Mathlib.Nat.{add_assoc}
 use lib.Dec.{eqb}
 use Rattle.records.specs.Says.{NextHead}
 use Rattle.signals.specs.FramesJudged.{FramesAt}
 use Rattle.signals.proofs.Signaled.{other-code, stops-frames, stops-next, stops-delimiter, stops-closing, holds}
-use borrow.Author.Rules.{rules}
 use Rattle.signals.proofs.signals.Goals as goal
 use Rattle.signals.proofs.signals.Goals.{After-frames_at, In_ok-d, In_ok-f}
 
@@ -39,30 +37,17 @@ returns-in_err-f c =
     let a = c.args in
     rw (handed _ c.from_residual.ensures) (stops-frames a.o a.label a.file.now a.cs a.own a.b a.h a.base a.s.now a.multiplier c.requires (coded (goal.at.returns-in_err-f c).After-frames_at) (c.in_err-f.ensures))
 
-pub next_head-requires : goal.next_head-requires
-next_head-requires c = record { low = (frames (goal.at.next_head-requires c).In_ok-f).stands.inside; short = c.requires.body.short }
-
 pub returns-in_err-d : goal.returns-in_err-d
 returns-in_err-d c =
     let a = c.args in
     rw (handed _ c.from_residual-in_err-d.ensures)
     (stops-next a.o a.label a.file.now a.cs a.own a.b a.h a.base a.s.now a.multiplier c.requires (coded (goal.at.returns-in_err-d c).After-frames_at) (frames (goal.at.returns-in_err-d c).In_ok-f) (c.in_err-d.ensures))
 
-pub delimiter-requires : goal.delimiter-requires
-delimiter-requires c = let w = (next c).stands in search rules
-
 pub returns-in_err-delimiter : goal.returns-in_err-delimiter
 returns-in_err-delimiter c =
     let a = c.args in
     rw (handed _ c.from_residual-in_err-delimiter.ensures)
     (stops-delimiter a.o a.label a.file.now a.cs a.own a.b a.h a.base a.s.now a.multiplier c.requires (coded (goal.at.returns-in_err-delimiter c).After-frames_at) (frames (goal.at.returns-in_err-delimiter c).In_ok-f) (next (goal.at.returns-in_err-delimiter c).In_ok-d) (c.delimiter.ensures a.o a.base a.s.now) c.in_err-delimiter.was)
-
-pub overflow_add-d : goal.overflow_add-d
-overflow_add-d c = omega (arith, (next (goal.at.overflow_add-d c).In_ok-d).stands.inside, c.requires.body.short)
-
-pub closed-requires : goal.closed-requires
-closed-requires c =
-    record { body = c.requires.body; inside = (next (goal.at.closed-requires c).In_ok-d).stands.inside }
 
 pub returns-in_err-closed : goal.returns-in_err-closed
 returns-in_err-closed c =

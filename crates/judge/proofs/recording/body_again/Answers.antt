@@ -2,7 +2,6 @@
 -- x: behind the descriptions. Assumes nothing.
 use Rattle.std.proofs.Common.{Ok}
 use Rattle.rules.proofs.Handed.{handed}
-use native.Mathlib.Omega.{arith}
 use Prim.Native.Nat.{◌+◌}
 use Rattle.descriptions.specs.DescriptionsJudged.{DescriptionsOf}
 use Rattle.judge.proofs.Recorded.{again-stops, again-short, again-holds}
@@ -19,12 +18,6 @@ pub returns-in_err-t : goal.returns-in_err-t
 returns-in_err-t c =
     let a = c.args in
     rw (handed _ c.from_residual.ensures) (again-stops a.o a.label a.s.now a.at a.before (c.in_err-t.ensures))
-
-pub overflow_add-place : goal.overflow_add-place
-overflow_add-place c = omega (arith, (described (goal.at.overflow_add-place c).In_ok-t).bounds.fits, c.requires)
-
-pub overflow_add-p : goal.overflow_add-p
-overflow_add-p c = omega (arith, (described (goal.at.overflow_add-p c).In_ok-t).bounds.fits, c.requires)
 
 pub returns-then-s-p : goal.returns-then-s-p
 returns-then-s-p c =

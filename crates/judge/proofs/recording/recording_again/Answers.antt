@@ -30,18 +30,6 @@ pub returns-in_err-end : goal.returns-in_err-end
 returns-in_err-end c =
     rw (handed _ c.from_residual.ensures) (again-refused (c.in_err-end.ensures))
 
-pub slice_bounds-body_again-count : goal.slice_bounds-body_again-count
-slice_bounds-body_again-count c = let st = (begun c).stands in omega arith
-
-pub slice_bounds-body_again-start : goal.slice_bounds-body_again-start
-slice_bounds-body_again-start c = let st = (begun c).stands in omega arith
-
-pub slice_bounds-body_again-end : goal.slice_bounds-body_again-end
-slice_bounds-body_again-end c = (begun c).stands.inside
-
-pub body_again-requires : goal.body_again-requires
-body_again-requires c = let b = asked (goal.at.body_again-requires c).In_ok-end in omega (arith, b.inside, b.short)
-
 pub returns : goal.returns
 returns c =
     again-body (begun (goal.at.returns c).In_ok-end) (asked (goal.at.returns c).In_ok-end) c.body_again.ensures

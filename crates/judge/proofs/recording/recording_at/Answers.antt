@@ -2,10 +2,9 @@
 -- x: behind the head. Assumes nothing.
 use Rattle.std.proofs.Common.{Ok}
 use Rattle.rules.proofs.Handed.{handed}
-use native.Mathlib.Omega.{arith}
 use Rattle.rules.specs.declared.Kind.TheVariants as Kind
 use Rattle.records.specs.Says.{OpenAt}
-use Rattle.judge.proofs.Recorded.{body-asked, at_stops, at_body}
+use Rattle.judge.proofs.Recorded.{at_stops, at_body}
 use Rattle.judge.proofs.recording.recording_at.Goals as goal
 use Rattle.judge.proofs.recording.recording_at.Goals.{In_ok-h}
 
@@ -18,20 +17,6 @@ begun x = x.in_ok-h.ensures
 pub returns-in_err-h : goal.returns-in_err-h
 returns-in_err-h c =
     rw (handed _ c.from_residual.ensures) (at_stops (c.in_err-h.ensures))
-
-pub slice_bounds-recording_body-count : goal.slice_bounds-recording_body-count
-slice_bounds-recording_body-count c = let st = (begun (goal.at.slice_bounds-recording_body-count c).In_ok-h).stands in omega arith
-
-pub slice_bounds-recording_body-start : goal.slice_bounds-recording_body-start
-slice_bounds-recording_body-start c = let st = (begun (goal.at.slice_bounds-recording_body-start c).In_ok-h).stands in omega arith
-
-pub slice_bounds-recording_body-end : goal.slice_bounds-recording_body-end
-slice_bounds-recording_body-end c = (begun (goal.at.slice_bounds-recording_body-end c).In_ok-h).stands.inside
-
-pub recording_body-requires : goal.recording_body-requires
-recording_body-requires c =
-    let st = (begun (goal.at.recording_body-requires c).In_ok-h).stands in
-    body-asked c.args.file.now c.args.p c.in_ok-h.end (omega arith) st.inside c.requires
 
 pub returns : goal.returns
 returns c = at_body (begun (goal.at.returns c).In_ok-h) c.recording_body.ensures

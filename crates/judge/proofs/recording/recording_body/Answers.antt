@@ -2,7 +2,6 @@
 -- x: behind the descriptions. Assumes nothing.
 use Rattle.std.proofs.Common.{Ok}
 use Rattle.rules.proofs.Handed.{handed}
-use native.Mathlib.Omega.{arith}
 use Prim.Native.Nat.{◌+◌}
 use Rattle.descriptions.specs.DescriptionsJudged.{DescriptionsOf}
 use Rattle.judge.proofs.Recorded.{channels-asked, signals-asked, stops-descriptions, stops-signals, holds}
@@ -36,11 +35,6 @@ returns-in_err-f c =
     let a = c.args in
     rw (handed _ c.from_residual-in_err-f.ensures)
     (stops-signals a.o a.label a.file.now a.s.now a.at a.before c.requires (described (goal.at.returns-in_err-f c).In_ok-t) c.channels_of-cs.ensures (c.in_err-f.ensures))
-
-pub places_for-requires : goal.places_for-requires
-places_for-requires c =
-    let i = c.requires in
-    record { inside = omega (arith, (described (goal.at.places_for-requires c).In_ok-t).bounds.fits); short = omega (arith, i.inside, i.short) }
 
 pub returns : goal.returns
 returns c =

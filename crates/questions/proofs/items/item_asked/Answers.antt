@@ -2,20 +2,15 @@
 -- Assumes nothing.
 use Rattle.std.proofs.Common.{Ok}
 use mathlib.Core.Path.{sym, ◌∙◌}
-use Rattle.rules.proofs.Handed.{handed, lacked}
+use Rattle.rules.proofs.Handed.{lacked}
 use Rattle.recordings.specs.Found.{RecordingFoundAs}
-use Rattle.questions.proofs.Owners.{asked-refused, asked-nothing, asked-inside, asked-item}
+use Rattle.questions.proofs.Owners.{asked-nothing, asked-inside, asked-item}
 use Rattle.questions.proofs.items.item_asked.Goals as goal
 use Rattle.questions.proofs.items.item_asked.Goals.{In_ok-order}
 
 -- the recording found
 known : (x : In_ok-order) → RecordingFoundAs x.args.file.now x.args.recording (Ok (x.in_ok-order.order, x.in_ok-order.q))
 known x = x.in_ok-order.ensures
-
-pub returns-in_err-order : goal.returns-in_err-order
-returns-in_err-order c =
-    let a = c.args in
-    rw (handed _ c.from_residual.ensures) (asked-refused a.k a.file.now a.recording a.item c.in_err-order.ensures)
 
 pub returns-in_err-at : goal.returns-in_err-at
 returns-in_err-at c =

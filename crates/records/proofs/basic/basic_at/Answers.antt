@@ -10,7 +10,7 @@ use Rattle.rules.specs.Rules.{basic_body}
 use Rattle.rules.proofs.Room.{stays-basic_body}
 use Rattle.rules.specs.declared.Kind.TheVariants as Kind
 use Rattle.records.specs.Says.{basic_of, Reaches}
-use Rattle.records.proofs.Bodies.{fixed-opened, body-asked, body-seen}
+use Rattle.records.proofs.Bodies.{fixed-opened, body-seen}
 use Rattle.records.proofs.basic.basic_at.Goals as goal
 use Rattle.records.proofs.basic.basic_at.Goals.{In_ok-end}
 
@@ -22,20 +22,6 @@ pub returns-in_err-end : goal.returns-in_err-end
 returns-in_err-end c =
     rw (handed _ c.from_residual.ensures)
     (simp (fixed-opened, walks, c.in_err-end.ensures.seen))
-
-pub slice_bounds-body-count : goal.slice_bounds-body-count
-slice_bounds-body-count c = let v = reached c in omega (arith, v.end, v.spans)
-
-pub slice_bounds-body-start : goal.slice_bounds-body-start
-slice_bounds-body-start c = let v = reached c in omega (arith, v.end, v.spans)
-
-pub slice_bounds-body-end : goal.slice_bounds-body-end
-slice_bounds-body-end c = let v = reached c in omega (arith, v.inside)
-
-pub basic_body-requires : goal.basic_body-requires
-basic_body-requires c =
-    let v = reached (goal.at.basic_body-requires c).In_ok-end in
-    body-asked c.args.base c.args.p c.in_ok-end.end 112 c.args.s.now (omega (arith, v.end, v.spans)) v.inside c.requires.short
 
 pub returns : goal.returns
 returns c =

@@ -13,7 +13,6 @@ use Rattle.walk.specs.See.{Verdict, gate}
 use Rattle.rules.specs.Rules as R
 use Rattle.dates.specs.Dates.{first_wrong, date_of}
 use Rattle.dates.specs.declared.WrongDate.{WrongDate}
-use Rattle.dates.specs.declared.WrongDate.TheVariants as WrongDate
 use Rattle.records.specs.Says.{resumed, date_tested}
 use Rattle.records.proofs.basic.date_ok.Goals as goal
 use Rattle.records.proofs.basic.date_ok.Goals.{After-judge_date}

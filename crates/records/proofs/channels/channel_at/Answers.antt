@@ -11,7 +11,7 @@ use Rattle.rules.proofs.Room.{stays-channel_body}
 use Rattle.rules.specs.declared.Kind.{Kind}
 use Rattle.records.specs.Says.{StepOver, Advances, tested, group_of, sub_code, OpenAt, Reaches}
 use Rattle.records.proofs.Groups.{told-group}
-use Rattle.records.proofs.Bodies.{ended, fixed-opened, body-long, body-asked, body-held, ended-advances}
+use Rattle.records.proofs.Bodies.{ended, fixed-opened, body-long, body-held, ended-advances}
 use Rattle.records.proofs.channels.channel_at.Goals as goal
 use Rattle.records.proofs.channels.channel_at.Goals.{After-open, In_ok-end, After-channel_body}
 
@@ -33,20 +33,6 @@ pub returns-in_err-end : goal.returns-in_err-end
 returns-in_err-end c =
     rw (handed _ c.from_residual.ensures)
     (record { seen = simp (fixed-opened, walks, c.in_err-end.was, (opens (goal.at.returns-in_err-end c).After-open).seen); stands = tt })
-
-pub slice_bounds-body-count : goal.slice_bounds-body-count
-slice_bounds-body-count c = let v = reached c in omega (arith, v.end, v.spans)
-
-pub slice_bounds-body-start : goal.slice_bounds-body-start
-slice_bounds-body-start c = let v = reached c in omega (arith, v.end, v.spans)
-
-pub slice_bounds-body-end : goal.slice_bounds-body-end
-slice_bounds-body-end c = let v = reached c in omega (arith, v.inside)
-
-pub channel_body-requires : goal.channel_body-requires
-channel_body-requires c =
-    let v = reached (goal.at.channel_body-requires c).In_ok-end in
-    body-asked c.args.base c.args.p c.in_ok-end.end 240 c.args.s.now (omega (arith, v.end, v.spans)) v.inside c.requires.short
 
 -- what its body comes to: where the record stops, or the body's refusal
 held : (x : After-channel_body) → StepOver x.args.o x.args.base x.args.s.now x.args.p (R.channel (group_of x.args.g).sub (length x.args.s.now - x.args.p) x.args.i) (Advances x.args.p 256 (length x.args.s.now)) (ended x.channel_body.result x.in_ok-end.end)

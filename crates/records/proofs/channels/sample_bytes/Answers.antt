@@ -1,25 +1,13 @@
 -- `records::channels::sample_bytes` meets its contract: the channels up to i are summed. Assumes nothing.
 use Rattle.records.proofs.Facts.{bytes-short}
 use Rattle.records.proofs.Steps.{rest-none, rest_more}
-use native.Mathlib.Nat.{zero-add, sub-zero}
-use mathlib.Core.Path.{◌∙◌, sym}
 use Prim.Native.Nat.{◌≤◌, ◌*◌}
 use native.Mathlib.Omega.{arith}
-use borrow.Author.Rules.{rules}
 use Rattle.records.proofs.channels.sample_bytes.Goals as goal
 
 -- a channel has few bytes
 few : (c : goal.After-samples_in) → c.width.result * c.samples_in.result ≤ 61847529062400
 few c = bytes-short c.width.result c.samples_in.result c.width.ensures.1 c.samples_in.ensures.1
-
-pub loop-i-init : goal.loop-i-init
-loop-i-init c = (search rules, search rules, search rules, λ cs e k. record { rest = cs; count = e ∙ sym (sub-zero _); kept = k; total = zero-add _ })
-
-pub overflow_mul-sum : goal.overflow_mul-sum
-overflow_mul-sum c = record { fits = omega (arith, few c) }
-
-pub overflow_add-sum : goal.overflow_add-sum
-overflow_add-sum c = let h = few c in omega arith
 
 pub loop-i-preserved : goal.loop-i-preserved
 loop-i-preserved c =

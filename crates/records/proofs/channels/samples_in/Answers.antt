@@ -12,9 +12,6 @@ pub returns-then-rate-eq0 : goal.returns-then-rate-eq0
 unfolding samples_of
 returns-then-rate-eq0 c = (simp (tests, eq-eqb _ _ c.if-rate-eq0.true), omega arith)
 
-pub overflow_mul-result : goal.overflow_mul-result
-overflow_mul-result c = record { fits = omega (arith, samples-short c.args.rate c.args.t (omega arith) (omega arith)) }
-
 pub returns-then-flags-eq0 : goal.returns-then-flags-eq0
 unfolding samples_of
 returns-then-flags-eq0 c = (simp (tests, eq-eqb _ _ c.if-flags-eq0.true, c.if-rate-eq0.false), samples-short c.args.rate c.args.t (omega arith) (omega arith))

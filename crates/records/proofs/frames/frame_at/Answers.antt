@@ -10,7 +10,7 @@ use Rattle.rules.specs.Rules.{frame_body}
 use Rattle.rules.proofs.Room.{stays-frame_body}
 use Rattle.rules.specs.declared.Kind.TheVariants as Kind
 use Rattle.records.specs.Says.{FramesOver, Advances, Reaches}
-use Rattle.records.proofs.Bodies.{ended, frame_opened, body-asked, body-held, ended-advances}
+use Rattle.records.proofs.Bodies.{ended, frame_opened, body-held, ended-advances}
 use Rattle.records.proofs.frames.frame_at.Goals as goal
 use Rattle.records.proofs.frames.frame_at.Goals.{In_ok-end, After-frame_body}
 
@@ -22,22 +22,6 @@ pub returns-in_err-end : goal.returns-in_err-end
 returns-in_err-end c =
     rw (handed _ c.from_residual.ensures)
     (record { seen = (λ t cs e. simp (frame_opened, ← e, walks, c.in_err-end.ensures.seen)); stands = tt })
-
-pub slice_bounds-body-count : goal.slice_bounds-body-count
-slice_bounds-body-count c = let v = reached c in omega (arith, v.end, v.spans)
-
-pub slice_bounds-body-start : goal.slice_bounds-body-start
-slice_bounds-body-start c = let v = reached c in omega (arith, v.end, v.spans)
-
-pub slice_bounds-body-end : goal.slice_bounds-body-end
-slice_bounds-body-end c = let v = reached c in omega (arith, v.inside)
-
-pub frame_body-requires : goal.frame_body-requires
-frame_body-requires c =
-    let v = reached (goal.at.frame_body-requires c).In_ok-end in
-    let q = c.in_ok-end.end in
-    let b = body-asked c.args.base c.args.p q (c.args.filled - 16) c.args.s.now (omega (arith, v.end, v.spans, c.requires.timed, c.requires.inside)) v.inside c.requires.part.short in
-    record { timed = c.requires.timed; inside = omega (arith, b.long, c.requires.timed); short = b.short }
 
 -- what its body comes to: where the record stops, or the body's refusal
 held : (x : After-frame_body) → FramesOver x.args.o x.args.base x.args.s.now x.args.p x.args.filled (λ t cs. R.frame x.args.label x.args.size t cs (length x.args.s.now - x.args.p) x.args.i) (Advances x.args.p x.args.size (length x.args.s.now)) (ended x.frame_body.result x.in_ok-end.end)

@@ -3,14 +3,11 @@ use Rattle.rules.proofs.Handed.{handed}
 use Rattle.records.proofs.Steps.{series-stop, series-go, series-none}
 use borrow.Author.Rules.{rules}
 use native.Mathlib.Numerals.{add-one}
-use native.Mathlib.Nat.{sub-zero, mul-suc}
+use native.Mathlib.Nat.{mul-suc}
 use mathlib.Core.Path.{◌≡◌, ◌∙◌}
 use Prim.Native.Nat.{◌+◌, ◌*◌}
 use native.Mathlib.Omega.{arith}
 use Rattle.records.proofs.frames.frames_from.Goals as goal
-
-pub loop-i-init : goal.loop-i-init
-loop-i-init c = (search rules, omega arith, search rules, λ t cs e. simp sub-zero)
 
 pub returns-in_err-p : goal.returns-in_err-p
 returns-in_err-p c =

@@ -13,8 +13,5 @@ short c = length-short _ _ c.requires.small c.requires.few
 pub returns-then-h-eq0 : goal.returns-then-h-eq0
 returns-then-h-eq0 c = (length_none _ _ c.if-h-eq0.true, omega arith)
 
-pub overflow_mul-result : goal.overflow_mul-result
-overflow_mul-result c = record { fits = omega (arith, short c) }
-
 pub returns : goal.returns
 returns c = (length-times _ _ c.if-h-eq0.false, short c)

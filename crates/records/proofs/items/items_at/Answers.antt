@@ -11,7 +11,7 @@ use Rattle.rules.proofs.Room.{stays-items_body}
 use Rattle.rules.specs.declared.Kind.TheVariants as Kind
 use Rattle.records.specs.Says.{head_of, StepOver, Beyond, ok_of, Admits}
 use Rattle.records.proofs.Steps.{items-split}
-use Rattle.records.proofs.Bodies.{ended, body-asked, body-held, ended-beyond}
+use Rattle.records.proofs.Bodies.{ended, body-held, ended-beyond}
 use Rattle.records.proofs.items.items_at.Goals as goal
 use Rattle.records.proofs.items.items_at.Goals.{In_ok-end, After-items_body}
 
@@ -21,20 +21,6 @@ reached x = x.in_ok-end.ensures.stands
 
 pub returns-in_err-end : goal.returns-in_err-end
 returns-in_err-end c = rw (handed _ c.from_residual.ensures) (record { seen = simp (items-split, walks, c.in_err-end.ensures.seen); stands = tt })
-
-pub slice_bounds-body-count : goal.slice_bounds-body-count
-slice_bounds-body-count c = let v = reached c in omega arith
-
-pub slice_bounds-body-start : goal.slice_bounds-body-start
-slice_bounds-body-start c = let v = reached c in omega arith
-
-pub slice_bounds-body-end : goal.slice_bounds-body-end
-slice_bounds-body-end c = let v = reached c in omega arith
-
-pub items_body-requires : goal.items_body-requires
-items_body-requires c =
-    let v = reached (goal.at.items_body-requires c).In_ok-end in
-    body-asked c.args.base c.args.h.at c.in_ok-end.end 8 c.args.s.now (omega (arith, v.0, v.2)) v.1 c.requires.short
 
 -- what its body comes to: where the record stops, or the body's refusal
 held : (x : After-items_body) → StepOver x.args.o x.args.base x.args.s.now (x.args.h.at + 16) (R.items (ok_of x.args.k) (length x.args.s.now - x.args.h.at) (head_of x.args.h)) (Beyond (x.args.h.at + 24) (length x.args.s.now)) (ended x.items_body.result x.in_ok-end.end)

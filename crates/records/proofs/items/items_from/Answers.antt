@@ -2,13 +2,9 @@
 use Rattle.rules.proofs.Handed.{handed}
 use Rattle.records.proofs.Steps.{list-stop, list-go, list-none}
 use borrow.Author.Rules.{rules}
-use native.Mathlib.Nat.{sub-zero}
 use mathlib.Core.Path.{◌∙◌}
 use native.Mathlib.Omega.{arith}
 use Rattle.records.proofs.items.items_from.Goals as goal
-
-pub loop-i-init : goal.loop-i-init
-loop-i-init c = (search rules, search rules, search rules, simp sub-zero)
 
 pub returns-in_err-p : goal.returns-in_err-p
 returns-in_err-p c =

@@ -6,7 +6,6 @@ use lib.ListN.{length}
 use Rattle.records.specs.Says.{opened, HeadPlaced}
 use Rattle.records.proofs.Laws.{admitted-at}
 use native.Mathlib.Omega.{arith}
-use borrow.Author.Rules.{rules}
 use Rattle.records.proofs.kinds.open.Goals as goal
 use Rattle.records.proofs.kinds.open.Goals.{After-has_code}
 
@@ -25,11 +24,6 @@ unfolding opened
 returns-then-not-has_code c =
     let w = placed (goal.at.returns-then-not-has_code c).After-has_code in
     record { seen = simp (walks, tests, w.0, c.if-not-has_code.true, ← c.has_code.ensures, c.in_ok-h.ensures.seen); stands = tt }
-
-pub admit-requires : goal.admit-requires
-admit-requires c =
-    let w = placed (goal.at.admit-requires c).After-has_code in
-    search rules
 
 pub returns-in_err-end : goal.returns-in_err-end
 unfolding opened

@@ -1,16 +1,7 @@
 -- `records::writing::put_head` meets its contract: what is written piece by piece is the head.
 -- Assumes nothing.
-use mathlib.Core.Path.{sym}
-use native.Mathlib.Omega.{arith}
-use lib.Seq.{length-take-le}
 use Rattle.records.proofs.Heads.{head-written}
 use Rattle.records.proofs.writing.put_head.Goals as goal
-
-pub slice_bounds-put-end-2 : goal.slice_bounds-put-end-2
-slice_bounds-put-end-2 c = sym (length-take-le 4 c.args.d.now (omega arith))
-
-pub put-requires-clause-room : goal.put-requires-clause-room
-put-requires-clause-room c = length-take-le 4 c.args.d.now (omega arith)
 
 pub returns : goal.returns
 returns c =

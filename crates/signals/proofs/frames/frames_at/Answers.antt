@@ -4,9 +4,8 @@ use Rattle.std.proofs.Common.{Ok}
 use Rattle.rules.proofs.Handed.{handed}
 use mathlib.Core.Path.{◌≡◌, sym, ◌∙◌}
 use mathlib.Core.Bool.{true, ◌||◌}
-use native.Mathlib.Omega.{arith}
 use lib.Dec.{eqb}
-use lib.ListN.{length, length-take, length-drop}
+use lib.ListN.{length}
 use Rattle.rules.specs.declared.Kind.TheVariants as Kind
 use Rattle.records.specs.Says.{AdmittedBy}
 use Rattle.signals.proofs.Answers.{at-refused, at-uncounted, at-stop, at_on}
@@ -35,23 +34,6 @@ returns-then-not-count_ok c =
     let a = c.args in
     at-uncounted a.o a.label a.file.now a.cs a.own a.b a.h a.base a.s.now (admits (goal.at.returns-then-not-count_ok c).After-count_ok)
     (sym c.count_ok.ensures ∙ c.if-not-count_ok.true) c.requires.head.low
-
-pub slice_bounds-body-count : goal.slice_bounds-body-count
-slice_bounds-body-count c = let v = (admits (goal.at.slice_bounds-body-count c).After-count_ok).stands in omega arith
-
-pub slice_bounds-body-start : goal.slice_bounds-body-start
-slice_bounds-body-start c = let v = (admits (goal.at.slice_bounds-body-start c).After-count_ok).stands in omega arith
-
-pub slice_bounds-body-end : goal.slice_bounds-body-end
-slice_bounds-body-end c = let v = (admits (goal.at.slice_bounds-body-end c).After-count_ok).stands in omega arith
-
-pub frames_body-requires : goal.frames_body-requires
-frames_body-requires c =
-    let v = (admits (goal.at.frames_body-requires c).After-count_ok).stands in
-    record {
-      body = record { fields = record { long = simp (length-take, length-drop) (omega arith); short = simp (length-take, length-drop) (omega (arith, c.requires.body.short)) }; few = c.requires.few };
-      channels = c.requires.channels;
-    }
 
 pub returns-in_err-f : goal.returns-in_err-f
 returns-in_err-f c =

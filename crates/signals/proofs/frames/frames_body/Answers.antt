@@ -19,9 +19,6 @@ returns-in_err-f c =
     (let a = c.args in
     record { seen = λ b ch h w. body-stop a.o a.label a.at a.s.now ch w (c.in_err-f.ensures.told ch w.channels); fills = tt })
 
-pub frames_rest-requires : goal.frames_rest-requires
-frames_rest-requires c = record { body = c.requires.body; sized = (shape c).sized }
-
 pub returns : goal.returns
 returns c =
     let a = c.args in

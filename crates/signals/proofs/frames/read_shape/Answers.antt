@@ -61,11 +61,6 @@ returns-then-n-total c =
     stops-count a.o a.file.now a.cs a.at a.s.now a.total a.multiplier c.field-t.ensures.0 c.field-size.ensures.0 c.field-n.ensures.0 (timed (goal.at.returns-then-n-total c).Else-not-between) (sampled (goal.at.returns-then-n-total c).After-size_ok)
     (λ ch st. c.sample_bytes-bytes.ensures ch st.count st.kept) (filled (goal.at.returns-then-n-total c).Else-not-size_ok) c.if-n-total.true
 
-pub room_ok-requires : goal.room_ok-requires
-room_ok-requires c =
-    let l = size_fits _ _ (filled (goal.at.room_ok-requires c).Else-not-size_ok) in
-    record { few = omega arith; short = l.1 }
-
 pub returns-then-not-room_ok : goal.returns-then-not-room_ok
 returns-then-not-room_ok c =
     let a = c.args in
