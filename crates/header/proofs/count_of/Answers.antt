@@ -2,7 +2,7 @@
 use mathlib.Core.Path.{sym, ◌∙◌}
 use native.Mathlib.Omega.{arith}
 use Rattle.records.proofs.Facts.{between_in}
-use Rattle.header.proofs.Opening.{spaces-rest, digits-short, digits_more, count-start, count-end, count-more, count-rest}
+use Rattle.header.proofs.Opening.{spaces-rest, digits_more, count-start, count-end, count-more, count-rest}
 use Rattle.header.proofs.count_of.Goals as goal
 
 pub loop-i-init : goal.loop-i-init
@@ -14,20 +14,9 @@ returns-then-not-spaces c = sym (c.loop-i.invariant.1 ∙ count-rest _ _ _ _ c.l
 pub returns-then-not-between : goal.returns-then-not-between
 returns-then-not-between c = sym (c.loop-i.invariant.1 ∙ count-rest _ _ _ _ c.loop-i-test.true c.byte-b.ensures.0 _ (sym c.between.ensures ∙ c.if-not-between.true) (spaces-rest c.args.s.now c.loop-i.i (sym c.spaces.ensures ∙ c.if-not-spaces.false)))
 
-pub overflow_mul-value : goal.overflow_mul-value
-overflow_mul-value c =
-    let t = digits-short _ _ _ c.loop-i-test.true c.requires c.loop-i.invariant.0 in
-    omega arith
-
 pub overflow_sub-value : goal.overflow_sub-value
 overflow_sub-value c =
     let d = between_in 48 57 c.byte-b.result (sym c.between.ensures ∙ c.if-not-between.false) in
-    omega arith
-
-pub overflow_add-value : goal.overflow_add-value
-overflow_add-value c =
-    let d = between_in 48 57 c.byte-b.result (sym c.between.ensures ∙ c.if-not-between.false) in
-    let t = digits-short _ _ _ c.loop-i-test.true c.requires c.loop-i.invariant.0 in
     omega arith
 
 pub loop-i-preserved : goal.loop-i-preserved

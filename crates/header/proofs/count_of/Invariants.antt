@@ -1,7 +1,7 @@
 -- `header::count_of` meets its contract. The loop's invariant: the value so far is that of the digits passed. The measure is how many bytes are left. Assumes nothing.
 use mathlib.Core.Path.{◌≡◌}
-use Prim.Native.Nat.{◌-◌, ◌^◌, ◌<◌}
-use lib.ListN.{length, drop}
+use Prim.Native.Nat.{◌^◌, ◌<◌}
+use lib.ListN.{drop}
 use Rattle.rules.specs.Rules.{decimal, count_of, count_is}
 use Rattle.header.proofs.count_of.Given as goal
 

@@ -1,7 +1,7 @@
 -- `header::file_header` meets its contract: each return is where the walk's tests stop, or hold, one after the other.
 -- Assumes nothing.
 use Rattle.rules.proofs.Handed.{lacked}
-use Rattle.std.proofs.Common.{Option, Some, None}
+use Rattle.std.proofs.Common.{Option, Some}
 use mathlib.Core.Path.{◌≡◌, sym, ap, ◌∙◌}
 use mathlib.Core.List.{List}
 use Prim.Native.Nat.{ℕ}
