@@ -1,12 +1,13 @@
--- Loops that turn a run front to back, once over the width and the numbers of a step.
+-- Loops that write a run front to back: copied, and turned, once over the width and the numbers of a step.
 -- Assumes nothing.
 use mathlib.Core.Path.{◌≡◌, refl, sym, ap, ◌∙◌}
-use mathlib.Core.List.{List, ◌++◌}
+use mathlib.Core.List.{List, [], ◌∷◌, ◌++◌}
 use Prim.Native.Nat.{ℕ, ◌+◌, ◌-◌, ◌*◌, ◌<◌, ◌≤◌, zero-le}
 use native.Mathlib.Nat.{zero-mul, mul-le-mul_right, add-mul}
+use native.Mathlib.Numerals.{add-one}
 use native.Mathlib.Omega.{arith}
-use lib.ListN.{length, take, drop, length-append, length-take, length-drop}
-use lib.Seq.{drop-drop, drop_at, take_all, take-add, take-take, length-take-le}
+use lib.ListN.{length, get_or, take, drop, set, length-append, length-take, length-drop}
+use lib.Seq.{drop-drop, drop_at, take-suc, take-suc-set, take_all, take-add, take-take, length-take-le}
 use Rattle.words.specs.Runs.{turned}
 use Rattle.words.proofs.Runs.{turned-add, length-turned, turned-take}
 use Rattle.words.proofs.Fronts.{put, front-more}
@@ -15,6 +16,10 @@ use Rattle.bulk.specs.Runs.{Run}
 -- a loop that has come to the end has written all of d
 pub all_done : (d xs : List ℕ) (at : ℕ) → take at d ≡ xs → length d ≤ at → d ≡ xs
 all_done d xs at e h = sym (take_all at d h) ∙ e
+
+-- one byte more, copied behind the first i
+pub copied_more : (d s : List ℕ) (i : ℕ) → i < length s → i < length d → take i d ≡ take i s → take (i + 1) (set d i (get_or s i 0)) ≡ take (i + 1) s
+copied_more d s i hs hd e = rw add-one (take-suc-set d i (get_or s i 0) hd ∙ ap (λ (x : List ℕ). x ++ (get_or s i 0 ∷ [])) e ∙ sym (take-suc s i 0 hs))
 
 -- the first i of n numbers of s are turned, and stand in front in d
 pub record Turning (w n : ℕ) (s d : List ℕ) (i at : ℕ) : Type 0 where

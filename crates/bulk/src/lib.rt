@@ -154,12 +154,14 @@ pub fn turn_run(width: usize, n: usize, src: &[u8], dst: &mut [u8])
     }
 }
 
-// A run of bytes, copied.
+// A run of bytes, copied. A loop, of which the compiler makes wide code: the library's copy is a call of memmove, which an archive for C would ask for.
 pub fn copy_run(src: &[u8], dst: &mut [u8])
     requires { length dst.old ≡ length src.now }
     ensures { dst.new ≡ src.now }
 {
-    dst.copy_from_slice(src);
+    for i in 0..src.len() {
+        dst[i] = src[i];
+    }
 }
 
 // A run of bytes, all made 0.
