@@ -1,3 +1,4 @@
 pub mod Casts
 pub mod Filled
+pub mod Loops
 pub mod Places
