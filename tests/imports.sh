@@ -16,3 +16,11 @@ if [ -n "$others" ]; then
     printf 'imports: of the proofs of other crates overview cites those of demands alone:\n%s\n' "$others"
     exit 1
 fi
+
+# Nor by way of demands: what its proofs only hand on is another crate's.
+passed=$(grep -rnE --include='*.antt' '^\s*pub use Rattle\.\w+\.proofs\b' crates/demands/proofs \
+    | grep -vE 'pub use Rattle\.(std|demands)\.' || true)
+if [ -n "$passed" ]; then
+    printf 'imports: the proofs of demands hand on those of other crates:\n%s\n' "$passed"
+    exit 1
+fi

@@ -83,7 +83,8 @@ data Kind {E : Type 0} (refuse : Refusal → E) (n : ℕ) (b : E) : Type 0 where
   is-refusal : (r : Refusal) → b ≡ refuse r → Kind refuse n b
 
 module _ (s : List ℕ) {E A : Type 0} {meets : E → Type 0} {refuse : Refusal → E} {apart : E → A} {numbers : ℕ → Bool} {need n p : ℕ} {a : A} where
-  taken-apart : (b : E) → meets b → a ≡ apart b → ((m q : ℕ) → R.judge s ≡ refused m q → a ≡ apart (refuse (refusal_of m q))) → ((r : Refusal) → b ≡ refuse r → (number_of r.0 ≡ n) × (r.1 ≡ p)) →
+  taken-apart : (b : E) → meets b → a ≡ apart b → ((m q : ℕ) → R.judge s ≡ refused m q → Named m × (a ≡ apart (refuse (refusal_of m q)))) →
+      ((r : Refusal) → b ≡ refuse r → (number_of r.0 ≡ n) × (r.1 ≡ p)) →
       Answered refuse numbers (length s) need b → Kind refuse n b → TakenApart s meets refuse apart numbers need n p a
   taken-apart b m e h says proper (is-value z) = record {
     told = b;
@@ -162,7 +163,7 @@ module _ {M X E A : Type 0} {val : X → M} {ref : ℕ → ℕ → M} (l : Meant
       let i = told-means x (λ n p j. (proper n p j).named) in
       let is : (u : Refusal) → told-by x ≡ l.refuse u → m ≡ ref (number_of u.0) u.1 = λ u j. sym i ∙ (ap l.meaning j ∙ l.refuses u) in
       taken-apart s (told-by x) (met (told-by x) i) (e ∙ ap l.flat (sym i))
-      (λ n p j. e ∙ ap l.flat (hand n p j ∙ ap (λ (k : ℕ). ref k p) (sym (proper n p (hand n p j)).named) ∙ sym (l.refuses (refusal_of n p))))
+      (λ n p j. let k = (proper n p (hand n p j)).named in (k, e ∙ ap l.flat (hand n p j ∙ ap (λ (u : ℕ). ref u p) (sym k) ∙ sym (l.refuses (refusal_of n p)))))
       (λ u j. let k = sym (ap l.says (e ∙ ap l.flat (is u j)) ∙ l.named (number_of u.0) u.1) in (ap (λ (y : ℕ × ℕ). y.0) k, ap (λ (y : ℕ × ℕ). y.1) k))
       (λ u j. proper (number_of u.0) u.1 (is u j)) (told-kind x e)
 
@@ -266,7 +267,7 @@ headed-by s {v} x h = x ∙ rw (h, letter-is s (header_judged s v) (accepted-as 
 -- an answer for C about a buffer, and the answer of Rattle
 data Ends {E : Type 0} (refuse : Refusal → E) (wrote : ℕ → E) (a : Counted) (c : E) : Type 0 where
   ended : (n : ℕ) → c ≡ wrote n → a ≡ wrote_c n → Ends refuse wrote a c
-  stops : (r : Refusal) → c ≡ refuse r → a ≡ stopped_c r → Ends refuse wrote a c
+  stops : (r : Refusal) → c ≡ refuse r → a ≡ stopped_c (number_of r.0, r.1) → Ends refuse wrote a c
 
 module _ {B E : Type 0} {refuse : Refusal → E} {wrote : ℕ → E} {each : ℕ} {out out' : List B} {a : Counted} {c : E} where
   kept : KeepsRest refuse wrote each out out' c → Ends refuse wrote a c → KeepsRest stopped_c wrote_c each out out' a
@@ -317,7 +318,7 @@ module _ (s : List ℕ) (b : Bytes s) where
     where
       told : (j : Result FileHeader Refusal) → JudgedAs s j → a ≡ flat_judged j → Kind Err a.refusal j → TakenApart s (JudgedAs s) Err flat_judged of_file 0 a.refusal a.position a
       told j m e k =
-          taken-apart s j m e (λ n p h. x ∙ header-refused h)
+          taken-apart s j m e (λ n p h. (file-named h, x ∙ header-refused h))
           (λ r i. let f = sym (e ∙ ap flat_judged i) in (ap (λ (y : Header). y.refusal) f, ap (λ (y : Header). y.position) f))
           (λ r i. of-file s of_file 0 (λ n h. h) (number_of r.0) r.1 (rw i at m)) k
 
@@ -393,11 +394,16 @@ module _ (s : List ℕ) (b : Bytes s) where
       go (Ok h) m e = (h, m, e)
       go (Err r) m e = let i : number_of r.0 ≡ 0 = ap (λ (y : Header). y.refusal) (sym e) ∙ z in absurd (omega (arith, (of-file s of_file 0 (λ n h. h) (number_of r.0) r.1 m).nonzero))
 
-  pub boundary-judges : (a : Header) → JudgeAnswers s a → JudgesByRules header_c refused_c s a
-  boundary-judges a x =
-      let y = judge-apart a x in
-      record { accepts = λ v t h. headed-by s x h; refuses = λ n p h. (file-named h, x ∙ header-refused h); refused = as-refused y.told y.met y.same }
+  pub boundary-refused : (a : Header) → JudgeAnswers s a → (n p : ℕ) → a ≡ unheaded n p → R.judge s ≡ refused n p
+  boundary-refused a x = let y = judge-apart a x in go y.told y.met y.same
     where
-      as-refused : (j : Result FileHeader Refusal) → JudgedAs s j → a ≡ flat_judged j → (r : Refusal) → a ≡ refused_c r → R.judge s ≡ refused (number_of r.0) r.1
-      as-refused (Ok k) m e r i = let z : letter_of k.order ≡ 0 = ap (λ (y : Header). y.order) (sym e ∙ i) in absurd (omega (arith, letter-some k.order))
-      as-refused (Err q) m e r i = m ∙ ap (λ (y : Header). refused y.refusal y.position) (sym e ∙ i)
+      go : (j : Result FileHeader Refusal) → JudgedAs s j → a ≡ flat_judged j → (n p : ℕ) → a ≡ unheaded n p → R.judge s ≡ refused n p
+      go (Ok k) m e n p i = let z : letter_of k.order ≡ 0 = ap (λ (y : Header). y.order) (sym e ∙ i) in absurd (omega (arith, letter-some k.order))
+      go (Err q) m e n p i = m ∙ ap (λ (y : Header). refused y.refusal y.position) (sym e ∙ i)
+
+  pub boundary-judges : (a : Header) → JudgeAnswers s a → JudgesByRules header_c refused_c s a
+  boundary-judges a x = record {
+    accepts = λ v t h. headed-by s x h;
+    refuses = λ n p h. (file-named h, x ∙ header-refused h);
+    refused = λ r i. boundary-refused a x (number_of r.0) r.1 i;
+  }

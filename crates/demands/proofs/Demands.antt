@@ -78,7 +78,7 @@ use Rattle.demands.proofs.Samples.{recording-picked, place-words}
 use Rattle.demands.proofs.Telling.{channel-words, header-told, facts-told, channel-agrees, clock-told, sample-told, montage-count-told, montage-agrees}
 use Rattle.demands.proofs.Cutting.{shown, part-is}
 use Rattle.demands.proofs.Tracking.{track-same, boundary-track-same}
-use Rattle.demands.proofs.Boundary.{boundary, boundary-accepted, boundary-judges, table-apart, turn-apart, rewrite-apart, index-apart}
+use Rattle.demands.proofs.Boundary.{boundary, boundary-accepted, boundary-judges, boundary-refused, table-apart, turn-apart, rewrite-apart, index-apart}
 use Rattle.demands.proofs.BoundaryTold.{boundary-tells}
 
 pub demand-1 : (s : List ℕ) → Bytes s → Demand-1 s
@@ -238,6 +238,7 @@ demand-2 s b = record {
   reserved = λ v t h. room-reserved s b h;
   kinds = kinds;
   boundary_judges = boundary-judges s b;
+  boundary_refused = boundary-refused s b;
   boundary_accepted = boundary-accepted s b;
   boundary_lists = λ v t h out out' a room x.
       let y = table-apart s b out out' a x in

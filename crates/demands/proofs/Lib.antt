@@ -12,4 +12,3 @@ pub mod Boundary
 pub mod BoundaryTold
 pub mod Demands
 pub mod Periods
-pub mod Answers

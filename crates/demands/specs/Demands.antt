@@ -62,7 +62,7 @@ use Rattle.turn.specs.Turn.{Turns}
 use Rattle.rewrite.specs.Rewrite.{barrier, rewritten_in, Rewrites}
 use Rattle.room.specs.Room.{RoomAnswer, ShortAnew}
 use Rattle.answers.specs.Flat.{counted_rows, counted_bytes, flat_heading, flat_facts, flat_channel, flat_montage, flat_item, flat_clock, flat_count, flat_place, flat_sample}
-use Rattle.answers.specs.Flat.{flat_track, kind_number, flat_kind}
+use Rattle.answers.specs.Flat.{unheaded, flat_track, kind_number, flat_kind}
 use Rattle.answers.specs.declared.Channel.{Channel}
 use Rattle.answers.specs.declared.Clock.{Clock}
 use Rattle.answers.specs.declared.Counted.{Counted}
@@ -128,9 +128,9 @@ abbrev pub Answered : {E : Type 0} → (Refusal → E) → (ℕ → Bool) → �
 Answered refuse numbers size need a = (r : Refusal) → a ≡ refuse r → Refuses numbers size need (number_of r.0) r.1
 
 -- a buffer after the answer a, which is a refusal, or that n times so many elements were written
-pub record KeepsRest {A E : Type 0} (refuse : Refusal → E) (wrote : ℕ → E) (each : ℕ) (out out' : List A) (a : E) : Type 0 where
+pub record KeepsRest {A E Why : Type 0} (refuse : Why → E) (wrote : ℕ → E) (each : ℕ) (out out' : List A) (a : E) : Type 0 where
   -- a refusal leaves it as it was
-  pub refused : (r : Refusal) → a ≡ refuse r → out' ≡ out
+  pub refused : (r : Why) → a ≡ refuse r → out' ≡ out
   -- what is written fits, and all but it is as it was
   pub fits : (n : ℕ) → a ≡ wrote n → each * n ≤ length out
   pub beyond : (n : ℕ) → a ≡ wrote n → drop (each * n) out' ≡ drop (each * n) out
@@ -157,12 +157,12 @@ listed_rows (passed v l t) = rows 0 t
 
 -- What C is answered: the answer of the call of Rattle, taken apart into numbers (`Flat`)
 
--- so many elements written, and a refusal
+-- so many elements written, and a refusal, which in C is any two numbers
 abbrev pub wrote_c : ℕ → Counted
 wrote_c n = record { refusal = 0; position = 0; count = n }
 
-abbrev pub stopped_c : Refusal → Counted
-stopped_c r = record { refusal = number_of r.0; position = r.1; count = 0 }
+abbrev pub stopped_c : ℕ × ℕ → Counted
+stopped_c r = record { refusal = r.0; position = r.1; count = 0 }
 
 -- a header, with its order's letter, and a refusal
 abbrev pub header_c : FileHeader → Header
@@ -182,7 +182,7 @@ pub record TakenApart {E A : Type 0} (s : List ℕ) (meets : E → Type 0) (refu
   pub met : meets told
   pub same : a ≡ apart told
   -- of a file that the rules refuse, their refusal
-  pub handed : (m q : ℕ) → R.judge s ≡ refused m q → a ≡ apart (refuse (refusal_of m q))
+  pub handed : (m q : ℕ) → R.judge s ≡ refused m q → Named m × (a ≡ apart (refuse (refusal_of m q)))
   -- n is 0: told is no refusal
   pub answered : n ≡ 0 → (r : Refusal) → told ≡ refuse r → ⊥
   -- n is another number: told is n at p, one of the call's refusals, and the rest of a is 0
@@ -599,6 +599,7 @@ pub record Demand-2 (s : List ℕ) : Type 0 where
   pub kinds : (c : ℕ) (a : Result EventKind Refusal) → KindAnswer c a → KindTells Ok Err c a
   -- what C is answered
   pub boundary_judges : (a : Header) → JudgeAnswers s a → JudgesByRules header_c refused_c s a
+  pub boundary_refused : (a : Header) → JudgeAnswers s a → (n p : ℕ) → a ≡ unheaded n p → R.judge s ≡ refused n p
   pub boundary_accepted : (a : Header) → JudgeAnswers s a → a.refusal ≡ 0 → (h : FileHeader) × AcceptedAs s h × (a ≡ header_c h)
   pub boundary_lists : (v : R.File) (t : List Event) → Accepted s v t → (out out' : List ℤ) (a : Counted) → 4 * length (rows 0 t) ≤ length out → TableAnswers s out out' a → TableHolds wrote_c (rows 0 t) out' a
   pub boundary_indexes : (v : R.File) (t : List Event) → Accepted s v t → (out out' : List ℤ) (a : Counted) → 5 * length (entries s (R.contents v)) ≤ length out → IndexAnswers s out out' a →

@@ -7,6 +7,7 @@ pub mod Writing
 pub mod Frames
 pub mod Read
 pub mod Told
+pub mod Answers
 pub mod Unique
 pub mod Least
 pub mod Promises

@@ -20,8 +20,7 @@ use Rattle.rules.specs.Rules as R
 use Rattle.rules.specs.declared.Refusal.{Refusal}
 use Rattle.recordings.specs.Answers.{Answer, value, refusal, meaning, ◌>>=◌, outside, indexed, numbered}
 use Rattle.questions.specs.Tied.{recording_read, format_in}
-use Rattle.demands.specs.Demands.{of_file, of_question, of_run, Refuses, KeepsRest, TakenApart, Accepted, Same}
-use Rattle.demands.proofs.Answers.{meaning-one}
+use Rattle.demands.specs.Demands.{of_file, of_question, of_run, Named, Refuses, KeepsRest, TakenApart, Accepted, Same}
 use Rattle.demands.proofs.Boundary.{Meant, by-meaning, either}
 use Rattle.demands.proofs.Demands.{demand-2, demand-3}
 use Rattle.demands.proofs.Refusing.{of-file, proper-outside, short, or_right}
@@ -32,6 +31,7 @@ use Rattle.overview.specs.Promises.{InEpoch, EpochTells, wrote_c, stopped_c, Sam
 use Rattle.overview.specs.declared.Counted.{Counted}
 use Rattle.overview.specs.declared.Envelope.{Envelope}
 use Rattle.overview.specs.declared.Overviewed.{Overviewed}
+use Rattle.overview.proofs.Answers.{meaning-one}
 use Rattle.overview.proofs.Least.{envelope-is, none-there}
 use Rattle.overview.proofs.Read.{apart, judged}
 use Rattle.overview.proofs.Told.{epochs-there}
@@ -238,8 +238,8 @@ module _ (s : List ℕ) (i k first n : ℕ) (out out' : List ℤ) (y : Answer �
       go (wrote z j _ _) = cc
 
   -- what is left of the buffer, by an answer a that is had from y: where it was written, a tells the number, and is no refusal unless there is nothing to write
-  module _ {E : Type 0} (refuse : Refusal → E) (tell : ℕ → E) (a : E) (unwritten : (m p j : ℕ) → 1 ≤ m → y ≡ refusal m p → a ≡ tell j → ⊥)
-      (all : (j : ℕ) → y ≡ value n → a ≡ tell j → j ≡ n) (nothing : (r : Refusal) → y ≡ value n → a ≡ refuse r → n ≡ 0) where
+  module _ {E Why : Type 0} (refuse : Why → E) (tell : ℕ → E) (a : E) (unwritten : (m p j : ℕ) → 1 ≤ m → y ≡ refusal m p → a ≡ tell j → ⊥)
+      (all : (j : ℕ) → y ≡ value n → a ≡ tell j → j ≡ n) (nothing : (r : Why) → y ≡ value n → a ≡ refuse r → n ≡ 0) where
     keeps : KeepsRest refuse tell 3 out out' a
     keeps = go ranged
       where
@@ -364,8 +364,8 @@ promises s b = record {
   range_keeps = λ i k first n out out' a x.
       keeps s i k first n out out' (meaning a) x.answer x.buffer Err Ok a
       (λ m p j l e c. apart (sym (ap meaning c) ∙ e)) (λ j e c. cc (ap meaning c, e)) (λ r e c. apart (sym e ∙ ap meaning c));
-  overview_handed = λ n p h i k e a x. meaning-one a (Err (refusal_of n p)) x (told h ∙ (rw h));
-  range_handed = λ m p h i k first n out out' a x. meaning-one a (Err (refusal_of m p)) x.answer (told h ∙ (rw h));
+  overview_handed = λ n p h i k e a x. (named h, meaning-one a (Err (refusal_of n p)) x (told h ∙ (rw h)));
+  range_handed = λ m p h i k first n out out' a x. (named h, meaning-one a (Err (refusal_of m p)) x.answer (told h ∙ (rw h)));
   samples = λ i k e x h. in-epoch s i k e h (λ zs j. envelope-is zs x j);
   empty = λ i k e h. in-epoch s i k e h none-there;
   range_number = λ i k first n out out' a x m j. range-count s i k first n out out' (meaning a) x.answer x.buffer m (ap meaning j);
@@ -375,6 +375,9 @@ promises s b = record {
   boundary = record { overview = overview-apart s; range = range-apart s; range_keeps = range-apart-keeps s };
 }
   where
+    named : {n p : ℕ} → R.judge s ≡ refused n p → Named n
+    named {n} {p} h = ((demand-2 s b).refuses n p h).named
+
     -- the rules' refusal, as the code says it
     told : {A : Type 0} {n p : ℕ} → R.judge s ≡ refused n p → ◌≡◌ {A = Answer A} (refusal (number_of (refusal_of n p).0) p) (refusal n p)
-    told {A} {n} {p} h = ap (λ (m : ℕ). refusal m p) ((demand-2 s b).refuses n p h).named
+    told {A} {n} {p} h = ap (λ (m : ℕ). refusal m p) (named h)

@@ -6,12 +6,12 @@ use mathlib.Core.List.{List}
 use Prim.Native.Nat.{ℕ}
 use lib.IntN.{ℤ}
 use Rattle.rules.specs.declared.Refusal.{Refusal}
-use Rattle.demands.proofs.Answers.{meaning-one}
 use Rattle.overview.specs.Flat.{OverviewAnswers, RangeAnswers}
 use Rattle.overview.specs.Overview.{OverviewAnswer, RangeAnswer}
 use Rattle.overview.specs.declared.Counted.{Counted}
 use Rattle.overview.specs.declared.Envelope.{Envelope}
 use Rattle.overview.specs.declared.Overviewed.{Overviewed}
+use Rattle.overview.proofs.Answers.{meaning-one}
 
 pub overview-unique : (s : List ℕ) (i k e : ℕ) (a b : Result (Option Envelope) Refusal) → OverviewAnswer s i k e a → OverviewAnswer s i k e b → a ≡ b
 overview-unique s i k e a b x y = meaning-one a b x y

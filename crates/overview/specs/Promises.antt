@@ -7,7 +7,7 @@ use Rattle.std.proofs.Math.Option.{none}
 use Rattle.std.specs.Int.Signed.{lt_z}
 use Rattle.walk.specs.Walk.{Event, refused, rows}
 use Rattle.rules.specs.Reading.{RecordingReading, reading}
-use Rattle.rules.specs.Reasons.{number_of, refusal_of}
+use Rattle.rules.specs.Reasons.{refusal_of}
 use Rattle.rules.specs.Rules as R
 use Rattle.rules.specs.declared.Refusal.{Refusal}
 use Rattle.recordings.specs.Answers.{value, meaning}
@@ -16,7 +16,7 @@ use Rattle.makers.specs.Makers.{first_maker}
 use Rattle.turn.specs.Turn.{Turns}
 use Rattle.answers.specs.declared.Counted as Library
 use Rattle.psg.specs.Calls.{TurnAnswers}
-use Rattle.demands.specs.Demands.{of_question, of_run, Answered, KeepsRest, TakenApart, Accepted, SameEnd}
+use Rattle.demands.specs.Demands.{of_question, of_run, Named, Answered, KeepsRest, TakenApart, Accepted, SameEnd}
 use Rattle.overview.specs.Flat.{flat_overview, flat_counted, OverviewAnswers, RangeAnswers}
 use Rattle.overview.specs.Overview.{samples_in, seconds_of, numbers, OverviewAnswer, RangeAnswer}
 use Rattle.overview.specs.declared.Counted.{Counted}
@@ -54,13 +54,13 @@ pub record EpochTells (out' : List ℤ) (q : ℕ) (d : Result (Option Envelope) 
   pub told : meaning d ≡ value epoch
   pub entry : take 3 (drop (3 * q) out') ≡ numbers epoch
 
--- What C is answered: so many epochs written, and a refusal
+-- What C is answered: so many epochs written, and a refusal, which in C is any two numbers
 
 abbrev pub wrote_c : ℕ → Counted
 wrote_c n = record { refusal = 0; position = 0; count = n }
 
-abbrev pub stopped_c : Refusal → Counted
-stopped_c r = record { refusal = number_of r.0; position = r.1; count = 0 }
+abbrev pub stopped_c : ℕ × ℕ → Counted
+stopped_c r = record { refusal = r.0; position = r.1; count = 0 }
 
 -- of the file s: the answers of Rattle, taken apart into numbers; the number 0 is never a refusal
 pub record Boundary (s : List ℕ) : Type 0 where
@@ -90,9 +90,9 @@ pub record Promises (s : List ℕ) : Type 0 where
       KeepsRest Err Ok 3 out out' a
   -- the rules' refusal is handed up
   pub overview_handed : (n p : ℕ) → R.judge s ≡ refused n p → (i k e : ℕ) (a : Result (Option Envelope) Refusal) → OverviewAnswer s i k e a →
-      a ≡ Err (refusal_of n p)
+      Named n × (a ≡ Err (refusal_of n p))
   pub range_handed : (m p : ℕ) → R.judge s ≡ refused m p → (i k first n : ℕ) (out out' : List ℤ) (a : Result ℕ Refusal) →
-      RangeAnswer s i k first n out out' a → a ≡ Err (refusal_of m p)
+      RangeAnswer s i k first n out out' a → Named m × (a ≡ Err (refusal_of m p))
   -- an envelope is that of the reading's samples, and an epoch is empty where there are none
   pub samples : (i k e : ℕ) (x : Envelope) → OverviewAnswer s i k e (Ok (Some x)) → InEpoch s i k e (λ zs. EnvelopeIs zs x)
   pub empty : (i k e : ℕ) → OverviewAnswer s i k e (Ok None) → InEpoch s i k e (λ zs. zs ≡ [])

@@ -3,7 +3,7 @@
 use mathlib.Core.Path.{sym, ◌∙◌}
 use Prim.Native.Nat.{◌^◌, ◌<◌}
 use borrow.Author.Rules.{rules}
-use Rattle.demands.proofs.Answers.{handed}
+use Rattle.overview.proofs.Answers.{handed}
 use Rattle.overview.proofs.Seconds.{seconds-low}
 use Rattle.overview.proofs.Told.{bytes, range-refused, range-unserved, range-outside}
 use Rattle.overview.proofs.epochs_asked.Goals as goal
