@@ -31,6 +31,7 @@ fn short(need: usize, room: usize) -> Result<usize, Refusal>
 pub fn permit(made: Option<usize>, need: usize, room: usize) -> Result<usize, Refusal>
     ensures { meaning result ≡ permitted (found made) need room }
 {
-    barred(made, need)?;
-    short(need, room)
+    let maker = barred(made, need);
+    let space = short(need, room);
+    maker.and(space)
 }
