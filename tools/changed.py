@@ -1,8 +1,9 @@
 #!/usr/bin/env python3
 """changed.py COMMIT: what changed since a commit, crate by crate, old and new side by side: the list at the end of docs/DESIGN-PASS.md.
 
-Functions, definitions and laws. What is the same once the old answers are read as Results and Options (`RENAMED`) is named and not shown,
-private functions and laws of one file alone likewise.
+Types, functions, definitions and laws. What is the same once the old answers are read as Results and Options (`RENAMED`) is named and not
+shown, private laws and definitions of one file of proofs likewise. What a law takes from a line `module _ (..)` around it is not printed,
+and answers and invariants, which belong to one function each, are not read.
 """
 import os
 import re
@@ -50,11 +51,10 @@ RENAMED = {
     "SamplesFound": ("Result<(Order, Places, Run), Refusal>", "Result (Order × Places × Run) Refusal", {"At": "Ok", "Refused": "Err"}),
     "RunFound": ("Result<(Order, u32, Place), Refusal>", "Result (Order × ℕ × Place) Refusal", {"At": "Ok", "Refused": "Err"}),
     "FramesJudged": ("Result<(Frames, usize), Refusal>", "Result (Frames × ℕ) Refusal", {"On": "Ok", "Stop": "Err"}),
+    "Widths": ("Option<usize>", "Option ℕ", {"One": "Some", "Several": "None"}),
     "Direct": ("Option<(Head, usize)>", "Option (Head × ℕ)", {"Record": "Some", "Last": "None"}),
 }
 
-# Names of branches and hypotheses, which are no laws by themselves.
-SMALL = "told some none over given back both each there known held".split()
 NAME = r"[\w'₀-₉\-+]+"
 
 
@@ -103,12 +103,18 @@ def functions(t):
     return out
 
 
+def types(t):
+    """The public types of a file, with their variants or fields."""
+    declared = r"^pub ((?:struct|enum|trait) (\w+)(?:[^;{]*;|[^;{]*\{\}|.*?^\}))"
+    return {m.group(2): squeezed(re.sub(r"//.*", "", m.group(1))) for m in re.finditer(declared, t, re.M | re.S)}
+
+
 def definitions(t):
     out, lines, i = {}, t.split("\n"), 0
     word = r"^ *(?:abbrev |unfoldable )?(?:pub )?(?:unfoldable |abbrev )?(?:pub )?(?:record |data )?(?:pub )?([\w'₀-₉\-◌>=+*|&]+)(?: :| \(| \{)"
     while i < len(lines):
         m = re.match(word, lines[i])
-        if not m or not re.match(r"^ *(abbrev|unfoldable|pub record|pub data|pub abbrev|record|data|pub unfoldable)", lines[i]):
+        if not m or m.group(1) == "record" or not re.match(r"^ *(abbrev|unfoldable|pub record|pub data|pub abbrev|record|data|pub unfoldable)", lines[i]):
             i += 1
             continue
         j = i + 1
@@ -120,39 +126,48 @@ def definitions(t):
 
 
 def laws(t):
-    out, lines = {}, t.split("\n")
+    """The laws of a file; not the fields of its records, nor what a proof names for itself behind `where`."""
+    out, lines, hidden = {}, t.split("\n"), None
     for i, line in enumerate(lines):
-        m = re.match(rf"^( *)(?:pub )?({NAME}) : (.*)$", line)
-        if not m or line.lstrip().startswith(("use", "abbrev", "record", "data", "module", "let")):
+        indent = len(line) - len(line.lstrip())
+        if hidden is not None and line.strip() and indent <= hidden:
+            hidden = None
+        if hidden is None and line.rstrip().endswith("where") and not line.lstrip().startswith("module"):
+            hidden = indent
+        m = re.match(rf"^( *)(?:pub )?({NAME}) :(?: (.*))?$", line)
+        if hidden is not None or not m or line.lstrip().startswith(("use", "abbrev", "record", "data", "module", "let")):
             continue
-        s = m.group(3)
+        s = m.group(3) or ""
         for more in lines[i + 1:]:
-            low = len(more) - len(more.lstrip()) <= len(m.group(1))
+            low = len(more) - len(more.lstrip()) <= indent
             if not more.strip() or low or re.match(rf"^ *{re.escape(m.group(2))} ", more) or more.lstrip().startswith(("unfolding", "--")):
                 break
             s += " " + more.strip()
-        if not s.startswith("goal.") and len(m.group(2)) > 3 and m.group(2) not in SMALL:
-            out.setdefault(m.group(2), []).append(re.sub(r"\s+", " ", s))
+        if not s.strip().startswith("goal."):
+            out.setdefault(m.group(2), []).append(squeezed(s))
     return {name: " | ".join(ss) for name, ss in out.items()}
 
 
 def crate(name, commit):
-    """By kind, and then by file and name, what a crate says; and which of its laws are public."""
-    found, public = {"functions": {}, "definitions": {}, "laws": {}}, set()
+    """By kind, and then by file and name, what a crate says; and which laws and definitions of its proofs are private."""
+    found, private = {"types": {}, "functions": {}, "definitions": {}, "laws": {}}, set()
     for f in listed(commit):
         stem = os.path.basename(f).rsplit(".", 1)[0]
         kind = None
         if f.startswith(f"crates/{name}/src/") and f.endswith(".rt"):
             kind, said = "functions", functions(text(commit, f))
+            found["types"].update({(stem, n): s for n, s in types(text(commit, f)).items()})
         elif f.startswith(f"crates/{name}/specs/") and f.endswith(".antt"):
             kind, said = "definitions", definitions(text(commit, f))
         elif re.match(rf"crates/{name}/proofs/\w+\.antt$", f):
             t = text(commit, f)
             kind, said = "laws", laws(t)
-            public |= {(stem, n) for n in re.findall(rf"^ *pub (?:unfoldable |abbrev )?({NAME}) : ", t, re.M)}
+            also = definitions(t)
+            found["definitions"].update({(stem, n): s for n, s in also.items()})
+            private |= {(stem, n) for n in [*said, *also] if not re.search(rf"^ *(?:\w+ )*pub (?:\w+ )*{re.escape(n)}\s", t, re.M)}
         if kind:
             found[kind].update({(stem, n): s for n, s in said.items()})
-    return found, public
+    return found, private
 
 
 def wrapped(sign, s):
@@ -162,22 +177,23 @@ def wrapped(sign, s):
     return [f"{sign} {lines[0]}"] + [f"{sign}   {x}" for x in lines[1:]]
 
 
-def told(kind, old, new, public):
+def told(kind, old, new, private, private_now):
     """The lines about one kind in a crate."""
+    hid = [key[1] for key in old if key in private_now and key not in private]
     same, gone, changed, inner, out = [], [], [], [], []
     for key, was in old.items():
-        now = new.get(key) or next((s for k, s in new.items() if k[1] == key[1]), None)
+        now = new.get(key) or next((s for k, s in new.items() if k[1] == key[1] and k not in old), None)
         if now is None:
             gone.append(key[1])
         elif now != was and alike(was, kind, was.startswith("pub")) == alike(now, kind, was.startswith("pub")):
             same.append(key[1])
-        elif now != was and kind == "laws" and key not in public:
+        elif now != was and key in private:
             inner.append(key[1])
         elif now != was:
             changed.append((key[1], was, now))
     fresh = [k[1] for k in new if k not in old and all(o[1] != k[1] for o in old)]
     heads = (f"The same over the new types, {kind}", same), (f"Gone, {kind}", gone), (f"New, {kind}", fresh if kind != "laws" else [])
-    for head, names in (*heads, ("Changed, laws of one file alone", inner)):
+    for head, names in (*heads, (f"Private now, {kind}", hid), (f"Changed, {kind} of one file alone", inner)):
         if names:
             line = head + ": " + ", ".join(f"`{n}`" for n in names) + "."
             out += textwrap.wrap(line, 120, break_long_words=False, break_on_hyphens=False) + [""]
@@ -194,8 +210,8 @@ for line in open("crates.txt"):
     if not line.strip() or line.startswith("#"):
         continue
     name = line.split(":")[0].split()[0]
-    (old, public_then), (new, public_now) = crate(name, base), crate(name, None)
-    lines = [x for kind in old for x in told(kind, old[kind], new[kind], public_then | public_now)]
+    (old, private_then), (new, private_now) = crate(name, base), crate(name, None)
+    lines = [x for kind in old for x in told(kind, old[kind], new[kind], private_then, private_now)]
     if lines:
         print(f"### {name}\n")
         print("\n".join(lines))
