@@ -82,11 +82,11 @@ turning-more {w} {n} {s} {i = i} {at} k e t l he hy =
     turning-by k e t l he (hy ∙ turned-first w k (e - at) (drop at s) (omega arith) (simp length-drop (omega arith)))
 
 -- one number
-pub turning-one :
+pub turning_one :
     {w n : ℕ} {s d : List ℕ} {i : ℕ} {ys : List ℕ} →
     Turning w n s d i (i * w) → i < n → ys ≡ turned w 1 (take (i * w + w - i * w) (drop (i * w) s)) →
     Turning w n s (put (i * w) (i * w + w - i * w) d ys) (i + 1) ((i + 1) * w)
-turning-one {w} {i = i} t l hy =
+turning_one {w} {i = i} t l hy =
     let e : (i + 1) * w ≡ i * w + w = rw add-mul (omega arith) in
     rw e (turning-more 1 (i * w + w) t (omega arith) (omega arith) hy)
 

@@ -19,6 +19,7 @@ fn turn_number<const W: usize>(s: &[u8], d: &mut [u8])
 }
 
 // A run of n numbers of W bytes, turned, of which the compiler makes wide code where W is 2 or 4.
+#[tactic(auto, using(crate::proofs::Loops::turning_one))]
 fn turn_numbers<const W: usize>(n: usize, src: &[u8], dst: &mut [u8])
     requires width { W ≤ 4 }
     requires run { Run W n src.now dst.old }

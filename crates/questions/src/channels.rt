@@ -157,6 +157,7 @@ pub fn wired_at(o: Order, s: &[u8], p: usize) -> Wired
 }
 
 // How many channels the montage of the recording at q has: 0 where it has none.
+#[tactic(auto, unfolding(crate::specs::Holding::montage_channels))]
 pub fn montage_channels(o: Order, s: &[u8], q: Places) -> u32
     requires { MontageInside q (length s.now) }
     ensures { result ≡ montage_channels o s.now q }

@@ -1,14 +1,14 @@
 -- Signed values as an i32 holds them.
 -- Assumes nothing.
 use mathlib.Core.Path.{◌≡◌, refl, sym, ap, ◌∙◌}
-use Prim.Native.Nat.{ℕ, zero, suc, ◌+◌, ◌-◌, ◌*◌, ◌%◌, ◌^◌, ◌≤◌, ◌<◌}
+use Prim.Native.Nat.{ℕ, zero, suc, ◌-◌, ◌^◌, ◌≤◌, ◌<◌}
 use native.Mathlib.Omega.{arith}
 use lib.IntN.{ℤ, pos, negsuc, ◌-ℤ◌}
 use lib.Signed.{mag}
 use mir.Syntax.{w32}
 use mir.Val.{SFits, to_z, of_z}
 use mir.Facts.{to_z_pos, to_z-of_z}
-use Rattle.words.specs.Values.{word_count, signed}
+use Rattle.words.specs.Values.{word_count, signed, Halved}
 use Rattle.words.proofs.Values.{signed-pos, signed-neg}
 
 -- a signed number that a call gave, as a local holds it
@@ -25,20 +25,6 @@ minus_one k h = rw (to_z_pos w32 h) (minus k)
 
 pub minus-fits : (k : ℕ) → k < 2 ^ 31 → SFits w32 (negsuc 0 -ℤ to_z w32 k)
 minus-fits k h = rw (minus_one k h) (record { sfits = h })
-
--- h is the first negative word of w bytes
-pub record Halved (w h : ℕ) : Type 0 where
-  pub double : word_count w ≡ h + h
-  pub fits : h ≤ 2147483648
-
--- as the code computes it
-pub halved : (w : ℕ) → (0 < w) × (w ≤ 4) → Halved w (1 * 2 ^ (8 * w - 1) % 4294967296)
-halved zero f = absurd (omega arith)
-halved (suc zero) f = record { double = refl; fits = omega arith }
-halved (suc (suc zero)) f = record { double = refl; fits = omega arith }
-halved (suc (suc (suc zero))) f = record { double = refl; fits = omega arith }
-halved (suc (suc (suc (suc zero)))) f = record { double = refl; fits = omega arith }
-halved (suc (suc (suc (suc (suc w))))) f = absurd (omega arith)
 
 -- a word below it is its own value; one above is -1 less what is left of the words
 pub held-pos : {w h n : ℕ} → Halved w h → n < h → to_z w32 n ≡ signed w n

@@ -1,6 +1,6 @@
 -- What a word of w bytes means: a signed whole number, or a float of 32 bits.
 -- Assumes nothing.
-use Rattle.std.specs.Prelude.{Bool, true, false, ℕ, ◌+◌, ◌-◌, ◌/◌, ◌^◌, ◌≤◌, ◌<◌, ltb, ℤ, pos, negsuc}
+use Rattle.std.specs.Prelude.{◌≡◌, Bool, true, false, ℕ, ◌+◌, ◌-◌, ◌/◌, ◌^◌, ◌≤◌, ◌<◌, ltb, ℤ, pos, negsuc}
 
 -- how many words of w bytes there are, and where the negative ones begin
 abbrev pub word_count : ℕ → ℕ
@@ -28,3 +28,10 @@ pub record WordOf (from n : ℕ) : Type 0 where
   pub fits : from ≤ 2147483648
   -- half of the words are below `from`
   pub word : n < from + from
+
+-- h is the first negative word of w bytes
+pub record Halved (w h : ℕ) : Type 0 where
+  -- as many words are below it as from it on
+  pub double : word_count w ≡ h + h
+  -- no width is larger than four bytes
+  pub fits : h ≤ 2147483648

@@ -3,7 +3,8 @@
 
 ghost use Rattle.std.specs.Prelude.{◌≡◌, ◌+◌, ◌≤◌, ◌<◌, length, get_or};
 ghost use Rattle.words.specs.Numbers.{number_at, bytes_in};
-ghost use Rattle.words.specs.Values.{word_count, signed};
+ghost use Rattle.words.specs.Values.{word_count, signed, Halved};
+ghost use Rattle.words.specs.declared.Order.TheVariants.{Little, Big};
 ghost use Rattle.words.specs.Floats.{nan_pattern};
 ghost use Rattle.words.specs.Runs.{first_nonzero, Zeros};
 
@@ -22,23 +23,37 @@ pub fn byte(s: &[u8], at: usize) -> u32
     s[at] as u32
 }
 
-// The number of W bytes: copied into four, of which the compiler makes one load.
+// The number of W bytes, the least first: copied into four, of which the compiler makes one load.
+fn little<const W: usize>(s: &[u8], at: usize) -> u32
+    requires width { W ≤ 4 }
+    requires within { at + W ≤ length s.now }
+    ensures { (result ≡ number_at Little W s.now at) × (result < word_count W) }
+{
+    let mut four = [0; 4];
+    four[..W].copy_from_slice(&s[at..at + W]);
+    u32::from_le_bytes(four)
+}
+
+// The number of W bytes, the greatest first.
+fn big<const W: usize>(s: &[u8], at: usize) -> u32
+    requires width { W ≤ 4 }
+    requires within { at + W ≤ length s.now }
+    ensures { (result ≡ number_at Big W s.now at) × (result < word_count W) }
+{
+    let mut four = [0; 4];
+    four[4 - W..].copy_from_slice(&s[at..at + W]);
+    u32::from_be_bytes(four)
+}
+
+// The number of W bytes.
 pub fn number<const W: usize>(o: Order, s: &[u8], at: usize) -> u32
     requires width { W ≤ 4 }
     requires within { at + W ≤ length s.now }
     ensures { (result ≡ number_at o W s.now at) × (result < word_count W) }
 {
-    let bytes = &s[at..at + W];
-    let mut four = [0; 4];
     match o {
-        Order::Little => {
-            four[..W].copy_from_slice(bytes);
-            u32::from_le_bytes(four)
-        }
-        Order::Big => {
-            four[4 - W..].copy_from_slice(bytes);
-            u32::from_be_bytes(four)
-        }
+        Order::Little => little::<W>(s, at),
+        Order::Big => big::<W>(s, at),
     }
 }
 
@@ -54,13 +69,26 @@ pub fn put<const W: usize>(to: Order, n: u32, d: &mut [u8])
     }
 }
 
-// The signed value of a word of W bytes: from `half` on the words are negative.
+// The first negative word of W bytes.
+fn first_negative<const W: usize>() -> u32
+    requires width { (0 < W) × (W ≤ 4) }
+    ensures { Halved W result }
+{
+    match W {
+        1 => 128,
+        2 => 32768,
+        3 => 8388608,
+        _ => 2147483648,
+    }
+}
+
+// The signed value of a word of W bytes.
 pub fn signed<const W: usize>(n: u32) -> i32
     requires width { (0 < W) × (W ≤ 4) }
     requires word { n < word_count W }
     ensures { result ≡ signed W n }
 {
-    let half = 1u32 << (8 * W - 1);
+    let half = first_negative::<W>();
     if n < half {
         return n as i32;
     }

@@ -1,0 +1,11 @@
+-- `words::big` meets its contract: its bytes, with zeros before them, are those of a number of four.
+-- Assumes nothing.
+use mathlib.Core.Path.{refl}
+use Rattle.words.specs.declared.Order.TheVariants.{Big}
+use Rattle.words.proofs.Fours.{number-big}
+use Rattle.words.proofs.big.Goals as goal
+
+pub returns : goal.returns
+returns g c =
+    let q = c.requires in
+    number-big Big g.row.W c.args.s.now _ c.args.at _ q.width q.within (λ i. (c.type_inv.s i).fits) c.copy_from_slice.ensures.after refl c.from_be_bytes.ensures
