@@ -10,11 +10,12 @@ use native.Mathlib.Omega.{arith}
 use borrow.Author.Tests.{leb-true, eqb-true, eq-eqb, ne_eqb}
 use lib.Dec.{leb, ltb, eqb}
 use lib.ListN.{length, take, drop, length-drop}
-use lib.Seq.{length-take-le}
-use Rattle.words.specs.Numbers.{bytes_at, number_at}
-use Rattle.words.specs.Runs.{pasted}
+use lib.Seq.{length-take-le, take-add, take_all, drop-drop}
+use Rattle.words.specs.Numbers.{Bytes, bytes_at, number_at}
+use Rattle.words.specs.Runs.{pasted, turned}
 use Rattle.words.specs.declared.Order.{Order}
 use Rattle.words.proofs.Fronts.{put}
+use Rattle.words.proofs.Words.{bytes_take, bytes_drop}
 use Rattle.words.proofs.Runs.{pasted-pasted, part-pasted, take-pasted, length-pasted}
 use Rattle.walk.specs.See.{goes, see, Goes}
 use Rattle.walk.specs.Trace.{trace, written}
@@ -27,9 +28,10 @@ use Rattle.rules.specs.Rules.{Item, item, item_size, item_list, items_body, limi
 use Rattle.rules.proofs.Room.{stays-item, stays-items_body}
 use Rattle.records.specs.Says.{Kept}
 use Rattle.bodies.specs.Copy.{copy, filling, all_wide, widths_in}
+use Rattle.bodies.specs.Orders.{same_order}
 use Rattle.bodies.specs.declared.Way.{Way}
 use Rattle.bodies.proofs.Copying.{copy-bind, copy-give, length-copy}
-use Rattle.bodies.proofs.Pieces.{Takes, Left, left-whole, left-numbers, left-reserve, left-nothing}
+use Rattle.bodies.proofs.Pieces.{Takes, reaches-bind, Left, left-whole, left-numbers, left-reserve, left-nothing, left_end, numbers-stand, numbers-turned}
 use Rattle.bodies.proofs.Pieces.{copy_within, length-within, copy-next, copy-follows, takes-numbers, takes-text, text-whole}
 
 -- a piece of m bytes that a call wrote, which was lent k
@@ -181,6 +183,13 @@ module _ (w : Way) (s : List ℕ) where
     pub items-all : n ≡ 0 → d ≡ copy w b s b (items_body ok (16 + length s))
     unfolding item_list see
     items-all h = left-nothing w b s d (items_body ok (16 + length s)) p [] (omega (arith, (goes_same (rw h at x.accepted)).1)) (rw h at x.left)
+
+-- a part that holds n numbers of k bytes, turned by a call
+pub part-turned : (w : Way) (s : List ℕ) (p m k n : ℕ) (ys : List ℕ) → Bytes s → same_order w.from w.to ≡ false → m ≡ n * k → p + n * k ≤ length s →
+    ys ≡ turned k n (take m (drop p s)) → (x : ℕ) → ys ≡ copy w x (take m (drop p s)) x (number_list k n)
+part-turned w s p m k n ys are turns e l h x =
+    let long : length (take m (drop p s)) ≡ n * k = length-take-le m (drop p s) (rw length-drop (omega arith)) ∙ e in
+    h ∙ numbers-turned w x (take m (drop p s)) k (bytes_take m (drop p s) (bytes_drop p s are)) n long turns
 
 -- a sample has two bytes at least, and four at most
 pub sample-wide : (format : ℕ) → (2 ≤ width format) × (width format ≤ 4)
@@ -395,6 +404,44 @@ module _ {w : Way} {file : List ℕ} {t b : ℕ} {s : List ℕ} {cs : List Chann
       left-nothing w b s d' (filling t cs) {B = List ℕ} (length s) [] refl
       (left-pasted {D = List ℕ} w b s d d' ys (filling t cs) (samples t x.rest) (give []) 8 (length s)
       (wide-run t v w b s x.rest (b + 8) k ∙ rw written_none (sym (append-nil ys))) (says m r) (omega arith) (omega arith) x.left)
+
+-- Samples that are not turned: they stand as they are, whatever their widths
+
+takes-samples : (t : ℕ) (cs : List Channel) → Takes (sample_bytes t cs) (samples t cs)
+unfolding samples sample_bytes
+takes-samples t [] at = omega arith
+takes-samples t (c ∷ cs) at =
+    let m = samples_in t c * width c.format in
+    reaches-bind (number_list (width c.format) (samples_in t c)) (λ n. samples t cs >>= λ l. give (n ∷ l)) at (at + m) (at + (m + sample_bytes t cs))
+    (takes-numbers (width c.format) (samples_in t c) at)
+    (λ n. reaches-bind (samples t cs) (λ l. give (n ∷ l)) (at + m) (at + m + sample_bytes t cs) (at + (m + sample_bytes t cs)) (takes-samples t cs (at + m))
+    (λ l. omega arith))
+
+module _ (w : Way) (b : ℕ) (s : List ℕ) (are : Bytes s) (same : same_order w.from w.to ≡ true) (t : ℕ) where
+  samples-stand : (cs : List Channel) (at : ℕ) → b ≤ at → at + sample_bytes t cs ≤ b + length s →
+      copy w b s at (samples t cs) ≡ take (sample_bytes t cs) (drop (at - b) s)
+  unfolding samples sample_bytes trace
+  samples-stand [] at g l = written_none w.keep w.to
+  samples-stand (c ∷ cs) at g l =
+      let k = width c.format in
+      let n = samples_in t c in
+      let i : at - b + n * k ≡ at + n * k - b = omega arith in
+      copy-follows w b s (n * k) (number_list k n) (takes-numbers k n) at _ (samples t cs)
+      (λ n. trace-give w.from b s (at + samples_in t c * width c.format) (samples t cs) (λ l. n ∷ l))
+      ∙ rw (numbers-stand w b s k are n at g (omega arith) same, samples-stand cs (at + n * k) (omega arith) (omega arith), take-add, drop-drop, i) refl
+
+  samples-same : (cs : List Channel) → length s ≡ sample_bytes t cs → s ≡ copy w b s b (samples t cs)
+  samples-same cs l = sym (samples-stand cs b (omega arith) (omega arith) ∙ rw sub_self (take_all (sample_bytes t cs) s (omega arith)))
+
+-- the code has copied what stands behind the clock
+module _ {w : Way} {file : List ℕ} {t b : ℕ} {s : List ℕ} {cs : List Channel} {n q : ℕ} {d : List ℕ} (x : Samples w file t b s cs n q 8 d) where
+  pub samples-unturned : (xs : List ℕ) → Bytes s → same_order w.from w.to ≡ true → xs ≡ take (length s - 8) (drop 8 s) →
+      put 8 (length d - 8) d xs ≡ copy w b s b (filling t cs)
+  samples-unturned xs are same is =
+      let u = take (length s - 8) (drop 8 s) in
+      let long : length u ≡ sample_bytes t x.rest = length-take-le (length s - 8) (drop 8 s) (rw length-drop (omega arith)) ∙ omega (arith, x.room) in
+      left_end w b s d (filling t cs) 8 xs (sample_bytes t x.rest) (samples t x.rest) (takes-samples t x.rest) (sym x.room)
+      (λ c. is ∙ samples-same w c u (bytes_take (length s - 8) (drop 8 s) (bytes_drop 8 s are)) same t x.rest long) x.left
 
 -- the code has written the clock, ys, the reserve area, zs, and the samples in one run
 pub body-once : (w : Way) (file : List ℕ) (t : ℕ) (s : List ℕ) (q n v : ℕ) (d ys zs d' : List ℕ) → length d ≡ length s →

@@ -97,7 +97,7 @@ module _ {A : Type 0} where
     size-within (list p i x y v) at e g l h = size-within v at e g l h
 
 module _ {A B : Type 0} where
-  reaches-bind : (v : Walk A) (k : A → Walk B) (at d e : ℕ) → Reaches d at v → ((a : A) → Reaches e d (k a)) → Reaches e at (v >>= k)
+  pub reaches-bind : (v : Walk A) (k : A → Walk B) (at d e : ℕ) → Reaches d at v → ((a : A) → Reaches e d (k a)) → Reaches e at (v >>= k)
   unfolding ◌>>=◌
   reaches-bind (give x) k at d e h f = rw h (f x)
   reaches-bind (refuse n p) k at d e h f = absurd h
@@ -243,6 +243,11 @@ module _ (w : Way) (b : ℕ) (s : List ℕ) (k : ℕ) (bytes : Bytes s) where
       )
       (ap (λ (y : List ℕ). pick (same_order w.from w.to) x (reverse x) ++ y) (numbers-anew n (at + k) (omega arith) i))
 
+  -- as they stand, among others
+  pub numbers-stand : (n at : ℕ) → b ≤ at → at + n * k ≤ b + length s → same_order w.from w.to ≡ true →
+      copy w b s at (R.number_list k n) ≡ take (n * k) (drop (at - b) s)
+  numbers-stand n at g l e = numbers-anew n at g l ∙ rw e
+
   -- the whole part
   pub numbers-same : (n : ℕ) → length s ≡ n * k → same_order w.from w.to ≡ true → s ≡ copy w b s b (R.number_list k n)
   numbers-same n l e = sym (numbers-anew n b (omega arith) (omega arith) ∙ rw (sub_self, e) (take_all (n * k) s (omega arith)))
@@ -370,7 +375,7 @@ module _ {A D : Type 0} (w : Way) (b : ℕ) (s d : List ℕ) (u : Walk A) (y : W
       (λ c. h ∙ texts-whole w c (take (m + k) (drop n s)) m k (length_part s n (m + k) f))
 
 -- a piece that goes up to the end comes last
-left_end : {A B : Type 0} (w : Way) (b : ℕ) (s d : List ℕ) (u : Walk A) (n : ℕ) (ys : List ℕ) (m : ℕ) (v : Walk B) → Takes m v → length s ≡ n + m →
+pub left_end : {A B : Type 0} (w : Way) (b : ℕ) (s d : List ℕ) (u : Walk A) (n : ℕ) (ys : List ℕ) (m : ℕ) (v : Walk B) → Takes m v → length s ≡ n + m →
     ((c : ℕ) → ys ≡ copy w c (take (length s - n) (drop n s)) c v) → Left w b s d n u v → put n (length d - n) d ys ≡ copy w b s b u
 unfolding trace
 left_end w b s d u n ys m v takes f h l =

@@ -3,17 +3,18 @@
 
 pub mod runs;
 
-ghost use Rattle.std.specs.Prelude.{◌≡◌, Bool, ◌&&◌, List, ◌∷◌, ℕ, ◌+◌, ◌-◌, ◌*◌, ◌≤◌, ◌<◌, leb, length};
+ghost use Rattle.std.specs.Prelude.{◌≡◌, Bool, false, ◌&&◌, List, ◌∷◌, ℕ, ◌+◌, ◌-◌, ◌*◌, ◌≤◌, ◌<◌, leb, length};
 ghost use Rattle.words.specs.Numbers.{number_at};
 ghost use Rattle.words.specs.Runs.{pasted};
 ghost use Rattle.walk.specs.See.{see, goes};
 ghost use Rattle.rules.specs.Rules as R;
 ghost use Rattle.records.specs.Says.{Kept, HasShape};
 ghost use Rattle.bodies.specs.Copy.{copy, numbers_of, filling, widths_in};
+ghost use Rattle.bodies.specs.Orders.{same_order};
 ghost use Rattle.bodies.specs.Asks.{Both, AtLeast, OneWidth, SamplesPart, FramePart};
 
-use crate::runs::{numbers, reserved};
-use bulk::copy_run;
+use crate::runs::{numbers, reserved, same_order};
+use bulk::{copy_run, turn_run};
 use rules::{Basic, Channel, Channels, Frame, Frames, Head, Item, Items, Label, Shape};
 use words::{Order, number};
 
@@ -226,9 +227,10 @@ pub fn items_body(w: Way, s: &[u8], d: &mut [u8])
     }
 }
 
-// The samples, from byte p of s on, of the channel whose sub stands at byte q of the file: where the next channel's stand.
+// The samples, from byte p of s on, of the channel whose sub stands at byte q of the file, turned: where the next channel's stand.
 fn channel_samples(w: Way, file: &[u8], q: usize, t: u32, s: &[u8], p: usize, d: &mut [u8]) -> usize
-    requires { SamplesPart file.now q t s.now p d.old }
+    requires part { SamplesPart file.now q t s.now p d.old }
+    requires turned { same_order w.from w.to ≡ false }
     ensures { (result ≤ length s.now) × ((b : ℕ) (c : R.Channel) (cs : List R.Channel) →
         Kept w.from file.now q (c ∷ cs) → p + R.samples_in t c * R.width c.format ≤ length s.now →
         (result ≡ p + R.samples_in t c * R.width c.format) ×
@@ -245,7 +247,7 @@ fn channel_samples(w: Way, file: &[u8], q: usize, t: u32, s: &[u8], p: usize, d:
         return p;
     }
     let end = p + bytes;
-    numbers(w, width, n, &s[p..end], &mut d[p..end]);
+    turn_run(width, n, &s[p..end], &mut d[p..end]);
     end
 }
 
@@ -268,19 +270,20 @@ pub fn widths_of(o: Order, file: &[u8], cs: Channels) -> Option<usize>
     Some(width)
 }
 
-// The samples of a frame whose channels have one width: they are one run.
+// The samples of a frame whose channels have one width, turned: they are one run.
 fn one_run(w: Way, width: usize, s: &[u8], d: &mut [u8])
-    requires { OneWidth width s.now d.old }
+    requires part { OneWidth width s.now d.old }
+    requires turned { same_order w.from w.to ≡ false }
     ensures { (b n : ℕ) → length s.now ≡ 8 + n * width →
         d.new ≡ pasted d.old 8 (copy w b s.now (b + 8) (R.number_list width n)) }
 {
     let from = Frame::BODY_SAMPLES;
     let n = (s.len() - from) / width;
     let end = from + n * width;
-    numbers(w, width, n, &s[from..end], &mut d[from..end]);
+    turn_run(width, n, &s[from..end], &mut d[from..end]);
 }
 
-// A frame's clock and its samples, in one run or channel by channel; the subs stand in the file.
+// A frame's clock and its samples: as they are where the two orders are one, else turned in one run or channel by channel; the subs stand in the file.
 pub fn frame_body(
     w: Way,
     file: &[u8],
@@ -304,6 +307,10 @@ pub fn frame_body(
         &mut d[..reserve],
     );
     reserved(w, &s[reserve..p], &mut d[reserve..p]);
+    if same_order(w.from, w.to) {
+        copy_run(&s[p..], &mut d[p..]);
+        return;
+    }
     if let Some(width) = widths {
         one_run(w, width, s, d);
         return;

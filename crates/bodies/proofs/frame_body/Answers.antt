@@ -1,15 +1,23 @@
--- `bodies::frame_body` meets its contract: the samples are one run; or after each turn what stands before p is written, and the channels that are left
--- stand in the file from q on.
+-- `bodies::frame_body` meets its contract: the samples stand as they are, or are one run; or after each turn what stands before p is written, and the
+-- channels that are left stand in the file from q on.
 -- Assumes nothing.
 use mathlib.Core.Path.{◌∙◌, sym}
 use native.Mathlib.Nat.{sub-zero}
 use native.Mathlib.Omega.{arith}
 use borrow.Author.Rules.{rules}
-use Rattle.bodies.proofs.Filling.{samples-begun, samples-more, samples-all, body-once, widths-told}
+use Rattle.words.proofs.Words.{bytes}
+use Rattle.bodies.proofs.Filling.{samples-begun, samples-more, samples-all, samples-unturned, body-once, widths-told}
 use Rattle.bodies.proofs.frame_body.Goals as goal
 
-pub one_run-requires : goal.one_run-requires
-one_run-requires c =
+pub returns-then-same_order : goal.returns-then-same_order
+returns-then-same_order c =
+    let a = c.args in
+    let are = bytes a.s.now (λ i. (c.type_inv.s i).fits) in
+    let begun = samples-begun a.w a.file.now a.t a.s.now _ a.d.now _ _ c.requires.clock.room c.numbers.ensures c.reserved.ensures in
+    λ b ch e k l. samples-unturned (begun b ch _ e k l) _ are (sym c.same_order.ensures ∙ c.if-same_order.true) c.copy_run.ensures
+
+pub one_run-requires-clause-part : goal.one_run-requires-clause-part
+one_run-requires-clause-part c =
     let k = widths-told _ _ _ _ _ (sym c.in-Some.is ∙ c.requires.wide) in
     record { wide = record { least = k.0; most = k.1 }; clock = search rules }
 

@@ -1,5 +1,5 @@
--- `bodies::frame_body` meets its contract: the samples are one run; or after each turn what stands before p is written, and the channels that are left
--- stand in the file from q on.
+-- `bodies::frame_body` meets its contract: the samples stand as they are, or are one run; or after each turn what stands before p is written, and the
+-- channels that are left stand in the file from q on.
 -- Assumes nothing.
 use mathlib.Core.Path.{◌≡◌}
 use mathlib.Core.List.{List}
